@@ -7,8 +7,8 @@ use Rattle.std.proofs.lemmas.Bool.Decides.{nat_tests}
 use Rattle.std.proofs.lemmas.List.{take-append-le}
 use Rattle.std.proofs.Math.Seq.{drop-append-add, take-append_seam}
 use Rattle.attempt_buffer.specs.Buffers.{Buffered, closed, committed_at, committed_to, is_committed_row, left_of, moved, moved_one, shut, taken_by, taken_from, taken_to, taken_uncommitted, text_of, unpassed}
-use Rattle.attempt_buffer.specs.Cursors.{AreAt, IsAt, IsSound, at_spot, most_bytes, seen_committed, seen_cursor, shut_code, spot_from, spot_or}
-use Rattle.attempt_buffer.specs.Spots.{AreSized, IsInFirst, IsSpot}
+use Rattle.attempt_buffer.specs.Cursors.{CursorsAreAt, IsAt, IsSound, at_spot, most_bytes, seen_committed, seen_cursor, shut_code, spot_from, spot_or}
+use Rattle.attempt_buffer.specs.Spots.{MessagesAreSized, IsInFirst, IsSpot}
 use Rattle.attempt_buffer.specs.declared.cursors.Committed.{Committed}
 use Rattle.attempt_buffer.specs.declared.cursors.Cursor.{Cursor}
 use Rattle.attempt_buffer.specs.declared.messages.Spot.{Spot}
@@ -21,7 +21,7 @@ found_seen row (c ∷ cs) =
     elim (c.row == row) as (λ b. option_map (λ x. x.spot.taken) (if b then Some c else find (λ x. x.row == row) cs) ≡ option_map (λ x. x.taken) (if b then Some (seen_cursor c) else find (λ x. x.row == row) (map seen_cursor cs)))
     [ true ↦ refl | false ↦ found_seen row cs ]
 
-pub found_at : (ms : List (List ℕ)) (row : ℕ) (cs : List Cursor) → AreAt ms cs → IfSome (find (λ c. c.row == row) cs) (λ c. IsAt ms c.spot)
+pub found_at : (ms : List (List ℕ)) (row : ℕ) (cs : List Cursor) → CursorsAreAt ms cs → IfSome (find (λ c. c.row == row) cs) (λ c. IsAt ms c.spot)
 found_at ms row [] at = tt
 found_at ms row (c ∷ cs) at =
     elim (c.row == row) as (λ b. IfSome (if b then Some c else find (λ x. x.row == row) cs) (λ x. IsAt ms x.spot))
@@ -37,7 +37,7 @@ pub moved_seen : (row : ℕ) (spot : Spot) (cs : List Cursor) → map seen_curso
 moved_seen row spot [] = refl
 moved_seen row spot (c ∷ cs) = ap (λ x. x ∷ map seen_cursor (map (at_spot row spot) cs)) (one_seen row spot c) ∙ ap (λ xs. moved_one row spot.taken (seen_cursor c) ∷ xs) (moved_seen row spot cs)
 
-pub moved_at : (ms : List (List ℕ)) (row : ℕ) (spot : Spot) (cs : List Cursor) → IsAt ms spot → AreAt ms cs → AreAt ms (map (at_spot row spot) cs)
+pub moved_at : (ms : List (List ℕ)) (row : ℕ) (spot : Spot) (cs : List Cursor) → IsAt ms spot → CursorsAreAt ms cs → CursorsAreAt ms (map (at_spot row spot) cs)
 moved_at ms row spot [] here at = tt
 moved_at ms row spot (c ∷ cs) here at =
     let one : IsAt ms (at_spot row spot c).spot =
@@ -57,14 +57,14 @@ closed_seen row (c ∷ cs) =
     elim (c.row == row) as (λ b. map seen_cursor (if not b then c ∷ filter (λ x. not (x.row == row)) cs else filter (λ x. not (x.row == row)) cs) ≡ (if not b then seen_cursor c ∷ filter (λ x. not (x.row == row)) (map seen_cursor cs) else filter (λ x. not (x.row == row)) (map seen_cursor cs)))
     [ true ↦ closed_seen row cs | false ↦ ap (λ l. seen_cursor c ∷ l) (closed_seen row cs) ]
 
-pub closed_at : (ms : List (List ℕ)) (row : ℕ) (cs : List Cursor) → AreAt ms cs → AreAt ms (filter (λ c. not (c.row == row)) cs)
+pub closed_at : (ms : List (List ℕ)) (row : ℕ) (cs : List Cursor) → CursorsAreAt ms cs → CursorsAreAt ms (filter (λ c. not (c.row == row)) cs)
 closed_at ms row [] at = tt
 closed_at ms row (c ∷ cs) at =
-    elim (c.row == row) as (λ b. AreAt ms (if not b then c ∷ filter (λ x. not (x.row == row)) cs else filter (λ x. not (x.row == row)) cs))
+    elim (c.row == row) as (λ b. CursorsAreAt ms (if not b then c ∷ filter (λ x. not (x.row == row)) cs else filter (λ x. not (x.row == row)) cs))
     [ true ↦ closed_at ms row cs at.1 | false ↦ (at.0, closed_at ms row cs at.1) ]
 
 -- a row that begins
-pub begun_at : (ms : List (List ℕ)) (cs : List Cursor) (c : Cursor) → AreAt ms cs → IsAt ms c.spot → AreAt ms (cs ++ c ∷ [])
+pub begun_at : (ms : List (List ℕ)) (cs : List Cursor) (c : Cursor) → CursorsAreAt ms cs → IsAt ms c.spot → CursorsAreAt ms (cs ++ c ∷ [])
 begun_at ms [] c at here = (here, tt)
 begun_at ms (x ∷ cs) c at here = (at.0, begun_at ms cs c at.1 here)
 
@@ -86,28 +86,28 @@ spot_more ms m s filled at = record {
   first = first_more ms s.message s.offset m at.within filled at.first;
 }
 
-pub spots_more : (ms : List (List ℕ)) (m : List ℕ) (cs : List Cursor) → 0 < length m → AreAt ms cs → AreAt (ms ++ m ∷ []) cs
+pub spots_more : (ms : List (List ℕ)) (m : List ℕ) (cs : List Cursor) → 0 < length m → CursorsAreAt ms cs → CursorsAreAt (ms ++ m ∷ []) cs
 spots_more ms m [] filled at = tt
 spots_more ms m (c ∷ cs) filled at = (spot_more ms m c.spot filled at.0, spots_more ms m cs filled at.1)
 
 -- messages that are given up
-pub sized_rest : (ms : List (List ℕ)) (k : ℕ) → AreSized ms → AreSized (drop k ms)
+pub sized_rest : (ms : List (List ℕ)) (k : ℕ) → MessagesAreSized ms → MessagesAreSized (drop k ms)
 sized_rest [] zero sized = tt
 sized_rest [] (suc k) sized = tt
 sized_rest (m ∷ ms) zero sized = sized
 sized_rest (m ∷ ms) (suc k) sized = sized_rest ms k sized.2
 
--- what stands in front of a spot is what is given up, and what is left of it
+-- what stands before a spot is what is given up, and what is left of it
 split_at : (ms : List (List ℕ)) (k : ℕ) → length (concat (take k ms)) + length (concat (drop k ms)) ≡ length (concat ms)
 split_at [] zero = refl
 split_at [] (suc k) = refl
 split_at (m ∷ ms) zero = zero-add (length (concat (m ∷ ms)))
 split_at (m ∷ ms) (suc k) = omega (arith, length-append m (concat (take k ms)), length-append m (concat ms), split_at ms k)
 
-none_in_front : (ms : List (List ℕ)) (k : ℕ) → AreSized ms → k ≤ length ms → (length (concat (take k ms)) == 0) ≡ (k == 0)
-none_in_front ms zero sized le = refl
-none_in_front [] (suc k) sized le = absurd (let no : ⊥ = omega (arith, le) in no)
-none_in_front (m ∷ ms) (suc k) sized le =
+none_before : (ms : List (List ℕ)) (k : ℕ) → MessagesAreSized ms → k ≤ length ms → (length (concat (take k ms)) == 0) ≡ (k == 0)
+none_before ms zero sized le = refl
+none_before [] (suc k) sized le = absurd (let no : ⊥ = omega (arith, le) in no)
+none_before (m ∷ ms) (suc k) sized le =
     let some : 0 < length (m ++ concat (take k ms)) = omega (arith, length-append m (concat (take k ms)), sized.0) in
     grind (arith, nat_tests)
 
@@ -116,16 +116,16 @@ pub record IsPassed (ms : List (List ℕ)) (s : Spot) : Type 0 where
   pub left : s.taken - (length (concat ms) - length (concat (unpassed s.taken ms))) ≡ s.offset
   pub none : ((length (concat ms) - length (concat (unpassed s.taken ms))) == 0) ≡ (s.message == 0)
 
-pub passed_at : (ms : List (List ℕ)) (s : Spot) → AreSized ms → IsAt ms s → IsPassed ms s
+pub passed_at : (ms : List (List ℕ)) (s : Spot) → MessagesAreSized ms → IsAt ms s → IsPassed ms s
 passed_at ms s sized at =
     let rest : unpassed s.taken ms ≡ drop s.message ms =
     ap (λ n. unpassed n ms) at.sum ∙ unpassed_there ms s.message s.offset at.within at.first in
     let len : length (concat (unpassed s.taken ms)) ≡ length (concat (drop s.message ms)) = ap (λ l. length (concat l)) rest in
-    let front : length (concat ms) - length (concat (unpassed s.taken ms)) ≡ length (concat (take s.message ms)) = omega (arith, len, split_at ms s.message) in
+    let prefix : length (concat ms) - length (concat (unpassed s.taken ms)) ≡ length (concat (take s.message ms)) = omega (arith, len, split_at ms s.message) in
     record {
       rest = rest;
-      left = omega (arith, front, at.sum);
-      none = ap (λ n. n == 0) front ∙ none_in_front ms s.message sized at.within;
+      left = omega (arith, prefix, at.sum);
+      none = ap (λ n. n == 0) prefix ∙ none_before ms s.message sized at.within;
     }
 
 -- where the passed messages are gone, a spot stands in the first message
@@ -133,7 +133,7 @@ pub spot_rest : (ms : List (List ℕ)) (k o : ℕ) → IsInFirst o (drop k ms) �
 spot_rest ms k o first = record { within = omega arith; sum = sym (zero-add o); first = first }
 
 -- a byte of the first message is within the length of a message, and a spot within the text
-pub first_short : (ms : List (List ℕ)) (o : ℕ) → AreSized ms → IsInFirst o ms → o ≤ 4194309
+pub first_short : (ms : List (List ℕ)) (o : ℕ) → MessagesAreSized ms → IsInFirst o ms → o ≤ 4194309
 first_short [] o sized first = omega (arith, first)
 first_short (m ∷ ms) o sized first = omega (arith, first, sized.1)
 
@@ -161,7 +161,7 @@ spot_taken row cs (Some c) =
     elim (c.is_open && (c.cursor.row == row)) as (λ b. option_map (λ s. s.taken) (spot_or (if b then Some c.cursor.spot else None) (find (λ x. x.row == row) cs)) ≡ (if b then Some c.cursor.spot.taken else taken_uncommitted row (map seen_cursor cs)))
     [ true ↦ refl | false ↦ from_found row cs ]
 
-at_found : (ms : List (List ℕ)) (row : ℕ) (cs : List Cursor) → AreAt ms cs → IfSome (option_map (λ c. c.spot) (find (λ c. c.row == row) cs)) (IsAt ms)
+at_found : (ms : List (List ℕ)) (row : ℕ) (cs : List Cursor) → CursorsAreAt ms cs → IfSome (option_map (λ c. c.spot) (find (λ c. c.row == row) cs)) (IsAt ms)
 at_found ms row [] at = tt
 at_found ms row (c ∷ cs) at =
     elim (c.row == row) as (λ b. IfSome (option_map (λ x. x.spot) (if b then Some c else find (λ x. x.row == row) cs)) (IsAt ms))
@@ -174,7 +174,7 @@ spot_is_at ms row cs (Some c) sound =
     [ true ↦ sound.first.0 | false ↦ at_found ms row cs sound.spots ]
 
 -- the call is committed to a row
-pub committed_is : (b : Buffered) (row : ℕ) (s : Spot) → AreSized b.messages → IsAt b.messages s
+pub committed_is : (b : Buffered) (row : ℕ) (s : Spot) → MessagesAreSized b.messages → IsAt b.messages s
     → record { messages = unpassed s.taken b.messages; cursors = []; committed = Some (record { row = row; taken = s.offset; is_open = true }); is_whole = b.is_whole && (s.message == 0) } ≡ committed_at row s.taken b
 committed_is b row s sized at =
     let p = passed_at b.messages s sized at in
@@ -188,7 +188,7 @@ seen_is ms ms' cs cs' o o' w w' e1 e2 e3 e4 =
     let M : List (List ℕ) → List Cursor → Option Committed → Bool → Buffered = λ a b c d. record { messages = a; cursors = map seen_cursor b; committed = option_map seen_committed c; is_whole = d } in
     ap (λ a. M a cs o w) e1 ∙ ap (λ b. M ms' b o w) e2 ∙ ap (λ c. M ms' cs' c w) e3 ∙ ap (M ms' cs' o') e4
 
-pub sound_committed : (ms : List (List ℕ)) (s : Spot) (row : ℕ) → AreSized ms → IsAt ms s → length (concat ms) ≤ 8454153
+pub sound_committed : (ms : List (List ℕ)) (s : Spot) (row : ℕ) → MessagesAreSized ms → IsAt ms s → length (concat ms) ≤ 8454153
     → IsSound (unpassed s.taken ms) [] (Some (record { cursor = record { row = row; spot = record { message = 0; offset = s.offset; taken = s.offset } }; is_open = true }))
 sound_committed ms s row sized at le =
     let P : List (List ℕ) → Type 0 = λ l. IsSound l [] (Some (record { cursor = record { row = row; spot = record { message = 0; offset = s.offset; taken = s.offset } }; is_open = true })) in

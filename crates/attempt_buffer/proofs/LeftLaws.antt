@@ -1,4 +1,4 @@
--- What each row has still to send, behind a change of one row.
+-- What each row has still to send, after a change of one row.
 use Rattle.std.proofs.Common.{◌≡◌, ◌∙◌, ℕ, ◌+◌, ◌-◌, ◌==◌, ◌&&◌, Bool, true, false, if◌then◌else◌, Option, Some, None, IfSome, List, [], ◌∷◌, length, drop, map, refl, ap, sym, inl, inr}
 use Rattle.std.specs.List.{concat, find}
 use Rattle.std.specs.Option.{option_map, option_map_or}

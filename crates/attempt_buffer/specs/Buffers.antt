@@ -52,7 +52,7 @@ left_of row b = option_map_or (λ taken. drop taken (text_of b)) (taken_by row b
 abbrev pub held : Buffered → ℕ
 held b = option_map_or (λ c. length (text_of b) - c.taken) b.committed (length (text_of b))
 
--- the messages from the first one on that isn't passed behind so many bytes
+-- the messages from the first one on that isn't passed after so many bytes
 abbrev pub unpassed : ℕ → List (List ℕ) → List (List ℕ)
 unpassed taken [] = []
 unpassed taken (m ∷ ms) = if nat_le (length m) taken then unpassed (taken - length m) ms else m ∷ ms
@@ -73,7 +73,7 @@ committed_to row b = option_map_or (λ taken. committed_at row taken b) (taken_b
 abbrev pub can_open : ℕ → Buffered → Bool
 can_open row b = b.is_whole && not (option_map_or (λ c. c.is_open) b.committed false) && not (is_open row b)
 
--- a row begins in front of the first message
+-- a row begins before the first message
 abbrev pub opened : ℕ → Buffered → Buffered
 opened row b = record b { cursors = b.cursors ++ record { row = row; taken = 0 } ∷ [] }
 

@@ -3,7 +3,7 @@ use Rattle.std.specs.Prelude.{◌≡◌, ◌≤◌, ℕ, true, false, ◌&&◌, 
 use Rattle.std.specs.List.{concat, find}
 use Rattle.std.specs.Option.{option_map}
 use Rattle.attempt_buffer.specs.Buffers.{Buffered, Cursor as Seen, Committed as Kept}
-use Rattle.attempt_buffer.specs.Spots.{AreSized, IsSpot}
+use Rattle.attempt_buffer.specs.Spots.{MessagesAreSized, IsSpot}
 use Rattle.attempt_buffer.specs.declared.cursors.Committed.{Committed}
 use Rattle.attempt_buffer.specs.declared.cursors.Cursor.{Cursor}
 use Rattle.attempt_buffer.specs.declared.messages.Spot.{Spot}
@@ -43,9 +43,9 @@ seen_state s = record { messages = s.messages; cursors = map seen_cursor s.curso
 abbrev pub IsAt : List (List ℕ) → Spot → Type 0
 IsAt messages spot = IsSpot messages spot.message spot.offset spot.taken
 
-abbrev pub AreAt : List (List ℕ) → List Cursor → Type 0
-AreAt messages [] = Unit {0}
-AreAt messages (c ∷ cs) = IsAt messages c.spot × AreAt messages cs
+abbrev pub CursorsAreAt : List (List ℕ) → List Cursor → Type 0
+CursorsAreAt messages [] = Unit {0}
+CursorsAreAt messages (c ∷ cs) = IsAt messages c.spot × CursorsAreAt messages cs
 
 -- the most bytes that messages come to
 abbrev pub most_bytes : Option Committed → ℕ
@@ -54,8 +54,8 @@ most_bytes (Some c) = 8454153
 
 -- what every buffer keeps
 pub record IsSound (messages : List (List ℕ)) (cursors : List Cursor) (committed : Option Committed) : Type 0 where
-  pub sized : AreSized messages
-  pub spots : AreAt messages cursors
+  pub sized : MessagesAreSized messages
+  pub spots : CursorsAreAt messages cursors
   pub first : IfSome committed (λ c. IsAt messages c.cursor.spot × (c.cursor.spot.message ≡ 0))
   pub fits : length (concat messages) ≤ most_bytes committed
   pub alone : IfSome committed (λ c. c.is_open ≡ true → cursors ≡ [])

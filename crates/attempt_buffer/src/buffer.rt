@@ -125,7 +125,7 @@ impl Buffer {
         self.state.is_whole && !is_open && self.state.spot_of(row).is_none()
     }
 
-    /// Begins an attempt, in front of the first message. On out of memory all is as before.
+    /// Begins an attempt, before the first message. On out of memory all is as before.
     pub fn open(&mut self, row: u64) -> Result<(), NoMemory>
         requires { can_open row self.old ≡ true }
         ensures ok { OnOk result (self.new ≡ opened row self.old) }
@@ -154,8 +154,8 @@ impl Buffer {
         let Some(spot) = self.state.spot_of(row) else {
             return Ok(());
         };
-        let behind = self.state.messages.copy(spot, len, out);
-        self.state.stand(row, behind);
+        let afterwards = self.state.messages.copy(spot, len, out);
+        self.state.stand(row, afterwards);
         Ok(())
     }
 

@@ -26,7 +26,7 @@ impl Spot {
     };
 
     /// So many bytes further, in a message of this length.
-    fn behind(self, count: usize, len: usize) -> Spot
+    fn afterwards(self, count: usize, len: usize) -> Spot
         requires offset { self.offset + count ≤ len }
         requires taken { self.taken + count < 2 ^ 64 }
         requires message { self.message + 1 < 2 ^ 64 }
@@ -62,13 +62,13 @@ pub struct Messages {
 impl Model for Messages {
     ghost use Rattle.std.specs.Prelude.{◌≡◌, ℕ, List, length};
     ghost use Rattle.std.specs.List.{concat};
-    ghost use Rattle.attempt_buffer.specs.Spots.{AreSized};
+    ghost use Rattle.attempt_buffer.specs.Spots.{MessagesAreSized};
 
     ghost Value = { List (List ℕ) };
 
     ghost view = { λ m. m.list.items };
 
-    ghost invariant = { λ m. (m.bytes ≡ length (concat m.list.items)) × AreSized m.list.items };
+    ghost invariant = { λ m. (m.bytes ≡ length (concat m.list.items)) × MessagesAreSized m.list.items };
 }
 
 impl Messages {
@@ -115,7 +115,7 @@ impl Messages {
         }
     }
 
-    /// Appends some of the next bytes, at least one and at most so many, and gives the spot behind them.
+    /// Appends some of the next bytes, at least one and at most so many, and gives the spot after them.
     fn copy_some(&self, spot: Spot, most: usize, out: &mut BytesMut) -> Spot
         requires spot { IsSpot self.now spot.message spot.offset spot.taken }
         requires some { 0 < most }
@@ -132,10 +132,10 @@ impl Messages {
         let rest = &message[spot.offset..];
         let count = most.min(rest.len());
         out.extend_reserved(&rest[..count]);
-        spot.behind(count, message.len())
+        spot.afterwards(count, message.len())
     }
 
-    /// Appends the next bytes, and gives the spot behind them.
+    /// Appends the next bytes, and gives the spot after them.
     pub fn copy(&self, spot: Spot, len: usize, out: &mut BytesMut) -> Spot
         requires spot { IsSpot self.now spot.message spot.offset spot.taken }
         requires within { spot.taken + len ≤ length (concat self.now) }

@@ -4,7 +4,7 @@ ghost use Rattle.std.specs.List.{concat};
 ghost use Rattle.std.specs.Option.{option_map};
 ghost use Rattle.attempt_buffer.specs.Buffers.{committed_at, is_committed_row, taken_by, taken_to};
 ghost use Rattle.attempt_buffer.specs.Cursors.{IsAt, IsSound, committed_spot, seen_committed, seen_state, shut_code, spot_from};
-ghost use Rattle.attempt_buffer.specs.Spots.{AreSized};
+ghost use Rattle.attempt_buffer.specs.Spots.{MessagesAreSized};
 
 use crate::cursors::{Committed, Cursor, close_all, find_cursor, move_cursor};
 use crate::messages::{Messages, Spot};
@@ -95,7 +95,7 @@ impl State {
 
     /// Commits the call to a row at this spot, gives up what it has passed, and closes every other row.
     pub fn commit_at(&mut self, row: u64, spot: Spot)
-        requires sized { AreSized self.old.messages }
+        requires sized { MessagesAreSized self.old.messages }
         requires at { IsAt self.old.messages spot }
         requires fits { length (concat self.old.messages) ≤ 8454153 }
         ensures seen { seen_state self.new ≡ committed_at row spot.taken (seen_state self.old) }

@@ -1,7 +1,7 @@
 pub mod Accepting
 pub mod Alone
 pub mod Along
-pub mod Calm
+pub mod Quiescent
 pub mod Followed
 pub mod Given
 pub mod Gone

@@ -1,4 +1,4 @@
-pub mod Calm
+pub mod Quiescent
 pub mod Keys
 pub mod Lists
 pub mod MadeKinds

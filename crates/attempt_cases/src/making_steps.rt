@@ -11,7 +11,7 @@ use channel_actions::kept_sessions::sessions_are_kept;
 use channel_actions::link_frames::{actions_are_untold, links_stay};
 use net_actions::net_frames::nets_stay;
 use net_actions::{policy_steps_are_actions, subchannel_steps_are_actions};
-use session_order::{attempts_stir, calm_is_exact, queues_stir};
+use session_order::{attempts_stir, queues_stir, quiescence_is_exact};
 
 /// An attempt that is due is made: it has its row and waits for a pick in both (gRFC A6, "Retry Policy" and "Hedging Policy").
 pub fn attempts_get_rows()
@@ -33,7 +33,7 @@ pub fn one_is_made()
     attempts_stir();
     calls_go_on_alike();
     calls_stay();
-    calm_is_exact();
+    quiescence_is_exact();
     links_stay();
     nets_stay();
     others_are_same();
@@ -52,7 +52,7 @@ pub fn one_is_withheld()
     calls_go_on_alike();
     calls_share_tokens_alone();
     calls_stay();
-    calm_is_exact();
+    quiescence_is_exact();
     links_stay();
     nets_stay();
     others_are_same();

@@ -5,7 +5,7 @@ use call_cases::other_calls::{calls_stay, sets_stay};
 use channel_actions::kept_sessions::sessions_are_kept;
 use channel_actions::link_frames::links_stay;
 use net_actions::{policy_steps_are_actions, subchannel_steps_are_actions};
-use session_order::{boards_stir, calm_is_exact};
+use session_order::{boards_stir, quiescence_is_exact};
 
 /// Dials that took too long are given up and backoffs end, until none is due ("Connection Backoff Protocol"); and IDLE subchannels that a policy wishes
 /// connect, where no policy may take over ("gRPC Connectivity Semantics and API"; "Load Balancing in gRPC").
@@ -13,7 +13,7 @@ pub fn net_settles()
     ensures clock { ClocksAreParts }
     ensures wishes { WishesAreParts }
 {
-    calm_is_exact();
+    quiescence_is_exact();
     boards_stir();
     policy_steps_are_actions();
     subchannel_steps_are_actions();

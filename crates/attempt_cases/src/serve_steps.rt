@@ -15,7 +15,7 @@ use link_actions::reader_actions::readers_come_and_open;
 use link_actions::steady_links::placings_keep;
 use net_actions::net_frames::nets_stay;
 use net_actions::policy_steps_are_actions;
-use session_order::{attempts_stir, calm_is_exact, queues_stir};
+use session_order::{attempts_stir, queues_stir, quiescence_is_exact};
 
 /// The attempt that the channel serves next is the one that asks next, of the current policy (gRPC, "Load Balancing in gRPC"; "gRPC Wait for Ready Semantics").
 pub fn asks_follow()
@@ -40,7 +40,7 @@ pub fn asks_agree()
 pub fn asks_stand()
     ensures { AsksStand }
 {
-    calm_is_exact();
+    quiescence_is_exact();
     queues_stir();
 }
 
@@ -49,7 +49,7 @@ pub fn asks_stand()
 pub fn answers_are_next()
     ensures { AnswersAreNext }
 {
-    calm_is_exact();
+    quiescence_is_exact();
 }
 
 /// Where it is placed, and the placing leaves channel and session in agreement, nothing follows from it, and the pass goes on after it.
@@ -58,7 +58,7 @@ pub fn places_by_agreement()
 {
     answers_are_next();
     attempts_stir();
-    calm_is_exact();
+    quiescence_is_exact();
 }
 
 /// So it goes out: channel and session agree once it is placed. Of a call that a transparent retry took over nothing was written (gRFC A6, "Transparent Retries"), so

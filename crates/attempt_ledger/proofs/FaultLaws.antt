@@ -10,7 +10,7 @@ use Rattle.attempt_ledger.specs.declared.check.RowFault.{RowFault}
 use Rattle.attempt_ledger.specs.declared.row.Row.{Row}
 use Rattle.attempt_ledger.specs.Faults.{Breaks, BreaksAt, IsFault, IsLowestBroken}
 use Rattle.attempt_ledger.specs.Numbering.{IsNextAttempt, KeepsNumbering, attempts_of, is_transparent}
-use Rattle.attempt_ledger.proofs.RowLaws.{behind}
+use Rattle.attempt_ledger.proofs.RowLaws.{afterwards}
 
 -- one row more is taken
 take-more : (rows : List Row) (i : ℕ) (row : Row) → i < length rows → row ≡ get_or rows i row → take (i + 1) rows ≡ take i rows ++ row ∷ []
@@ -21,7 +21,7 @@ take-more rows i row inside is =
 -- the list around a row
 around : (rows : List Row) (i : ℕ) (row : Row) → i < length rows → row ≡ get_or rows i row → rows ≡ take i rows ++ row ∷ drop (i + 1) rows
 around rows i row inside is =
-    sym (take-append-drop (i + 1) rows) ∙ ap (λ (front : List Row). front ++ drop (i + 1) rows) (take-more rows i row inside is) ∙ append_assoc (take i rows) (row ∷ []) (drop (i + 1) rows)
+    sym (take-append-drop (i + 1) rows) ∙ ap (λ (prefix : List Row). prefix ++ drop (i + 1) rows) (take-more rows i row inside is) ∙ append_assoc (take i rows) (row ∷ []) (drop (i + 1) rows)
 
 -- a law that a row breaks between the others is broken at its place
 broken-here : (chosen : Chosen) (law : ℕ) (rows : List Row) (i : ℕ) (row : Row) → i < length rows → row ≡ get_or rows i row → Breaks chosen rows law (take i rows) row (drop (i + 1) rows) → BreaksAt chosen law rows (i + 1)
@@ -35,7 +35,7 @@ broken-here chosen law rows i row inside is broken =
       broken = broken;
     }
 
--- the rows behind a row between others
+-- the rows after a row between others
 rest-of : (before : List Row) (row : Row) (after : List Row) (i : ℕ) → length before ≡ i → drop (i + 1) (before ++ row ∷ after) ≡ after
 rest-of before row after i at =
     ap (drop (i + 1)) (sym (append_assoc before (row ∷ []) after)) ∙ drop_at (before ++ row ∷ []) after (i + 1) (length-append before (row ∷ []) ∙ ap (λ (k : ℕ). k + 1) at)
@@ -44,10 +44,10 @@ rest-of before row after i at =
 what-is-broken : (chosen : Chosen) (law : ℕ) (rows : List Row) (i : ℕ) (row : Row) → row ≡ get_or rows i row → BreaksAt chosen law rows (i + 1) → Breaks chosen rows law (take i rows) row (drop (i + 1) rows)
 what-is-broken chosen law rows i row is b =
     let at : length b.before ≡ i = let p = b.place_is in omega arith in
-    let front : take i rows ≡ b.before = ap (take i) b.together ∙ take_at b.before (b.row ∷ b.after) i at in
+    let prefix : take i rows ≡ b.before = ap (take i) b.together ∙ take_at b.before (b.row ∷ b.after) i at in
     let back : drop (i + 1) rows ≡ b.after = ap (drop (i + 1)) b.together ∙ rest-of b.before b.row b.after i at in
     let same : row ≡ b.row = is ∙ ap (λ (rs : List Row). get_or rs i row) b.together ∙ get_or_at b.before b.row b.after row i at in
-    subst (λ (rs : List Row). Breaks chosen rows law rs row (drop (i + 1) rows)) (sym front)
+    subst (λ (rs : List Row). Breaks chosen rows law rs row (drop (i + 1) rows)) (sym prefix)
     (subst (λ (r : Row). Breaks chosen rows law b.before r (drop (i + 1) rows)) (sym same)
     (subst (Breaks chosen rows law b.before b.row) (sym back) b.broken))
 
@@ -82,9 +82,9 @@ count-with plan count number row false e keeps is =
     let next : IsNextAttempt plan count row = subst (λ (b : Bool). OnFalse b (IsNextAttempt plan count row)) e keeps.attempt in
     is ∙ next.number
 
--- the rows behind a place, as a slice gives them, keep what is said of them
+-- the rows after a place, as a slice gives them, keep what is said of them
 pub of-slice : (rows : List Row) (k : ℕ) (P : List Row → Type 0) → P (take (length rows - k) (drop k rows)) → P (drop k rows)
-of-slice rows k P said = subst P (behind rows k) said
+of-slice rows k P said = subst P (afterwards rows k) said
 
 -- one row more that breaks no law
 pub passed-more : (chosen : Chosen) (rows : List Row) (count number i : ℕ) (row : Row) → i < length rows → row ≡ get_or rows i row → ArePassed chosen rows count i → KeepsNumbering chosen.plan count row → ((law : ℕ) → Breaks chosen rows law (take i rows) row (drop (i + 1) rows) → ⊥) → number ≡ cond (is_transparent row.kind) count row.number → ArePassed chosen rows number (i + 1)
@@ -107,7 +107,7 @@ passed-more chosen rows count number i row inside is passed numbered none next =
           ];
     }
 
--- behind all rows no law is broken
+-- after all rows no law is broken
 pub all-passed : (chosen : Chosen) (rows : List Row) (count i : ℕ) → length rows ≤ i → ArePassed chosen rows count i → (law : ℕ) → (place : ℕ) → BreaksAt chosen law rows place → ⊥
 all-passed chosen rows count i end passed law place b =
     let low : i < place = passed.clear law place b in
@@ -125,7 +125,7 @@ fault-here chosen rows count i law row inside is passed lowest =
 same-fault : (a b : RowFault) → a.row ≡ b.row → a.law ≡ b.law → a ≡ b
 same-fault a b row law = ap (λ (r : ℕ). record { row = r; law = a.law }) row ∙ ap (λ (l : ℕ). record { row = b.row; law = l }) law
 
--- there is one fault to tell
+-- there is one fault to report
 pub one-fault : (chosen : Chosen) (rows : List Row) (a b : RowFault) → IsFault chosen rows a → IsFault chosen rows b → a ≡ b
 one-fault chosen rows a b f g =
     let low : a.row ≤ b.row = f.first b.law b.row g.broken in

@@ -9,12 +9,12 @@ use Rattle.attempt_ledger.specs.Retries.{KeepsRetries}
 use Rattle.attempt_ledger.specs.Throttling.{KeepsThrottling}
 use Rattle.attempt_ledger.specs.TransparentRows.{KeepsTransparent}
 
--- what a test tells of a law
-pub kept : {P : Type 0} (told : Bool) → told ≡ true → (IsTrue told → P) × (P → IsTrue told) → P
-kept told held says = says.0 held
+-- what a test reports of a law
+pub kept : {P : Type 0} (reported : Bool) → reported ≡ true → (IsTrue reported → P) × (P → IsTrue reported) → P
+kept reported held says = says.0 held
 
-pub broken : {P : Type 0} (told : Bool) → told ≡ false → (IsTrue told → P) × (P → IsTrue told) → P → ⊥
-broken told failed says keeps = let held : told ≡ true = says.1 keeps in cc
+pub broken : {P : Type 0} (reported : Bool) → reported ≡ false → (IsTrue reported → P) × (P → IsTrue reported) → P → ⊥
+broken reported failed says keeps = let held : reported ≡ true = says.1 keeps in cc
 
 -- the laws, of a row between others
 abbrev pub Numbered : Chosen → List Row → Row → Type 0

@@ -1,4 +1,4 @@
--- Going through the rows of a call, each with its place and the rows behind it.
+-- Going through the rows of a call, each with its place and the rows after it.
 use Rattle.std.proofs.Common.{◌≡◌, ℕ, suc, ◌+◌, ◌-◌, ◌≤◌, ◌<◌, ◌∙◌, Bool, true, false, ◌||◌, cond, max, List, [], ◌∷◌, length, take, drop, get_or, refl, ap, sym, arith, drop-cons, take_all, length-drop}
 use Rattle.std.proofs.lemmas.Grind.{common_steps}
 use Rattle.std.proofs.lemmas.List.{drop_all}
@@ -23,37 +23,37 @@ none-yet test rows = refl
 at-row : (test : ℕ → Row → List Row → Bool) (rows : List Row) (i : ℕ) (row : Row) → i < length rows → row ≡ get_or rows i row → NoneSoFar test rows i → (test i row (drop (i + 1) rows) || some_row_from test (i + 1) (drop (i + 1) rows)) ≡ some_row test rows
 at-row test rows i row inside is so_far = sym (ap (some_row_from test i) (from-place rows i row inside is)) ∙ so_far
 
--- the rows behind a place, as a slice gives them
-pub behind : (rows : List Row) (k : ℕ) → take (length rows - k) (drop k rows) ≡ drop k rows
-behind rows k = take_all (length rows - k) (drop k rows) (omega (arith, length-drop k rows))
+-- the rows after a place, as a slice gives them
+pub afterwards : (rows : List Row) (k : ℕ) → take (length rows - k) (drop k rows) ≡ drop k rows
+afterwards rows k = take_all (length rows - k) (drop k rows) (omega (arith, length-drop k rows))
 
 -- a row passes
-pub found : (test : ℕ → Row → List Row → Bool) (rows : List Row) (i : ℕ) (row : Row) (told : Bool) → i < length rows → row ≡ get_or rows i row → NoneSoFar test rows i → told ≡ test i row (take (length rows - (i + 1)) (drop (i + 1) rows)) → told ≡ true → true ≡ some_row test rows
-found test rows i row told inside is so_far says passes =
-    let here : test i row (drop (i + 1) rows) ≡ true = ap (test i row) (sym (behind rows (i + 1))) ∙ sym says ∙ passes in
+pub found : (test : ℕ → Row → List Row → Bool) (rows : List Row) (i : ℕ) (row : Row) (reported : Bool) → i < length rows → row ≡ get_or rows i row → NoneSoFar test rows i → reported ≡ test i row (take (length rows - (i + 1)) (drop (i + 1) rows)) → reported ≡ true → true ≡ some_row test rows
+found test rows i row reported inside is so_far says passes =
+    let here : test i row (drop (i + 1) rows) ≡ true = ap (test i row) (sym (afterwards rows (i + 1))) ∙ sym says ∙ passes in
     sym (ap (λ (b : Bool). b || some_row_from test (i + 1) (drop (i + 1) rows)) here) ∙ at-row test rows i row inside is so_far
 
 -- a row doesn't
-pub one-more : (test : ℕ → Row → List Row → Bool) (rows : List Row) (i : ℕ) (row : Row) (told : Bool) → i < length rows → row ≡ get_or rows i row → NoneSoFar test rows i → told ≡ test i row (take (length rows - (i + 1)) (drop (i + 1) rows)) → told ≡ false → NoneSoFar test rows (i + 1)
-one-more test rows i row told inside is so_far says fails =
-    let here : test i row (drop (i + 1) rows) ≡ false = ap (test i row) (sym (behind rows (i + 1))) ∙ sym says ∙ fails in
+pub one-more : (test : ℕ → Row → List Row → Bool) (rows : List Row) (i : ℕ) (row : Row) (reported : Bool) → i < length rows → row ≡ get_or rows i row → NoneSoFar test rows i → reported ≡ test i row (take (length rows - (i + 1)) (drop (i + 1) rows)) → reported ≡ false → NoneSoFar test rows (i + 1)
+one-more test rows i row reported inside is so_far says fails =
+    let here : test i row (drop (i + 1) rows) ≡ false = ap (test i row) (sym (afterwards rows (i + 1))) ∙ sym says ∙ fails in
     sym (ap (λ (b : Bool). b || some_row_from test (i + 1) (drop (i + 1) rows)) here) ∙ at-row test rows i row inside is so_far
 
 -- no row does
 pub none-at-all : (test : ℕ → Row → List Row → Bool) (rows : List Row) (i : ℕ) → length rows ≤ i → NoneSoFar test rows i → false ≡ some_row test rows
 none-at-all test rows i end so_far = sym (ap (some_row_from test i) (drop_all i rows end)) ∙ so_far
 
-greater-of : (number last new all some here rest : ℕ) (told : Bool) → max last some ≡ all → some ≡ cond told (max here rest) rest → new ≡ cond told (max here last) last → max new rest ≡ all
+greater-of : (number last new all some here rest : ℕ) (reported : Bool) → max last some ≡ all → some ≡ cond reported (max here rest) rest → new ≡ cond reported (max here last) last → max new rest ≡ all
 greater-of number last new all some here rest true a b c = omega arith
 greater-of number last new all some here rest false a b c = omega arith
 
 -- the greatest number with one row more
-pub delayed-more : (number last new i : ℕ) (rows : List Row) (row : Row) (told : Bool) → i < length rows → row ≡ get_or rows i row → max last (last_delayed number (drop i rows)) ≡ last_delayed number rows → told ≡ asks_delay_before number row (take (length rows - (i + 1)) (drop (i + 1) rows)) → new ≡ cond told (max row.number last) last → max new (last_delayed number (drop (i + 1) rows)) ≡ last_delayed number rows
-delayed-more number last new i rows row told inside is so_far says more =
-    let asks : asks_delay_before number row (drop (i + 1) rows) ≡ told = ap (asks_delay_before number row) (sym (behind rows (i + 1))) ∙ sym says in
-    let here : last_delayed number (drop i rows) ≡ cond told (max row.number (last_delayed number (drop (i + 1) rows))) (last_delayed number (drop (i + 1) rows)) =
+pub delayed-more : (number last new i : ℕ) (rows : List Row) (row : Row) (reported : Bool) → i < length rows → row ≡ get_or rows i row → max last (last_delayed number (drop i rows)) ≡ last_delayed number rows → reported ≡ asks_delay_before number row (take (length rows - (i + 1)) (drop (i + 1) rows)) → new ≡ cond reported (max row.number last) last → max new (last_delayed number (drop (i + 1) rows)) ≡ last_delayed number rows
+delayed-more number last new i rows row reported inside is so_far says more =
+    let asks : asks_delay_before number row (drop (i + 1) rows) ≡ reported = ap (asks_delay_before number row) (sym (afterwards rows (i + 1))) ∙ sym says in
+    let here : last_delayed number (drop i rows) ≡ cond reported (max row.number (last_delayed number (drop (i + 1) rows))) (last_delayed number (drop (i + 1) rows)) =
     ap (last_delayed number) (from-place rows i row inside is) ∙ ap (λ (b : Bool). cond b (max row.number (last_delayed number (drop (i + 1) rows))) (last_delayed number (drop (i + 1) rows))) asks in
-    greater-of number last new (last_delayed number rows) (last_delayed number (drop i rows)) row.number (last_delayed number (drop (i + 1) rows)) told so_far here more
+    greater-of number last new (last_delayed number rows) (last_delayed number (drop i rows)) row.number (last_delayed number (drop (i + 1) rows)) reported so_far here more
 
 below-of : (number here rest : ℕ) (asks : Bool) → (asks ≡ true → here < number) → rest ≤ number - 1 → cond asks (max here rest) rest ≤ number - 1
 below-of number here rest true low rests = let h : here < number = low refl in omega arith

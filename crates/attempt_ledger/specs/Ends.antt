@@ -11,7 +11,7 @@ use Rattle.attempt_ledger.specs.declared.row.RowCause.TheVariants as cause
 use Rattle.attempt_ledger.specs.declared.row.RowEnd.{RowEnd}
 use Rattle.attempt_ledger.specs.Numbering.{is_transparent}
 
--- whether a row passes a test that sees how many rows stand before it, and those behind it
+-- whether a row passes a test that sees how many rows stand before it, and those after it
 abbrev pub some_row_from : (ℕ → Row → List Row → Bool) → ℕ → List Row → Bool
 some_row_from test place [] = false
 some_row_from test place (row ∷ after) = test place row after || some_row_from test (place + 1) after
@@ -23,7 +23,7 @@ some_row test rows = some_row_from test 0 rows
 abbrev pub ended_by : (RowEnd → Bool) → Row → Bool
 ended_by test row = option_map_or test row.ended false
 
--- a transparent retry follows a row: a row behind it, of its number (gRFC A6, "Transparent Retries")
+-- a transparent retry follows a row: a row after it, of its number (gRFC A6, "Transparent Retries")
 abbrev pub is_follower : Row → Row → Bool
 is_follower row later = is_transparent later.kind && (later.number == row.number)
 

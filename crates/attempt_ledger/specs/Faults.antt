@@ -1,4 +1,4 @@
--- Where the rows of one call break a law, and which fault is told. The laws have the numbers 8 (the numbering of attempts),
+-- Where the rows of one call break a law, and which fault is reported. The laws have the numbers 8 (the numbering of attempts),
 -- 9 (retries), 10 (hedging), 11 (transparent retries) and 12 (throttling).
 use Rattle.std.specs.Prelude.{◌≡◌, ◌≤◌, ◌⊎◌, ℕ, ◌+◌, List, ◌∷◌, ◌++◌, length}
 use Rattle.grpc_base.specs.declared.plan.Chosen.{Chosen}
@@ -10,7 +10,7 @@ use Rattle.attempt_ledger.specs.Retries.{KeepsRetries}
 use Rattle.attempt_ledger.specs.Throttling.{KeepsThrottling}
 use Rattle.attempt_ledger.specs.TransparentRows.{KeepsTransparent}
 
--- among all these rows, the law of this number is broken by a row that stands between those before it and those behind it
+-- among all these rows, the law of this number is broken by a row that stands between those before it and those after it
 abbrev pub Breaks : Chosen → List Row → ℕ → List Row → Row → List Row → Type 0
 Breaks chosen rows law before row after =
     ((law ≡ 8) × (KeepsNumbering chosen.plan (length (attempts_of before)) row → ⊥))
@@ -33,7 +33,7 @@ pub record IsLowestBroken (chosen : Chosen) (rows before : List Row) (row : Row)
   pub broken : Breaks chosen rows law before row after
   pub lowest : (other : ℕ) → Breaks chosen rows other before row after → law ≤ other
 
--- the fault that is told: the first row that breaks a law, and the lowest law that it breaks
+-- the fault that is reported: the first row that breaks a law, and the lowest law that it breaks
 pub record IsFault (chosen : Chosen) (rows : List Row) (fault : RowFault) : Type 0 where
   pub broken : BreaksAt chosen fault.law rows fault.row
   pub first : (law place : ℕ) → BreaksAt chosen law rows place → fault.row ≤ place

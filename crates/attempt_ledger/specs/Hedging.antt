@@ -46,7 +46,7 @@ pub record IsDueHedge (policy : HedgePolicy) (rows before : List Row) (hedge : R
   pub due : list_any (makes_due policy hedge.due) before ≡ true
   pub goes_on : is_hedging_over policy hedge.due rows ≡ false
 
--- the law of hedging, of one row behind others among all rows of its call
+-- the law of hedging, of one row after others among all rows of its call
 abbrev pub KeepsHedging : CallPlan → List Row → List Row → Row → Type 0
 KeepsHedging (plan.Hedge policy) rows before row = OnTrue (is_hedge row.kind) (IsDueHedge policy rows before row)
 KeepsHedging _ rows before row = Unit {0}

@@ -45,7 +45,7 @@ pub record IsInOrder (row : Row) : Type 0 where
   -- a row that ended without a placing is one whose pick failed
   pub unplaced : IfNone row.placed (IfSome row.ended (λ end. (end.code ≡ code.Unavailable) × (end.cause ≡ cause.Pick)))
 
--- the attempt behind so many others: its number, how many there may be, and its kind
+-- the attempt after so many others: its number, how many there may be, and its kind
 pub record IsNextAttempt (plan : CallPlan) (count : ℕ) (row : Row) : Type 0 where
   pub number : row.number ≡ count + 1
   pub most : row.number ≤ most_attempts plan

@@ -6,7 +6,7 @@ use crate::numbering::is_transparent;
 use crate::{Row, RowCause, RowEnd};
 use grpc_base::{Pushback, Throttle};
 
-/// Whether a transparent retry follows a row among those behind it.
+/// Whether a transparent retry follows a row among those after it.
 pub fn is_followed(row: &Row, after: &[Row]) -> bool
     ensures { result ≡ is_followed row.now after.now }
 {

@@ -7,7 +7,7 @@ use crate::ends::{delay_of, is_followed, is_stop, millis_after};
 use crate::{Placed, Row, RowEnd, RowKind};
 use grpc_base::{CallPlan, HedgePolicy};
 
-/// Whether the row keeps the law of hedging among all rows of its call, behind these.
+/// Whether the row keeps the law of hedging among all rows of its call, after these.
 pub fn keeps_hedging(plan: &CallPlan, rows: &[Row], before: &[Row], row: &Row) -> bool
     ensures { IsTrue result ↔ KeepsHedging plan.now rows.now before.now row.now }
 {

@@ -1,4 +1,4 @@
-// What the channel was told and did, as data: the journal of its steps, and the ledger of attempts, calls,
+// What the channel was given and did, as data: the journal of its steps, and the ledger of attempts, calls,
 // pick requests, generations of policies and links.
 #![tactic(auto)]
 

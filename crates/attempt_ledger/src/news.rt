@@ -1,4 +1,4 @@
-// What a link tells of its attempts. A tag names the attempt; it is the one that the attempt was placed with.
+// What a link reports of its attempts. A tag names the attempt; it is the one that the attempt was placed with.
 use crate::RowCause;
 use grpc_base::{Code, Metadata, Octets, Pushback, Text};
 
@@ -17,7 +17,7 @@ pub struct EndNews {
     pub cause: RowCause,
 }
 
-/// News of a link. `seen` counts the bytes of the link up to the end of the frame that told it.
+/// News of a link. `seen` counts the bytes of the link up to the end of the frame that reported it.
 #[derive(Debug, Drop)]
 pub enum News {
     /// The peer's first SETTINGS came, so attempts may be placed (RFC 9113, section 3.4).

@@ -73,7 +73,7 @@ fn is_next_attempt(plan: &CallPlan, count: u32, row: &Row) -> bool
         && has_kind(plan, row.number, row.kind)
 }
 
-/// Whether the row keeps the law of numbering behind so many attempts.
+/// Whether the row keeps the law of numbering after so many attempts.
 pub fn keeps_numbering(plan: &CallPlan, count: u32, row: &Row) -> bool
     ensures { IsTrue result ↔ KeepsNumbering plan.now count row.now }
 {

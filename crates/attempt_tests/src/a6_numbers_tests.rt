@@ -72,7 +72,7 @@ fn waits_of_an_independent_model(rt: HostRuntime) {
     }
 }
 
-/// Each line the start and the ratio of a bucket, ends in their order (failure or success), and the count behind them, with
+/// Each line the start and the ratio of a bucket, ends in their order (failure or success), and the count after them, with
 /// whether a further attempt may be made.
 #[test]
 fn buckets_of_tokens(rt: HostRuntime) {

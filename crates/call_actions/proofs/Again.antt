@@ -9,7 +9,7 @@ use Rattle.attempt_ledger.specs.declared.row.RowEnd.{RowEnd}
 use Rattle.call_actions.proofs.Added.{Leaves, more_seen}
 use Rattle.call_actions.proofs.Places.{only_here, place_is, places_below}
 use Rattle.call_actions.proofs.Ranks.{any_either, any_where, find_last_more, or_no}
-use Rattle.call_actions.specs.Order.{AreNumbered}
+use Rattle.call_actions.specs.Order.{AttemptsAreNumbered}
 use Rattle.session_actions.specs.Attempts.{call_of, commitment, counts_by, is_commitment, is_followed, is_later_of, is_of, is_to_follow, of_its_call, wants_follower, wants_follower_by, was_refused, was_retried_so}
 use Rattle.session_actions.specs.Words.{holds, numbered}
 use Rattle.session_actions.specs.declared.attempt.Attempt.{Attempt}
@@ -72,11 +72,11 @@ stays_so false false r z so e = refl
 stays_so false true true z so e = ap (λ (b : Bool). not b) (so refl)
 stays_so false true false z so e = absurd (cc)
 
-module _ (s : Seen) (c : Call) (place : ℕ) (a new : Attempt) (e : RowEnd) (places : AreNumbered 1 s.attempts) (got : numbered s.attempts place ≡ Some a)
+module _ (s : Seen) (c : Call) (place : ℕ) (a new : Attempt) (e : RowEnd) (places : AttemptsAreNumbered 1 s.attempts) (got : numbered s.attempts place ≡ Some a)
     (own : is_of c a ≡ true) (its_call : numbered s.calls c.number ≡ Some c) (ended : a.row.ended ≡ Some e) (unfollowed : is_followed a s ≡ false)
     (follows : is_to_follow c e.cause e.unseen s ≡ true) (new_call : new.row.call ≡ c.number) (new_number : new.row.number ≡ a.row.number)
     (new_place : new.place ≡ length s.attempts + 1) (unended : new.row.ended ≡ None) (uncommitted : new.row.committed ≡ None)
-    (calm : list_any (λ (q : Attempt). is_of c q && not (q.place == place) && wants_follower q s) s.attempts ≡ false) where
+    (quiescent : list_any (λ (q : Attempt). is_of c q && not (q.place == place) && wants_follower q s) s.attempts ≡ false) where
   abbrev more : Seen
   more = more_seen s new
 
@@ -89,7 +89,7 @@ module _ (s : Seen) (c : Call) (place : ℕ) (a new : Attempt) (e : RowEnd) (pla
       let below : a.place < new.place
       = (let low : place ≤ length s.attempts = places_below s.attempts place a got in
       let at : a.place ≡ place = its_place in
-      let behind : new.place ≡ length s.attempts + 1 = new_place in omega arith) in
+      let afterwards : new.place ≡ length s.attempts + 1 = new_place in omega arith) in
       let call : new.row.call ≡ a.row.call = new_call ∙ sym (eqb-true a.row.call c.number own) in
       and_from ((new.row.call == a.row.call) && (new.row.number == a.row.number)) (nat_lt a.place new.place)
       (and_from (new.row.call == a.row.call) (new.row.number == a.row.number) (eq-eqb new.row.call a.row.call call) (eq-eqb new.row.number a.row.number new_number))
@@ -219,20 +219,20 @@ module _ (s : Seen) (c : Call) (place : ℕ) (a new : Attempt) (e : RowEnd) (pla
   none_odd : list_any odd s.attempts ≡ false
   none_odd =
       any_either (is_later_of a) (λ (q : Attempt). waits q || ((q.place == place) && counts_of q)) s.attempts unfollowed
-      (any_either waits (λ (q : Attempt). (q.place == place) && counts_of q) s.attempts calm (only_here counts_of place a uncounted s.attempts places got))
+      (any_either waits (λ (q : Attempt). (q.place == place) && counts_of q) s.attempts quiescent (only_here counts_of place a uncounted s.attempts places got))
 
   counts_by_place : (q : Attempt) (z : RowEnd) (b : Bool) → (q.place == place) ≡ b → is_of c q ≡ true → q.row.ended ≡ Some z → is_later_of a q ≡ false
       → (is_of c q && not b && wants_follower q s) ≡ false → (b && counts_of q) ≡ false → counts_by q more z ≡ counts_by q s z
-  counts_by_place q z true here mine its_end before calm_here good =
+  counts_by_place q z true here mine its_end before quiescent_here good =
       let parts : (holds (counts_by q s) q.row.ended ≡ false) × (holds (counts_by q more) q.row.ended ≡ false)
       = or_parts (holds (counts_by q s) q.row.ended) (holds (counts_by q more) q.row.ended) good in
       sym (ap (holds (counts_by q more)) its_end) ∙ parts.1 ∙ sym (sym (ap (holds (counts_by q s)) its_end) ∙ parts.0)
-  counts_by_place q z false here mine its_end before calm_here good =
+  counts_by_place q z false here mine its_end before quiescent_here good =
       let same : is_followed q more ≡ is_followed q s = others_same q before here in
       let its : call_of q s ≡ Some c = ap (numbered s.calls) (eqb-true q.row.call c.number mine) ∙ its_call in
       let wants : (not (is_followed q s) && is_to_follow c z.cause z.unseen s) ≡ false
       = sym (ap (λ (o : Option Call). not (is_followed q s) && holds (λ (k : Call). is_to_follow k z.cause z.unseen s) o) its)
-      ∙ sym (ap (holds (wants_follower_by q s)) its_end) ∙ sym (ap (λ (b : Bool). b && true && wants_follower q s) mine) ∙ calm_here in
+      ∙ sym (ap (holds (wants_follower_by q s)) its_end) ∙ sym (ap (λ (b : Bool). b && true && wants_follower q s) mine) ∙ quiescent_here in
       let wants_more : wants_follower_by q more z ≡ false
       = ap (λ (b : Bool). not b && of_its_call (λ (k : Call). is_to_follow k z.cause z.unseen more) q more) same
       ∙ ap (λ (o : Option Call). not (is_followed q s) && holds (λ (k : Call). is_to_follow k z.cause z.unseen more) o) its

@@ -2,7 +2,7 @@
 use Rattle.std.proofs.Common.{◌≡◌, ◌+◌, ap, refl, sym, ◌∙◌, false, List, [], None, Some, ℕ, filter, length, map}
 use Rattle.std.specs.List.{list_any}
 use Rattle.attempt_ledger.specs.declared.ledger.CallSeen.{CallSeen}
-use Rattle.call_actions.proofs.Bare.{bare_attempts, entry_replied, none_live}
+use Rattle.call_actions.proofs.Unconfigured.{unconfigured_attempts, entry_replied, none_live}
 use Rattle.call_actions.proofs.Lists.{filter_none, numbered_last}
 use Rattle.call_actions.specs.Laws.{CallsBegin, begun_ledger}
 use Rattle.call_core.specs.Parts.{no_attempts}
@@ -47,12 +47,12 @@ calls_begin s request ledger acts here rows same none =
         finished = refl;
         longest_is = refl;
         ended = refl;
-        attempts = bare_attempts t c none no_attempts (record { newest = refl; placed = refl; stopped = refl; forced = λ e. refl }) refl refl refl refl refl refl refl;
+        attempts = unconfigured_attempts t c none no_attempts (record { newest = refl; placed = refl; stopped = refl; forced = λ e. refl }) refl refl refl refl refl refl refl;
         live = none_live t c none;
         tokens = refl;
         entry_is = entry_now;
         rows = rows;
         call_is = last;
       };
-      bare = record { config = refl; configured = refl; end = refl; marks = refl; none = none };
+      awaiting_config = record { config = refl; configured = refl; end = refl; marks = refl; none = none };
     }

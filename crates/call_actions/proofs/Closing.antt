@@ -14,10 +14,10 @@ use Rattle.call_actions.proofs.Frames as frames
 use Rattle.call_actions.proofs.Frames.{filter_same}
 use Rattle.call_actions.proofs.Lists.{changed_here, changed_twice, stamped_here}
 use Rattle.call_actions.proofs.Ranks.{all_so, filter_both}
-use Rattle.call_actions.proofs.Told.{fold_last}
+use Rattle.call_actions.proofs.Report.{fold_last}
 use Rattle.call_actions.specs.Laws.{CallsClose, QuietCallsEnd, call_closed}
 use Rattle.call_actions.specs.Order.{IsInOrder, Keeps, is_own_mark}
-use Rattle.call_actions.specs.Sees.{AreAttempts, AreDue, Sees, is_live, live_row, live_rows}
+use Rattle.call_actions.specs.Sees.{AttemptsAgree, DuesAgree, Sees, is_live, live_row, live_rows}
 use Rattle.call_core.specs.Parts.{stopped_attempts}
 use Rattle.call_core.specs.Steps as steps
 use Rattle.call_core.specs.Steps.{Stepped}
@@ -101,12 +101,12 @@ module _ (s : Seen) (c : Call) (x : Stepped) (why : EndCause) (h : Sees s c x) (
       (filter_map-append (λ (m : Mark). counted_row t m.what) c.marks (w ∷ []) ∙ append-nil (filter_map (λ (m : Mark). counted_row t m.what) c.marks)
       ∙ frames.counted_rows_same s c.number (λ k. k.messages) (λ k. k.finished) (λ k. k.taken) (λ k. k.end_taken) (λ k. k.marks ++ w ∷ []) (λ k. Some the_end) s.current c.marks)
 
-  attempts_now : AreAttempts t d (stopped_attempts x.call.attempts)
+  attempts_now : AttemptsAgree t d (stopped_attempts x.call.attempts)
   attempts_now =
-      let k : AreAttempts s c x.call.attempts = h.attempts in
+      let k : AttemptsAgree s c x.call.attempts = h.attempts in
       record {
         sent = k.sent;
-        due = subst (λ (z : DueState). AreDue z (stopped_attempts x.call.attempts)) (sym due_now) (none_due (due_state c s) x.call.attempts k.due.newest k.due.placed);
+        due = subst (λ (z : DueState). DuesAgree z (stopped_attempts x.call.attempts)) (sym due_now) (none_due (due_state c s) x.call.attempts k.due.newest k.due.placed);
         unplaced = k.unplaced;
         delayed = λ keeps free.
             frames.delayed_same s c.number (λ k. k.messages) (λ k. k.finished) (λ k. k.taken) (λ k. k.end_taken) (λ k. k.marks ++ w ∷ []) (λ k. Some the_end) s.current c x.call.attempts.sent
@@ -148,7 +148,7 @@ module _ (s : Seen) (c : Call) (x : Stepped) (why : EndCause) (h : Sees s c x) (
     ended = refl;
     attempts = attempts_now;
     live = live_now;
-    tokens = frames.bucket_told s c.number (λ k. k.messages) (λ k. k.finished) (λ k. k.taken) (λ k. k.end_taken) (λ k. k.marks ++ w ∷ []) (λ k. Some the_end) s.current (run_of c s)
+    tokens = frames.bucket_reported s c.number (λ k. k.messages) (λ k. k.finished) (λ k. k.taken) (λ k. k.end_taken) (λ k. k.marks ++ w ∷ []) (λ k. Some the_end) s.current (run_of c s)
         ∙ h.tokens;
     entry_is = h.entry_is;
     rows = h.rows;

@@ -6,7 +6,7 @@ use Rattle.attempt_ledger.specs.TransparentRows.{is_by_peer, is_refused, is_unse
 use Rattle.attempt_ledger.specs.declared.row.Placed.{Placed}
 use Rattle.attempt_ledger.specs.declared.row.RowCause.{RowCause}
 use Rattle.attempt_ledger.specs.declared.row.RowEnd.{RowEnd}
-use Rattle.call_actions.proofs.Bare.{some_still}
+use Rattle.call_actions.proofs.Unconfigured.{some_still}
 use Rattle.call_actions.proofs.Frames.{holds_same}
 use Rattle.call_actions.proofs.Ranks.{any_map, any_map_all, find_last_map}
 use Rattle.session_actions.specs.Attempts.{call_of, commitment, counts_by, is_commitment, is_followed, is_later_of, is_of, is_over, is_over_in, is_to_follow, of_its_call, wants_follower_by, was_refused, was_retried_so}

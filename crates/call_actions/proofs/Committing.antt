@@ -17,9 +17,9 @@ use Rattle.call_actions.proofs.Lists.{changed_here, filter_none, numbered_not}
 use Rattle.call_actions.proofs.PlacedFrames.{none_bad}
 use Rattle.call_actions.proofs.Places.{changed_is, numbered_written, place_is, rows_are}
 use Rattle.call_actions.proofs.Ranks.{all_so, any_map_all, filter_mapped, fold_map, map_through, numbered_map}
-use Rattle.call_actions.proofs.Told.{fold_last}
-use Rattle.call_actions.specs.Order.{AreNumbered, IsInOrder, is_beyond, is_own_mark}
-use Rattle.call_actions.specs.Sees.{AreAttempts, AreDue, Sees, bucket_of, is_live, live_row, live_rows}
+use Rattle.call_actions.proofs.Report.{fold_last}
+use Rattle.call_actions.specs.Order.{AttemptsAreNumbered, IsInOrder, is_beyond, is_own_mark}
+use Rattle.call_actions.specs.Sees.{AttemptsAgree, DuesAgree, Sees, bucket_of, is_live, live_row, live_rows}
 use Rattle.call_core.specs.Parts.{committed_attempts}
 use Rattle.call_core.specs.Steps as steps
 use Rattle.call_core.specs.Steps.{Stepped}
@@ -129,7 +129,7 @@ module _ (c : Call) (place at : ℕ) where
   elsewhere : (x : Attempt) → (x.place ≡ place → ⊥) → is_commitment c x ≡ false → is_commitment c (h x) ≡ false
   elsewhere x off none = ap (λ (b : Bool). is_of c x && is_some (if b then Some at else x.row.committed)) (ne_eqb x.place place off) ∙ none
 
-  none_past : (k : ℕ) (xs : List Attempt) → AreNumbered k xs → place < k → list_any (is_commitment c) xs ≡ false → find_last (is_commitment c) (map h xs) ≡ None
+  none_past : (k : ℕ) (xs : List Attempt) → AttemptsAreNumbered k xs → place < k → list_any (is_commitment c) xs ≡ false → find_last (is_commitment c) (map h xs) ≡ None
   none_past k [] p past none = refl
   none_past k (x ∷ xs) p past none =
       let is_at : x.place ≡ k = p.0 in
@@ -139,7 +139,7 @@ module _ (c : Call) (place at : ℕ) where
       ap (λ (o : Option Attempt). option_or o (if is_commitment c (h x) then Some (h x) else None)) (none_past (suc k) xs p.1 next parts.1)
       ∙ ap (λ (b : Bool). if b then Some (h x) else None) (elsewhere x off parts.0)
 
-  found_from : (k i : ℕ) (xs : List Attempt) (a : Attempt) → AreNumbered k xs → k + i ≡ place → slice_get xs i ≡ Some a → is_commitment c (h a) ≡ true
+  found_from : (k i : ℕ) (xs : List Attempt) (a : Attempt) → AttemptsAreNumbered k xs → k + i ≡ place → slice_get xs i ≡ Some a → is_commitment c (h a) ≡ true
       → list_any (is_commitment c) xs ≡ false → find_last (is_commitment c) (map h xs) ≡ Some (h a)
   found_from k i [] a p there got passes none = absurd (cc)
   found_from k zero (x ∷ xs) a p there got passes none =
@@ -153,7 +153,7 @@ module _ (c : Call) (place at : ℕ) where
       let parts : (is_commitment c x ≡ false) × (list_any (is_commitment c) xs ≡ false) = or_parts (is_commitment c x) (list_any (is_commitment c) xs) none in
       ap (λ (o : Option Attempt). option_or o (if is_commitment c (h x) then Some (h x) else None)) (found_from (suc k) i xs a p.1 next got passes parts.1)
 
-  found_by : (m : ℕ) (xs : List Attempt) (a : Attempt) → AreNumbered 1 xs → m ≡ place → numbered xs m ≡ Some a → is_commitment c (h a) ≡ true
+  found_by : (m : ℕ) (xs : List Attempt) (a : Attempt) → AttemptsAreNumbered 1 xs → m ≡ place → numbered xs m ≡ Some a → is_commitment c (h a) ≡ true
       → list_any (is_commitment c) xs ≡ false → find_last (is_commitment c) (map h xs) ≡ Some (h a)
   found_by zero xs a p same got passes none = absurd (cc)
   found_by (suc i) xs a p same got passes none = let there : 1 + i ≡ place = omega arith in found_from 1 i xs a p there got passes none
@@ -272,12 +272,12 @@ module _ (s : Seen) (c : Call) (x : Stepped) (place : ℕ) (a : Attempt) (h : Se
   abbrev then_attempts : Attempts
   then_attempts = committed_attempts place x.call.attempts
 
-  attempts_now : AreAttempts t d then_attempts
+  attempts_now : AttemptsAgree t d then_attempts
   attempts_now =
-      let was : AreAttempts s c x.call.attempts = h.attempts in
+      let was : AttemptsAgree s c x.call.attempts = h.attempts in
       record {
         sent = made_same ∙ was.sent;
-        due = subst (λ (z : DueState). AreDue z then_attempts) (sym due_now)
+        due = subst (λ (z : DueState). DuesAgree z then_attempts) (sym due_now)
             (record { newest = same_attempt.newest ∙ was.due.newest; placed = same_attempt.placed ∙ was.due.placed; stopped = refl; forced = λ z. absurd (cc) });
         unplaced = was.unplaced;
         delayed = λ keeps none. absurd (cc);
@@ -341,7 +341,7 @@ module _ (s : Seen) (c : Call) (x : Stepped) (place : ℕ) (a : Attempt) (h : Se
     ended = h.ended;
     attempts = attempts_now;
     live = live_now ∙ sym none;
-    tokens = frames.bucket_told more c.number (λ k. k.messages) (λ k. k.finished) (λ k. k.taken) (λ k. k.end_taken) (λ k. k.marks ++ w ∷ []) (λ k. k.end) s.current (run_of c s)
+    tokens = frames.bucket_reported more c.number (λ k. k.messages) (λ k. k.finished) (λ k. k.taken) (λ k. k.end_taken) (λ k. k.marks ++ w ∷ []) (λ k. k.end) s.current (run_of c s)
         ∙ bucket_same (run_of c s) ∙ h.tokens;
     entry_is = h.entry_is;
     rows = sym (rows_are (with_commitment (entry s)) g place a here away (stamps.committed_row x.ledger.entry) row_here s.attempts o.places got)

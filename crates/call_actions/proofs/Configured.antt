@@ -7,11 +7,11 @@ use Rattle.std.specs.Prelude.{fold}
 use Rattle.a6_numbers.specs.Throttling.{Bucket}
 use Rattle.attempt_ledger.specs.declared.ledger.CallSeen.{CallSeen}
 use Rattle.attempt_ledger.specs.declared.row.RowEnd.{RowEnd}
-use Rattle.call_actions.proofs.Bare.{Had, bare_attempts, counted_of_marks, due_from, due_of_marks, had, none_live}
+use Rattle.call_actions.proofs.Unconfigured.{Had, unconfigured_attempts, counted_of_marks, due_from, due_of_marks, had, none_live}
 use Rattle.call_actions.proofs.Ended.{closed_mark, ended_call, ended_with, ends_now, marked_calls, none_due, over}
 use Rattle.call_actions.proofs.Lists.{changed_away, changed_here, numbered_not, stamped_here}
-use Rattle.call_actions.specs.Laws.{Agrees, ConfigsCome, IsBare, LongMessagesEnd, configured_by, tokens_of_config}
-use Rattle.call_actions.specs.Sees.{AreAttempts, Sees, bucket_of}
+use Rattle.call_actions.specs.Laws.{Agrees, ConfigsCome, IsUnconfigured, LongMessagesEnd, configured_by, tokens_of_config}
+use Rattle.call_actions.specs.Sees.{AttemptsAgree, Sees, bucket_of}
 use Rattle.call_core.specs.Parts.{configured_attempts, is_too_long, stopped_attempts}
 use Rattle.call_core.specs.Steps.{Stepped, ended_if, with_chosen}
 use Rattle.call_core.specs.declared.live.LiveRow.{LiveRow}
@@ -104,7 +104,7 @@ configured_call s c = put s (record c { marks = c.marks ++ config_mark s ∷ [] 
 abbrev calls_now : Seen → Call → List Call
 calls_now s c = changed (put s) c.number (marked_calls c.number (config_mark s) s)
 
-module _ (s : Seen) (c : Call) (x : Stepped) (g : HeldConfig) (h : Sees s c x) (b : IsBare s c) (held : held_config s ≡ Some g) where
+module _ (s : Seen) (c : Call) (x : Stepped) (g : HeldConfig) (h : Sees s c x) (b : IsUnconfigured s c) (held : held_config s ≡ Some g) where
   abbrev chosen_now : Chosen
   chosen_now = chosen_for g.config c.request.path
 
@@ -154,7 +154,7 @@ module _ (s : Seen) (c : Call) (x : Stepped) (g : HeldConfig) (h : Sees s c x) (
         finished = h.finished;
         longest_is = h.longest_is;
         ended = h.ended;
-        attempts = bare_attempts after (configured_call s c) b.none (configured_attempts (now s) x.call.attempts)
+        attempts = unconfigured_attempts after (configured_call s c) b.none (configured_attempts (now s) x.call.attempts)
             (due_from after (configured_call s c) due_now (configured_attempts (now s) x.call.attempts) (due_of_marks after (configured_call s c) (config_mark s ∷ []) marks_now)
             (record { newest = had_it.due.newest; placed = had_it.due.placed; stopped = refl; forced = λ e. refl }))
             (counted_of_marks after (configured_call s c) (config_mark s ∷ []) marks_now) had_it.sent had_it.delayed had_it.last had_it.refused had_it.committed had_it.due.placed;
@@ -192,8 +192,8 @@ module _ (s : Seen) (c : Call) (x : Stepped) (g : HeldConfig) (h : Sees s c x) (
       let d : Call = configured_call s c in
       let e : Call = ended_call ending.Request after d in
       let marks : e.marks ≡ config_mark s ∷ closed_mark after ∷ [] = ap (λ (l : List Mark). l ++ closed_mark after ∷ []) marks_now in
-      let attempts : AreAttempts then_ended e (stopped_attempts y.call.attempts)
-      = bare_attempts then_ended e b.none (stopped_attempts y.call.attempts)
+      let attempts : AttemptsAgree then_ended e (stopped_attempts y.call.attempts)
+      = unconfigured_attempts then_ended e b.none (stopped_attempts y.call.attempts)
       (due_from then_ended e (record due_now { stopped = true }) (stopped_attempts y.call.attempts) (due_of_marks then_ended e (config_mark s ∷ closed_mark after ∷ []) marks)
       (none_due due_now y.call.attempts had_it.due.newest had_it.due.placed))
       (counted_of_marks then_ended e (config_mark s ∷ closed_mark after ∷ []) marks) had_it.sent had_it.delayed had_it.last had_it.refused had_it.committed had_it.due.placed in

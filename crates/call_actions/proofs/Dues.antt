@@ -8,7 +8,7 @@ use Rattle.attempt_ledger.specs.Hedging.{is_hedge}
 use Rattle.attempt_ledger.specs.Numbering.{kind_by_number, later_kind}
 use Rattle.attempt_ledger.specs.declared.row.RowKind.TheVariants as kind
 use Rattle.call_actions.specs.Laws.{AttemptsAreDue, HedgesAreTested}
-use Rattle.call_actions.specs.Sees.{AreDue, Sees, bucket_of}
+use Rattle.call_actions.specs.Sees.{DuesAgree, Sees, bucket_of}
 use Rattle.call_core.specs.Parts as parts
 use Rattle.call_core.specs.Parts.{is_tested, next_of_plan}
 use Rattle.call_core.specs.Steps.{Stepped, call_plan}
@@ -55,7 +55,7 @@ not_first true first most e = refl
 not_first false true most e = absurd (cc)
 not_first false false most e = refl
 
-module _ (d : DueState) (a : Attempts) (due : AreDue d a) (unplaced : a.sent ≡ 0 → a.placed ≡ None) where
+module _ (d : DueState) (a : Attempts) (due : DuesAgree d a) (unplaced : a.sent ≡ 0 → a.placed ≡ None) where
   forced_by : (most : ℕ) → (if d.stopped || nat_le most a.sent then None else option_or d.forced None) ≡ parts.next_forced most a
   forced_by most =
       ap (λ (b : Bool). if b || nat_le most a.sent then None else option_or d.forced None) due.stopped

@@ -4,12 +4,12 @@ use Rattle.std.specs.List.{list_any}
 use Rattle.std.specs.Option.{option_map}
 use Rattle.attempt_ledger.specs.declared.ledger.CallEnd.{CallEnd}
 use Rattle.attempt_ledger.specs.declared.ledger.CallSeen.{CallSeen}
-use Rattle.call_actions.proofs.Bare.{Had, bare_attempts, counted_of_marks, due_from, due_of_marks, had, no_tokens, none_live}
+use Rattle.call_actions.proofs.Unconfigured.{Had, unconfigured_attempts, counted_of_marks, due_from, due_of_marks, had, no_tokens, none_live}
 use Rattle.call_actions.proofs.Lists.{changed_here, stamped_here}
 use Rattle.call_actions.specs.Laws.{CallsEnd}
-use Rattle.call_actions.specs.Sees.{AreAttempts, AreDue, Sees, bucket_of}
+use Rattle.call_actions.specs.Sees.{AttemptsAgree, DuesAgree, Sees, bucket_of}
 use Rattle.call_core.specs.Parts.{count_of, stopped_attempts}
-use Rattle.call_core.specs.Steps.{Stepped, closed_by, cut_all, end_stamped, ended_as, fresh_buffer, told_all}
+use Rattle.call_core.specs.Steps.{Stepped, closed_by, cut_all, end_stamped, ended_as, fresh_buffer, reported_all}
 use Rattle.call_core.specs.declared.act.CallAct.TheVariants as act
 use Rattle.call_core.specs.declared.attempts.Attempts.{Attempts}
 use Rattle.call_core.specs.declared.live.LiveRow.{LiveRow}
@@ -34,7 +34,7 @@ ended_with why moment live x = record {
   call = record x.call { live = []; buffer = fresh_buffer; attempts = stopped_attempts x.call.attempts; ended = Some why };
   ledger = end_stamped x.call.number why moment (cut_all None moment (count_of x.tokens) live x.ledger);
   tokens = x.tokens;
-  acts = told_all None live x.acts ++ act.End why ∷ [];
+  acts = reported_all None live x.acts ++ act.End why ∷ [];
 }
 
 pub closed_is : (why : EndCause) (moment : ℕ) (x : Stepped) → x.call.ended ≡ None → [] ≡ x.call.live → closed_by why moment x ≡ ended_with why moment [] x
@@ -47,7 +47,7 @@ abbrev pub marked_calls : ℕ → Mark → Seen → List Call
 marked_calls number m s = changed (λ (k : Call). record k { marks = k.marks ++ m ∷ [] }) number s.calls
 
 -- no further attempt is made then
-pub none_due : (d : DueState) (a : Attempts) → d.newest ≡ a.newest → d.placed ≡ a.placed → AreDue (record d { stopped = true }) (stopped_attempts a)
+pub none_due : (d : DueState) (a : Attempts) → d.newest ≡ a.newest → d.placed ≡ a.placed → DuesAgree (record d { stopped = true }) (stopped_attempts a)
 none_due d a newest placed = record { newest = newest; placed = placed; stopped = refl; forced = λ e. absurd (cc) }
 
 -- the stamps of an end
@@ -83,7 +83,7 @@ module _ (s : Seen) (c : Call) (x : Stepped) (why : EndCause) (h : Sees s c x) (
       ∙ ap (λ (k : CallSeen). Some k) (end_is (call_seen s c) e is_open)
       ∙ ap (λ (j : ℕ). Some (record (call_seen s c) { end = Some (end_by j (now s) why) })) (sym h.entry_is)
 
-  pub ends_now : AreAttempts (call_ended c.number why s) (ended_call why s c) (stopped_attempts x.call.attempts)
+  pub ends_now : AttemptsAgree (call_ended c.number why s) (ended_call why s c) (stopped_attempts x.call.attempts)
       → option_map (bucket_of (call_ended c.number why s)) (run_of (ended_call why s c) (call_ended c.number why s)) ≡ x.tokens
       → Sees (call_ended c.number why s) (ended_call why s c) (ended_with why (now s) [] x)
   ends_now attempts tokens = record {
@@ -109,8 +109,8 @@ calls_end s c x why h b =
     let d : Call = ended_call why s c in
     let t : Seen = call_ended c.number why s in
     let marks : d.marks ≡ closed_mark s ∷ [] = ap (λ (l : List Mark). l ++ closed_mark s ∷ []) b.marks in
-    let attempts : AreAttempts t d (stopped_attempts x.call.attempts)
-    = bare_attempts t d b.none (stopped_attempts x.call.attempts) (due_from t d (record no_due { stopped = true }) (stopped_attempts x.call.attempts) (due_of_marks t d (closed_mark s ∷ []) marks) (none_due no_due x.call.attempts g.due.newest g.due.placed))
+    let attempts : AttemptsAgree t d (stopped_attempts x.call.attempts)
+    = unconfigured_attempts t d b.none (stopped_attempts x.call.attempts) (due_from t d (record no_due { stopped = true }) (stopped_attempts x.call.attempts) (due_of_marks t d (closed_mark s ∷ []) marks) (none_due no_due x.call.attempts g.due.newest g.due.placed))
     (counted_of_marks t d (closed_mark s ∷ []) marks) g.sent g.delayed g.last g.refused g.committed g.due.placed in
     let sees : Sees t d (ended_with why (now s) [] x) = ends_now s c x why h b.none b.end attempts (no_tokens t d b.config ∙ g.tokens) in
     record { call = d; number_is = refl; sees = subst (Sees t d) (sym (closed_is why (now s) x g.open_now g.live)) sees }

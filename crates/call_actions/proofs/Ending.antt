@@ -23,7 +23,7 @@ use Rattle.call_actions.proofs.Ranks.{numbered_map}
 use Rattle.call_actions.proofs.Dues.{plan_is}
 use Rattle.call_actions.specs.Laws.{IsCounting, IsEnding, news_of}
 use Rattle.call_actions.specs.Order.{IsInOrder, IsInTurn, goes_on_followed, is_retried}
-use Rattle.call_actions.specs.Sees.{AreAttempts, AreDue, KeepsDelay, Sees, bucket_of, is_live, live_row}
+use Rattle.call_actions.specs.Sees.{AttemptsAgree, DuesAgree, KeepsDelay, Sees, bucket_of, is_live, live_row}
 use Rattle.call_core.specs.Parts as parts
 use Rattle.call_core.specs.Parts.{find_live, lasted_attempts, row_end, settled_tokens, without}
 use Rattle.call_core.specs.Steps as steps
@@ -161,22 +161,22 @@ module _ (s : Seen) (c : Call) (x : Stepped) (place : ℕ) (a : Attempt) (out : 
   settle_all (Some u) = ap (λ (b : Bucket). Some b) (settled_is u (tokens_in u s) (plan_of c s) out.code out.pushback)
 
   -- what the channel makes of it
-  abbrev pub told : Stepped
-  told = settled (news_of a out s) (left_live a.place x)
+  abbrev pub reported : Stepped
+  reported = settled (news_of a out s) (left_live a.place x)
 
   abbrev pub its_end : RowEnd
-  its_end = row_end (news_of a out s) x.ledger.entry (now s) (parts.count_of told.tokens)
+  its_end = row_end (news_of a out s) x.ledger.entry (now s) (parts.count_of reported.tokens)
 
   abbrev pub judges : Judged
-  judges = judged_of (live_row a) its_end (next_word s) told.call told.tokens
+  judges = judged_of (live_row a) its_end (next_word s) reported.call reported.tokens
 
-  pub lent_then : told.tokens ≡ option_map (λ (u : ThrottleRun). bucket_by u (count_then u)) (run_of c s)
+  pub lent_then : reported.tokens ≡ option_map (λ (u : ThrottleRun). bucket_by u (count_then u)) (run_of c s)
   lent_then =
       ap (settled_tokens out.code out.pushback (parts.is_in_set (call_plan x.call) out.code)) (sym h.tokens)
       ∙ ap (λ (p : CallPlan). settled_tokens out.code out.pushback (parts.is_in_set p out.code) (option_map (bucket_of s) (run_of c s))) (sym (plan_is s c x h))
       ∙ settle_all (run_of c s)
 
-  pub tokens_same : e.tokens ≡ parts.count_of told.tokens
+  pub tokens_same : e.tokens ≡ parts.count_of reported.tokens
   tokens_same = tokens_end ∙ sym (ap parts.count_of lent_then ∙ count_is count_then (run_of c s))
 
   abbrev stamp : ℕ → Option ℕ → Option ℕ → RowEnd
@@ -196,17 +196,17 @@ module _ (s : Seen) (c : Call) (x : Stepped) (place : ℕ) (a : Attempt) (out : 
   free_then free = sym h.attempts.committed ∙ ap (option_map (λ (q : Attempt). q.place)) free
 
   abbrev pub after : Stepped
-  after = with_judged (live_row a) its_end judges told
+  after = with_judged (live_row a) its_end judges reported
 
   abbrev by_commitment : Option ℕ → Stepped
   by_commitment k =
-      if is_some k then steps.ended_as endcause.Row (now s) (steps.row_ended a.place its_end told)
-      else steps.counted_free (live_row a) its_end (now s) (next_word s) told
+      if is_some k then steps.ended_as endcause.Row (now s) (steps.row_ended a.place its_end reported)
+      else steps.counted_free (live_row a) its_end (now s) (next_word s) reported
 
   pub counted_is : steps.ended_at place (news_of a out s) (now s) (next_word s) x ≡ by_commitment x.call.attempts.committed
   counted_is =
       ap (λ (r : Option LiveRow). ended_if_live r (news_of a out s) (now s) (next_word s) x) found
-      ∙ ap (λ (b : Bool). if b then steps.followed (live_row a) (news_of a out s) (now s) (left_live a.place x) else steps.counted (live_row a) (news_of a out s) (now s) (next_word s) told) not_followed
+      ∙ ap (λ (b : Bool). if b then steps.followed (live_row a) (news_of a out s) (now s) (left_live a.place x) else steps.counted (live_row a) (news_of a out s) (now s) (next_word s) reported) not_followed
 
   pub channel_is : commitment c s ≡ None → steps.ended_at place (news_of a out s) (now s) (next_word s) x ≡ closed_if judges.closes a.place (now s) after
   channel_is free = counted_is ∙ ap by_commitment (free_then free)
@@ -253,14 +253,14 @@ module _ (s : Seen) (c : Call) (x : Stepped) (place : ℕ) (a : Attempt) (out : 
       = sym z ∙ or_from (is_some c.end) (is_some (commitment c s)) (ap (λ (k : Option CallEnd). is_some k) n.goes_on) (ap (λ (k : Option Attempt). is_some k) free) in absurd (cc)))
 
   -- with what the channel keeps of the next attempt
-  module _ (kept : KeepsRest judges.attempts x.call.attempts) (due : AreDue (due_state d t) judges.attempts)
+  module _ (kept : KeepsRest judges.attempts x.call.attempts) (due : DuesAgree (due_state d t) judges.attempts)
       (delayed : KeepsDelay c.config (plan_of c s) → last_delayed c x.call.attempts.sent base ≡ judges.attempts.delayed) (word : e.word ≡ judges.word) where
     same_end : e ≡ record its_end { word = judges.word }
     same_end =
         ap (λ (k : ℕ). stamp k e.tokens e.word) h.entry_is ∙ ap (λ (k : Option ℕ). stamp x.ledger.entry k e.word) tokens_same
-        ∙ ap (λ (k : Option ℕ). stamp x.ledger.entry (parts.count_of told.tokens) k) word
+        ∙ ap (λ (k : Option ℕ). stamp x.ledger.entry (parts.count_of reported.tokens) k) word
 
-    attempts_then : AreAttempts t d (lasted_attempts a.place judges.attempts)
+    attempts_then : AttemptsAgree t d (lasted_attempts a.place judges.attempts)
     attempts_then = record {
       sent = ending.made_same s c place a e runs ends ∙ h.attempts.sent ∙ sym kept.sent;
       due = record { newest = due.newest; placed = due.placed; stopped = due.stopped; forced = due.forced };
@@ -285,7 +285,7 @@ module _ (s : Seen) (c : Call) (x : Stepped) (place : ℕ) (a : Attempt) (out : 
       ended = h.ended;
       attempts = attempts_then;
       live = endrows.live_then s c x place a e runs h o ends g.own ∙ ap (λ (p : ℕ). without p x.call.live) (sym its_place);
-      tokens = frames.bucket_told base c.number (λ k. k.messages) (λ k. k.finished) (λ k. k.taken) (λ k. k.end_taken) (λ k. k.marks ++ w ∷ []) (λ k. k.end) (endrows.now_open s c x place a e runs h o ends g.own) (run_of c base)
+      tokens = frames.bucket_reported base c.number (λ k. k.messages) (λ k. k.finished) (λ k. k.taken) (λ k. k.end_taken) (λ k. k.marks ++ w ∷ []) (λ k. k.end) (endrows.now_open s c x place a e runs h o ends g.own) (run_of c base)
           ∙ ap (option_map (bucket_of base)) (run_now place c s) ∙ bucket_now s c place a e runs ends its_call (run_of c s) refl turn.counted ∙ sym lent_then;
       entry_is = endrows.entry_then s c x place a e runs h o ends g.own;
       rows = endrows.rows_then s c x place a e runs h o ends g.own

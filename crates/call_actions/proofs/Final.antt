@@ -16,13 +16,13 @@ use Rattle.call_actions.proofs.Ends.Frames as ending
 use Rattle.call_actions.proofs.Ends.Frames.{ended_by, with_end_at}
 use Rattle.call_actions.proofs.Ends.Rows as endrows
 use Rattle.call_actions.proofs.Ends.Tokens.{bucket_now, run_now}
-use Rattle.call_actions.proofs.Ending.{after, base, channel_is, d, due_then, e, ends, is_ended, its_call, its_end, its_place, judges, last_then, lent_then, like_then, marks_then, order_then, runs, t, tokens_same, told}
+use Rattle.call_actions.proofs.Ending.{after, base, channel_is, d, due_then, e, ends, is_ended, its_call, its_end, its_place, judges, last_then, lent_then, like_then, marks_then, order_then, runs, t, tokens_same, reported}
 use Rattle.call_actions.proofs.Frames as frames
 use Rattle.call_actions.proofs.Lists.{changed_here, filter_none}
 use Rattle.call_actions.proofs.Ranks.{numbered_map}
 use Rattle.call_actions.specs.Laws.{IsCounting, IsEnding, news_of}
 use Rattle.call_actions.specs.Order.{IsInOrder, IsInTurn, Keeps}
-use Rattle.call_actions.specs.Sees.{AreAttempts, Sees, bucket_of, is_live, live_row}
+use Rattle.call_actions.specs.Sees.{AttemptsAgree, Sees, bucket_of, is_live, live_row}
 use Rattle.call_core.specs.Parts as parts
 use Rattle.call_core.specs.Parts.{committed_attempts, from_one, has_none, judged, lasted_attempts, retry_after, stopped_attempts, without}
 use Rattle.call_core.specs.Steps as steps
@@ -63,8 +63,8 @@ record AreSwapped (a b : Attempts) : Type 0 where
 
 swapped : (t : Seen) (n : ℕ) (y : Stepped) (b : Attempts) → AreSwapped y.call.attempts b → Keeps t n y → Keeps t n (record y { call = record y.call { attempts = b } })
 swapped t n y b w k =
-    let was : AreAttempts t k.call y.call.attempts = k.sees.attempts in
-    let now_are : AreAttempts t k.call b = record {
+    let was : AttemptsAgree t k.call y.call.attempts = k.sees.attempts in
+    let now_are : AttemptsAgree t k.call b = record {
       sent = was.sent ∙ w.sent;
       due = record {
         newest = was.due.newest ∙ w.newest;
@@ -121,7 +121,7 @@ module _ (s : Seen) (c : Call) (x : Stepped) (place : ℕ) (a : Attempt) (out : 
   there = its_end s c x place a out h o turn g n
 
   abbrev lent : Stepped
-  lent = told s c x place a out h o turn g n
+  lent = reported s c x place a out h o turn g n
 
   abbrev put : Attempt → Attempt
   put q = with_end_at place its q
@@ -181,7 +181,7 @@ module _ (s : Seen) (c : Call) (x : Stepped) (place : ℕ) (a : Attempt) (out : 
     delayed = last_delayed then_call known.sent then_seen;
   }
 
-  attempts_then : AreAttempts then_seen then_call mid
+  attempts_then : AttemptsAgree then_seen then_call mid
   attempts_then = record {
     sent = ending.made_same s c place a its (runs s c x place a out h o turn g n) (ends s c x place a out h o turn g n) ∙ h.attempts.sent;
     due = record {
@@ -227,7 +227,7 @@ module _ (s : Seen) (c : Call) (x : Stepped) (place : ℕ) (a : Attempt) (out : 
     ended = h.ended;
     attempts = attempts_then;
     live = endrows.live_then s c x place a its (runs s c x place a out h o turn g n) h o (ends s c x place a out h o turn g n) g.own ∙ none_left;
-    tokens = frames.bucket_told then_base c.number (λ q. q.messages) (λ q. q.finished) (λ q. q.taken) (λ q. q.end_taken) (λ q. q.marks ++ w ∷ []) (λ q. q.end)
+    tokens = frames.bucket_reported then_base c.number (λ q. q.messages) (λ q. q.finished) (λ q. q.taken) (λ q. q.end_taken) (λ q. q.marks ++ w ∷ []) (λ q. q.end)
         (endrows.now_open s c x place a its (runs s c x place a out h o turn g n) h o (ends s c x place a out h o turn g n) g.own) (run_of c then_base)
         ∙ ap (option_map (bucket_of then_base)) (run_now place c s)
         ∙ bucket_now s c place a its (runs s c x place a out h o turn g n) (ends s c x place a out h o turn g n) (its_call s c x place a out h o turn g n) (run_of c s) refl turn.counted

@@ -60,16 +60,16 @@ refusal_is cause.Goaway false free retried e = absurd (cc)
 refusal_is _ unseen free retried e = and_right unseen false refl
 
 waits_if : (mine wants before : Bool) → wants ≡ before → (mine && before) ≡ false → (mine && true && wants) ≡ false
-waits_if true wants before same calm = same ∙ calm
-waits_if false wants before same calm = refl
+waits_if true wants before same quiescent = same ∙ quiescent
+waits_if false wants before same quiescent = refl
 
 waits_by : (b mine : Bool) (wants before : Bool) → (b ≡ false → wants ≡ before) → (mine && before) ≡ false → (mine && not b && wants) ≡ false
-waits_by true mine wants before same calm = and_left (mine && false) wants (and_right mine false refl)
-waits_by false mine wants before same calm = waits_if mine wants before (same refl) calm
+waits_by true mine wants before same quiescent = and_left (mine && false) wants (and_right mine false refl)
+waits_by false mine wants before same quiescent = waits_if mine wants before (same refl) quiescent
 
 module _ (s : Seen) (c : Call) (x : Stepped) (place : ℕ) (a : Attempt) (out : Outcome) (h : Sees s c x) (o : IsInOrder s c) (turn : IsInTurn s c)
     (g : IsEnding s c place a out) (goes_on : c.end ≡ None) (free : commitment c s ≡ None) (follows : is_to_follow c out.cause out.unseen s ≡ true)
-    (calm : list_any (λ (q : Attempt). is_of c q && wants_follower q s) s.attempts ≡ false) where
+    (quiescent : list_any (λ (q : Attempt). is_of c q && wants_follower q s) s.attempts ≡ false) where
   unended : a.row.ended ≡ None
   unended = none_of a.row.ended (unended_by (is_of c a) (is_some a.row.placed) (is_none a.row.placed) (is_none a.row.ended) (is_over a s) g.lives)
 
@@ -109,12 +109,12 @@ module _ (s : Seen) (c : Call) (x : Stepped) (place : ℕ) (a : Attempt) (out : 
       (endrows.now_open s c x place a e s.runs h o ends g.own) (put q) z
       ∙ columns.wants_same s ending.placed_before (ended_by place e) there (ending.writes s c place a e s.runs ends) q z) q.row.ended
 
-  calm_then : list_any (λ (q : Attempt). is_of d q && not (q.place == place) && wants_follower q t) t.attempts ≡ false
-  calm_then =
+  quiescent_then : list_any (λ (q : Attempt). is_of d q && not (q.place == place) && wants_follower q t) t.attempts ≡ false
+  quiescent_then =
       any_map_all (λ (q : Attempt). is_of d q && not (q.place == place) && wants_follower q t) (λ (q : Attempt). is_of c q && not (q.place == place) && wants_follower (put q) t) put
       (λ q. refl) s.attempts
       ∙ any_none (λ (q : Attempt). is_of c q && not (q.place == place) && wants_follower (put q) t) (λ (q : Attempt). is_of c q && wants_follower q s)
-      (λ q good. waits_by (q.place == place) (is_of c q) (wants_follower (put q) t) (wants_follower q s) (wants_same q) good) s.attempts calm
+      (λ q good. waits_by (q.place == place) (is_of c q) (wants_follower (put q) t) (wants_follower q s) (wants_same q) good) s.attempts quiescent
 
   is_followed_then : IsFollowed t d place (put a) e
   is_followed_then = record {
@@ -126,7 +126,7 @@ module _ (s : Seen) (c : Call) (x : Stepped) (place : ℕ) (a : Attempt) (out : 
     follows = columns.follow_same s ending.placed_before (ended_by place e) there (ending.writes s c place a e s.runs ends) out.cause out.unseen c ∙ follows;
     goes_on = goes_on;
     free = columns.commitment_same s ending.placed_before (ended_by place e) there (ending.writes s c place a e s.runs ends) c ∙ ap (option_map put) free;
-    calm = calm_then;
+    quiescent = quiescent_then;
   }
 
   abbrev refusal : Bool
@@ -188,4 +188,4 @@ module _ (s : Seen) (c : Call) (x : Stepped) (place : ℕ) (a : Attempt) (out : 
       (quietly.order_now s c x place a out h o turn g.there g.own unended quiet) is_followed_then same_refusal))
 
 pub refused_are_retried : RefusedAreRetried
-refused_are_retried s c x place a out h o turn g goes_on free follows calm = is_retried_again s c x place a out h o turn g goes_on free follows calm
+refused_are_retried s c x place a out h o turn g goes_on free follows quiescent = is_retried_again s c x place a out h o turn g goes_on free follows quiescent

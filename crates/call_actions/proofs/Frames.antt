@@ -1,4 +1,4 @@
--- What an application tells a call or takes of it, and what is marked of it, changes nothing that a session says of attempts and tokens.
+-- What an application reports to a call or takes of it, and what is marked of it, changes nothing that a session says of attempts and tokens.
 use Rattle.std.proofs.Common.{◌≡◌, ◌-◌, ◌∷◌, ◌||◌, ◌&&◌, ◌==◌, not, nat_le, ap, refl, subst, sym, ◌∙◌, Bool, true, false, List, [], Option, None, Some, ℕ, cond, filter, if◌then◌else◌, is_none, is_some, map, max}
 use Rattle.std.proofs.lemmas.Bool.{eqb-false, eqb-true}
 use Rattle.std.specs.Option.{option_map, option_map_or}
@@ -54,7 +54,7 @@ pub rows_same : (g h : Mark → Option ℕ) → ((m : Mark) → g m ≡ h m) →
 rows_same g h same [] = refl
 rows_same g h same (m ∷ marks) = rows_by m g h marks (h m) (same m) refl (rows_same g h same marks)
 
--- a call of which this was told
+-- a call of which this was reported
 abbrev pub retold : (Call → List (List ℕ)) → (Call → Bool) → (Call → ℕ) → (Call → Bool) → (Call → List Mark) → (Call → Option CallEnd) → Call → Call
 retold messages finished taken end_taken marks end c =
     record c { messages = messages c; finished = finished c; taken = taken c; end_taken = end_taken c; marks = marks c; end = end c }
@@ -65,38 +65,38 @@ changed_map_by f n xs (Some c) e = changed_here f n xs c e
 
 module _ (s : Seen) (n : ℕ) (messages : Call → List (List ℕ)) (finished : Call → Bool) (taken : Call → ℕ) (end_taken : Call → Bool) (marks : Call → List Mark)
     (end : Call → Option CallEnd) (current : Option OpenEntry) where
-  abbrev pub told : Call → Call
-  told c = retold messages finished taken end_taken marks end c
+  abbrev pub reported : Call → Call
+  reported c = retold messages finished taken end_taken marks end c
 
   abbrev pub then_seen : Seen
-  then_seen = record s { calls = changed told n s.calls; current = current }
+  then_seen = record s { calls = changed reported n s.calls; current = current }
 
-  holds_told : (P : Call → Bool) → ((c : Call) → P (told c) ≡ P c) → (o : Option Call) → holds P (option_map told o) ≡ holds P o
-  holds_told P same None = refl
-  holds_told P same (Some c) = same c
+  holds_reported : (P : Call → Bool) → ((c : Call) → P (reported c) ≡ P c) → (o : Option Call) → holds P (option_map reported o) ≡ holds P o
+  holds_reported P same None = refl
+  holds_reported P same (Some c) = same c
 
-  lookup_by : (P : Call → Bool) → ((c : Call) → P (told c) ≡ P c) → (k : ℕ) (x : Bool) → (k == n) ≡ x
-      → holds P (numbered (changed told n s.calls) k) ≡ holds P (numbered s.calls k)
+  lookup_by : (P : Call → Bool) → ((c : Call) → P (reported c) ≡ P c) → (k : ℕ) (x : Bool) → (k == n) ≡ x
+      → holds P (numbered (changed reported n s.calls) k) ≡ holds P (numbered s.calls k)
   lookup_by P same k true e =
-      let here : holds P (numbered (changed told n s.calls) n) ≡ holds P (numbered s.calls n)
-      = ap (holds P) (changed_map_by told n s.calls (numbered s.calls n) refl) ∙ holds_told P same (numbered s.calls n) in
-      subst (λ (j : ℕ). holds P (numbered (changed told n s.calls) j) ≡ holds P (numbered s.calls j)) (sym (eqb-true k n e)) here
-  lookup_by P same k false e = ap (holds P) (changed_away told n k s.calls (eqb-false k n e))
+      let here : holds P (numbered (changed reported n s.calls) n) ≡ holds P (numbered s.calls n)
+      = ap (holds P) (changed_map_by reported n s.calls (numbered s.calls n) refl) ∙ holds_reported P same (numbered s.calls n) in
+      subst (λ (j : ℕ). holds P (numbered (changed reported n s.calls) j) ≡ holds P (numbered s.calls j)) (sym (eqb-true k n e)) here
+  lookup_by P same k false e = ap (holds P) (changed_away reported n k s.calls (eqb-false k n e))
 
-  lookup : (P : Call → Bool) → ((c : Call) → P (told c) ≡ P c) → (k : ℕ) → holds P (numbered (changed told n s.calls) k) ≡ holds P (numbered s.calls k)
+  lookup : (P : Call → Bool) → ((c : Call) → P (reported c) ≡ P c) → (k : ℕ) → holds P (numbered (changed reported n s.calls) k) ≡ holds P (numbered s.calls k)
   lookup P same k = lookup_by P same k (k == n) refl
 
-  plan_told : (g : Call → CallPlan) → ((c : Call) → g (told c) ≡ g c) → (o : Option Call) → option_map_or g (option_map told o) plan.None ≡ option_map_or g o plan.None
-  plan_told g same None = refl
-  plan_told g same (Some c) = same c
+  plan_reported : (g : Call → CallPlan) → ((c : Call) → g (reported c) ≡ g c) → (o : Option Call) → option_map_or g (option_map reported o) plan.None ≡ option_map_or g o plan.None
+  plan_reported g same None = refl
+  plan_reported g same (Some c) = same c
 
-  plan_by : (g : Call → CallPlan) → ((c : Call) → g (told c) ≡ g c) → (k : ℕ) (x : Bool) → (k == n) ≡ x
-      → option_map_or g (numbered (changed told n s.calls) k) plan.None ≡ option_map_or g (numbered s.calls k) plan.None
+  plan_by : (g : Call → CallPlan) → ((c : Call) → g (reported c) ≡ g c) → (k : ℕ) (x : Bool) → (k == n) ≡ x
+      → option_map_or g (numbered (changed reported n s.calls) k) plan.None ≡ option_map_or g (numbered s.calls k) plan.None
   plan_by g same k true e =
-      let here : option_map_or g (numbered (changed told n s.calls) n) plan.None ≡ option_map_or g (numbered s.calls n) plan.None
-      = ap (λ (o : Option Call). option_map_or g o plan.None) (changed_map_by told n s.calls (numbered s.calls n) refl) ∙ plan_told g same (numbered s.calls n) in
-      subst (λ (j : ℕ). option_map_or g (numbered (changed told n s.calls) j) plan.None ≡ option_map_or g (numbered s.calls j) plan.None) (sym (eqb-true k n e)) here
-  plan_by g same k false e = ap (λ (o : Option Call). option_map_or g o plan.None) (changed_away told n k s.calls (eqb-false k n e))
+      let here : option_map_or g (numbered (changed reported n s.calls) n) plan.None ≡ option_map_or g (numbered s.calls n) plan.None
+      = ap (λ (o : Option Call). option_map_or g o plan.None) (changed_map_by reported n s.calls (numbered s.calls n) refl) ∙ plan_reported g same (numbered s.calls n) in
+      subst (λ (j : ℕ). option_map_or g (numbered (changed reported n s.calls) j) plan.None ≡ option_map_or g (numbered s.calls j) plan.None) (sym (eqb-true k n e)) here
+  plan_by g same k false e = ap (λ (o : Option Call). option_map_or g o plan.None) (changed_away reported n k s.calls (eqb-false k n e))
 
   -- which ends count
   pub wants_same : (a : Attempt) (e : RowEnd) → wants_follower_by a then_seen e ≡ wants_follower_by a s e
@@ -131,34 +131,34 @@ module _ (s : Seen) (n : ℕ) (messages : Call → List (List ℕ)) (finished : 
   live_same_by open_still c = ap (map live_row) (filter_same (is_live then_seen c) (is_live s c) (live_one open_still c) s.attempts)
 
   -- when the next attempt is due
-  plan_same : (c : Call) (a : Attempt) (d : DueState) (e : RowEnd) (p : CallPlan) → due_by_plan p (told c) a then_seen d e ≡ due_by_plan p c a s d e
+  plan_same : (c : Call) (a : Attempt) (d : DueState) (e : RowEnd) (p : CallPlan) → due_by_plan p (reported c) a then_seen d e ≡ due_by_plan p c a s d e
   plan_same c a d e plan.None = refl
   plan_same c a d e (plan.Retry p) =
       ap (λ (k : ℕ). record d { forced = (if is_licensed c a.row.number e.code e.pushback e.tokens s then Some (retry_due p (a.row.number - k) e) else None) })
       (delayed_same c a.row.number)
   plan_same c a d e (plan.Hedge p) = refl
 
-  pub end_same : (c : Call) (d : DueState) (a : Attempt) (e : RowEnd) → due_after_end (told c) then_seen d a e ≡ due_after_end c s d a e
+  pub end_same : (c : Call) (d : DueState) (a : Attempt) (e : RowEnd) → due_after_end (reported c) then_seen d a e ≡ due_after_end c s d a e
   end_same c d a e =
-      ap (λ (x : Bool). if (not d.stopped && x) && has_code (codes_of (plan_of c s)) e.code then due_by_plan (plan_of c s) (told c) a then_seen d e else d) (counts_same a e)
+      ap (λ (x : Bool). if (not d.stopped && x) && has_code (codes_of (plan_of c s)) e.code then due_by_plan (plan_of c s) (reported c) a then_seen d e else d) (counts_same a e)
       ∙ ap (λ (y : DueState). if (not d.stopped && counts_by a s e) && has_code (codes_of (plan_of c s)) e.code then y else d) (plan_same c a d e (plan_of c s))
 
-  mark_same : (c : Call) (w : MarkKind) (moment : ℕ) (d : DueState) → due_after_mark (told c) then_seen w moment d ≡ due_after_mark c s w moment d
+  mark_same : (c : Call) (w : MarkKind) (moment : ℕ) (d : DueState) → due_after_mark (reported c) then_seen w moment d ≡ due_after_mark c s w moment d
   mark_same c mark.Configured moment d = refl
   mark_same c (mark.Made row) moment d = refl
   mark_same c (mark.Placed row) moment d = refl
   mark_same c (mark.Ended row) moment d =
-      or_same (λ (a : Attempt). option_map_or (due_after_end (told c) then_seen d a) a.row.ended d) (λ (a : Attempt). option_map_or (due_after_end c s d a) a.row.ended d) d
-      (λ a. or_same (due_after_end (told c) then_seen d a) (due_after_end c s d a) d (end_same c d a) a.row.ended) (numbered s.attempts row)
+      or_same (λ (a : Attempt). option_map_or (due_after_end (reported c) then_seen d a) a.row.ended d) (λ (a : Attempt). option_map_or (due_after_end c s d a) a.row.ended d) d
+      (λ a. or_same (due_after_end (reported c) then_seen d a) (due_after_end c s d a) d (end_same c d a) a.row.ended) (numbered s.attempts row)
   mark_same c mark.Withheld moment d = refl
   mark_same c mark.Committed moment d = refl
   mark_same c mark.Closed moment d = refl
 
   pub due_same : (c : Call) (d : DueState) (list : List Mark)
-      → fold (λ (d : DueState) (m : Mark). due_after_mark (told c) then_seen m.what m.moment d) d list ≡ fold (λ (d : DueState) (m : Mark). due_after_mark c s m.what m.moment d) d list
+      → fold (λ (d : DueState) (m : Mark). due_after_mark (reported c) then_seen m.what m.moment d) d list ≡ fold (λ (d : DueState) (m : Mark). due_after_mark c s m.what m.moment d) d list
   due_same c d [] = refl
   due_same c d (m ∷ list) =
-      ap (λ (z : DueState). fold (λ (d : DueState) (m : Mark). due_after_mark (told c) then_seen m.what m.moment d) z list) (mark_same c m.what m.moment d)
+      ap (λ (z : DueState). fold (λ (d : DueState) (m : Mark). due_after_mark (reported c) then_seen m.what m.moment d) z list) (mark_same c m.what m.moment d)
       ∙ due_same c (due_after_mark c s m.what m.moment d) list
 
   row_same : (w : MarkKind) → counted_row then_seen w ≡ counted_row s w
@@ -190,9 +190,9 @@ module _ (s : Seen) (n : ℕ) (messages : Call → List (List ℕ)) (finished : 
       ap (λ (k : ℕ). fold (λ (j at : ℕ). tokens_by run then_seen j (numbered s.attempts at)) k places) (tokens_one run count (numbered s.attempts place))
       ∙ tokens_all run (tokens_by run s count (numbered s.attempts place)) places
 
-  pub bucket_told : (o : Option ThrottleRun) → option_map (bucket_of then_seen) o ≡ option_map (bucket_of s) o
-  bucket_told None = refl
-  bucket_told (Some run) =
+  pub bucket_reported : (o : Option ThrottleRun) → option_map (bucket_of then_seen) o ≡ option_map (bucket_of s) o
+  bucket_reported None = refl
+  bucket_reported (Some run) =
       ap (λ (k : ℕ). Some (bucket_by run k)) (tokens_all run run.throttle.start run.ends)
 
 -- which rows are live, where it does not end

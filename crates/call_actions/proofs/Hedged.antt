@@ -10,12 +10,12 @@ use Rattle.attempt_ledger.specs.Throttling.{codes_of}
 use Rattle.attempt_ledger.specs.declared.row.RowEnd.{RowEnd}
 use Rattle.call_actions.proofs.Ends.Frames as ending
 use Rattle.call_actions.proofs.Ends.Frames.{AreLike, with_end_at}
-use Rattle.call_actions.proofs.Ending.{KeepsRest, after, base, channel_is, count_then, d, due_then, e, ends, is_ended, its_call, its_end, judges, lent_then, like_then, marks_then, order_then, rest_is, runs, sees_then, t, tokens_end, told}
+use Rattle.call_actions.proofs.Ending.{KeepsRest, after, base, channel_is, count_then, d, due_then, e, ends, is_ended, its_call, its_end, judges, lent_then, like_then, marks_then, order_then, rest_is, runs, sees_then, t, tokens_end, reported}
 use Rattle.call_actions.proofs.Judging.{above_is}
 use Rattle.call_actions.proofs.Dues.{plan_is}
 use Rattle.call_actions.specs.Laws.{HedgesGoOn, IsCounting, IsEnding, ends_alike, news_of}
 use Rattle.call_actions.specs.Order.{IsInOrder, IsInTurn, Keeps, is_retried}
-use Rattle.call_actions.specs.Sees.{AreDue, KeepsDelay, Sees, is_live, live_row}
+use Rattle.call_actions.specs.Sees.{DuesAgree, KeepsDelay, Sees, is_live, live_row}
 use Rattle.call_core.specs.Parts as parts
 use Rattle.call_core.specs.Parts.{has_none, hedge_after, judged, without}
 use Rattle.call_core.specs.Steps as steps
@@ -73,7 +73,7 @@ or_none true y e = absurd (cc)
 or_none false y e = refl
 
 module _ (end there : RowEnd) (same : end.moment ≡ there.moment) (m : DueState) (a : Attempts) (k : AreKnown m a) (allowed : Bool) where
-  going_by : (q : Pushback) → m.stopped ≡ false → AreDue (hedge_forced q allowed end m) (hedged q there allowed a)
+  going_by : (q : Pushback) → m.stopped ≡ false → DuesAgree (hedge_forced q allowed end m) (hedged q there allowed a)
   going_by pushback.Stop going = record {
     newest = k.newest;
     placed = k.placed;
@@ -93,7 +93,7 @@ module _ (end there : RowEnd) (same : end.moment ≡ there.moment) (m : DueState
     forced = λ z. ap (λ (moment : ℕ). Some moment) same;
   }
 
-  hedge_by : (q : Pushback) (b : Bool) → m.stopped ≡ b → AreDue (if not b && true && true then hedge_forced q allowed end m else m) (hedged q there allowed a)
+  hedge_by : (q : Pushback) (b : Bool) → m.stopped ≡ b → DuesAgree (if not b && true && true then hedge_forced q allowed end m else m) (hedged q there allowed a)
   hedge_by q false going = going_by q going
   hedge_by q true stopped =
       let over : (a.stopped || (false || is_stop q || (is_none (delay_of q) && not allowed))) ≡ true
@@ -130,7 +130,7 @@ module _ (s : Seen) (c : Call) (x : Stepped) (place : ℕ) (a : Attempt) (out : 
   there = its_end s c x place a out h o turn g n
 
   abbrev lent : Stepped
-  lent = told s c x place a out h o turn g n
+  lent = reported s c x place a out h o turn g n
 
   abbrev put : Attempt → Attempt
   put q = with_end_at place its q
@@ -197,10 +197,10 @@ module _ (s : Seen) (c : Call) (x : Stepped) (place : ℕ) (a : Attempt) (out : 
   pub attempts_are : by_plan.attempts ≡ hedged out.pushback there (parts.is_above lent.tokens) known
   attempts_are = ap hedged_if says
 
-  pub due_now : AreDue (due_state (d s c x place a out h o turn g n) (t s c x place a out h o turn g n)) by_plan.attempts
+  pub due_now : DuesAgree (due_state (d s c x place a out h o turn g n) (t s c x place a out h o turn g n)) by_plan.attempts
   due_now =
-      subst (λ (z : DueState). AreDue z by_plan.attempts) (sym due_is)
-      (subst (λ (z : Attempts). AreDue (if not m.stopped && true && true then hedge_forced out.pushback (parts.is_above lent.tokens) its m else m) z) (sym attempts_are)
+      subst (λ (z : DueState). DuesAgree z by_plan.attempts) (sym due_is)
+      (subst (λ (z : Attempts). DuesAgree (if not m.stopped && true && true then hedge_forced out.pushback (parts.is_above lent.tokens) its m else m) z) (sym attempts_are)
       (hedge_by its there refl m known knows (parts.is_above lent.tokens) out.pushback m.stopped refl))
 
   keeps_not : (config : Option ℕ) → c.config ≡ config → KeepsDelay config (plan_of c s) → ⊥
@@ -215,7 +215,7 @@ module _ (s : Seen) (c : Call) (x : Stepped) (place : ℕ) (a : Attempt) (out : 
   sees_now : Sees (t s c x place a out h o turn g n) (d s c x place a out h o turn g n) (after s c x place a out h o turn g n)
   sees_now =
       sees_then s c x place a out h o turn g n (subst (λ (j : Judged). KeepsRest j.attempts known) (sym judged_is) kept)
-      (subst (λ (j : Judged). AreDue (due_state (d s c x place a out h o turn g n) (t s c x place a out h o turn g n)) j.attempts) (sym judged_is) due_now)
+      (subst (λ (j : Judged). DuesAgree (due_state (d s c x place a out h o turn g n) (t s c x place a out h o turn g n)) j.attempts) (sym judged_is) due_now)
       (λ keeps. absurd (keeps_not c.config refl keeps))
       (word_same ∙ ap (λ (j : Judged). j.word) (sym judged_is))
 

@@ -9,12 +9,12 @@ use Rattle.attempt_ledger.specs.declared.row.RowEnd.{RowEnd}
 use Rattle.call_actions.proofs.Ends.Frames as ending
 use Rattle.call_actions.proofs.Ends.Frames.{ended_by, with_end_at}
 use Rattle.call_actions.proofs.Ends.Rows as endrows
-use Rattle.call_actions.proofs.Ending.{after, d, e, ends, is_ended, its_end, rest_is, runs, t, told}
+use Rattle.call_actions.proofs.Ending.{after, d, e, ends, is_ended, its_end, rest_is, runs, t, reported}
 use Rattle.call_actions.proofs.Hedged as hedged
 use Rattle.call_actions.proofs.Lists.{changed_here, filter_none, numbered_not}
 use Rattle.call_actions.specs.Laws.{IsCounting, IsEnding, LastHedgesClose, news_of}
 use Rattle.call_actions.specs.Order.{IsInOrder, IsInTurn, Keeps, is_beyond}
-use Rattle.call_actions.specs.Sees.{AreDue, Sees, is_live, live_row}
+use Rattle.call_actions.specs.Sees.{DuesAgree, Sees, is_live, live_row}
 use Rattle.call_core.specs.Parts as parts
 use Rattle.call_core.specs.Parts.{committed_attempts, from_one, has_none, judged, lasted_attempts, retry_after, stopped_attempts, without}
 use Rattle.call_core.specs.Steps as steps
@@ -71,7 +71,7 @@ module _ (s : Seen) (c : Call) (x : Stepped) (place : ℕ) (a : Attempt) (out : 
   there = its_end s c x place a out h o turn g n
 
   abbrev lent : Stepped
-  lent = told s c x place a out h o turn g n
+  lent = reported s c x place a out h o turn g n
 
   abbrev known : Attempts
   known = x.call.attempts
@@ -129,7 +129,7 @@ module _ (s : Seen) (c : Call) (x : Stepped) (place : ℕ) (a : Attempt) (out : 
   forced_is : judge.attempts.forced ≡ Some moment
   forced_is = ap (λ (b : Bool). if b then Some moment else known.forced) says
 
-  due_judged : AreDue later judge.attempts
+  due_judged : DuesAgree later judge.attempts
   due_judged = hedged.due_now s c x place a out p h o turn g n free hp says
 
   final_by : parts.is_final (hedging.next_of (hedging.next_due p (parts.hedge_after p known there (parts.is_above lent.tokens)))) ≡ true

@@ -7,7 +7,7 @@ use Rattle.attempt_ledger.specs.Ends.{delay_of}
 use Rattle.attempt_ledger.specs.declared.next.Next.{Next}
 use Rattle.attempt_ledger.specs.declared.next.Next.TheVariants as next
 use Rattle.attempt_ledger.specs.declared.row.RowEnd.{RowEnd}
-use Rattle.call_actions.proofs.Ending.{count_then, e, its_end, judges, lent_then, tokens_end, told}
+use Rattle.call_actions.proofs.Ending.{count_then, e, its_end, judges, lent_then, tokens_end, reported}
 use Rattle.call_actions.proofs.Judging.{above_is}
 use Rattle.call_actions.proofs.Lists.{numbered_not}
 use Rattle.call_actions.proofs.Dues.{plan_is}
@@ -51,7 +51,7 @@ module _ (s : Seen) (c : Call) (x : Stepped) (place : ℕ) (a : Attempt) (out : 
   there = its_end s c x place a out h o turn g n
 
   abbrev lent : Stepped
-  lent = told s c x place a out h o turn g n
+  lent = reported s c x place a out h o turn g n
 
   abbrev known : Attempts
   known = x.call.attempts

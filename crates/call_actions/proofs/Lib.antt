@@ -1,6 +1,6 @@
 pub mod Added
 pub mod Again
-pub mod Bare
+pub mod Unconfigured
 pub mod Begun
 pub mod CallsApart
 pub mod CallsInTurn
@@ -33,6 +33,6 @@ pub mod ReadsInOrder
 pub mod Retried
 pub mod TakeActions
 pub mod TakesApart
-pub mod Told
+pub mod Report
 pub mod Transparent
 pub mod Uncounted

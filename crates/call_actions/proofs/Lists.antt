@@ -86,35 +86,35 @@ numbered_last xs x =
 
 -- where none passes a wider test
 pub filter_none : {X : Type 0} (test wide : X → Bool) → ((x : X) → wide x ≡ false → test x ≡ false) → (xs : List X) → list_any wide xs ≡ false → filter test xs ≡ []
-filter_none test wide narrow [] e = refl
-filter_none test wide narrow (x ∷ xs) e =
+filter_none test wide restricted [] e = refl
+filter_none test wide restricted (x ∷ xs) e =
     let parts : (wide x ≡ false) × (list_any wide xs ≡ false) = or_parts (wide x) (list_any wide xs) e in
-    ap (λ (b : Bool). cond b (x ∷ filter test xs) (filter test xs)) (narrow x parts.0) ∙ filter_none test wide narrow xs parts.1
+    ap (λ (b : Bool). cond b (x ∷ filter test xs) (filter test xs)) (restricted x parts.0) ∙ filter_none test wide restricted xs parts.1
 
 pub any_none : {X : Type 0} (test wide : X → Bool) → ((x : X) → wide x ≡ false → test x ≡ false) → (xs : List X) → list_any wide xs ≡ false → list_any test xs ≡ false
-any_none test wide narrow [] e = refl
-any_none test wide narrow (x ∷ xs) e =
+any_none test wide restricted [] e = refl
+any_none test wide restricted (x ∷ xs) e =
     let parts : (wide x ≡ false) × (list_any wide xs ≡ false) = or_parts (wide x) (list_any wide xs) e in
-    ap (λ (b : Bool). b || list_any test xs) (narrow x parts.0) ∙ any_none test wide narrow xs parts.1
+    ap (λ (b : Bool). b || list_any test xs) (restricted x parts.0) ∙ any_none test wide restricted xs parts.1
 
 pub last_none : {X : Type 0} (test wide : X → Bool) → ((x : X) → wide x ≡ false → test x ≡ false) → (xs : List X) → list_any wide xs ≡ false → find_last test xs ≡ None
-last_none test wide narrow [] e = refl
-last_none test wide narrow (x ∷ xs) e =
+last_none test wide restricted [] e = refl
+last_none test wide restricted (x ∷ xs) e =
     let parts : (wide x ≡ false) × (list_any wide xs ≡ false) = or_parts (wide x) (list_any wide xs) e in
-    ap (λ (o : Option _). option_or o (if test x then Some x else None)) (last_none test wide narrow xs parts.1)
-    ∙ ap (λ (b : Bool). if b then Some x else None) (narrow x parts.0)
+    ap (λ (o : Option _). option_or o (if test x then Some x else None)) (last_none test wide restricted xs parts.1)
+    ∙ ap (λ (b : Bool). if b then Some x else None) (restricted x parts.0)
 
 count_from : {X : Type 0} (test wide : X → Bool) → ((x : X) → wide x ≡ false → test x ≡ false) → (k : ℕ) (xs : List X) → list_any wide xs ≡ false
     → fold (λ n x. n + cond (test x) 1 0) k xs ≡ k
-count_from test wide narrow k [] e = refl
-count_from test wide narrow k (x ∷ xs) e =
+count_from test wide restricted k [] e = refl
+count_from test wide restricted k (x ∷ xs) e =
     let parts : (wide x ≡ false) × (list_any wide xs ≡ false) = or_parts (wide x) (list_any wide xs) e in
     let same : k + 0 ≡ k = omega arith in
-    ap (λ (b : Bool). fold (λ n y. n + cond (test y) 1 0) (k + cond b 1 0) xs) (narrow x parts.0)
-    ∙ ap (λ (j : ℕ). fold (λ n y. n + cond (test y) 1 0) j xs) same ∙ count_from test wide narrow k xs parts.1
+    ap (λ (b : Bool). fold (λ n y. n + cond (test y) 1 0) (k + cond b 1 0) xs) (restricted x parts.0)
+    ∙ ap (λ (j : ℕ). fold (λ n y. n + cond (test y) 1 0) j xs) same ∙ count_from test wide restricted k xs parts.1
 
 pub count_none : {X : Type 0} (test wide : X → Bool) → ((x : X) → wide x ≡ false → test x ≡ false) → (xs : List X) → list_any wide xs ≡ false → count_by test xs ≡ 0
-count_none test wide narrow xs e = count_from test wide narrow 0 xs e
+count_none test wide restricted xs e = count_from test wide restricted 0 xs e
 
 -- where none of a list passes a test, the thing of no number does
 passes_not : {X : Type 0} (test : X → Bool) (xs : List X) (i : ℕ) (a : X) → list_any test xs ≡ false → slice_get xs i ≡ Some a → test a ≡ false

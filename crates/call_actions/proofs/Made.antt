@@ -19,16 +19,16 @@ use Rattle.attempt_ledger.specs.declared.row.RowEnd.{RowEnd}
 use Rattle.attempt_ledger.specs.declared.row.RowKind.{RowKind}
 use Rattle.attempt_ledger.specs.declared.row.RowKind.TheVariants as kind
 use Rattle.call_actions.proofs.Added.{Adds, Leaves, bucket_more, commitment_same, counted_rows_same, delayed_same, due_same, leaves, live_more, more_seen, own_same, retried_same}
-use Rattle.call_actions.proofs.Bare.{some_still}
+use Rattle.call_actions.proofs.Unconfigured.{some_still}
 use Rattle.call_actions.proofs.Dues.{attempts_are_due, hedges_are_tested, one_by, plan_is}
 use Rattle.call_actions.proofs.Frames as frames
 use Rattle.call_actions.proofs.Lists.{any_none, changed_here, numbered_last, stamped_here}
 use Rattle.call_actions.proofs.Places.{numbered_snoc}
 use Rattle.call_actions.proofs.Ranks.{all_so, filter_where}
-use Rattle.call_actions.proofs.Told.{fold_last}
+use Rattle.call_actions.proofs.Report.{fold_last}
 use Rattle.call_actions.specs.Laws.{AttemptsAreMade, HedgesAreRefused, NoneIsMade}
 use Rattle.call_actions.specs.Order.{IsInOrder, Keeps, is_beyond, is_own_mark}
-use Rattle.call_actions.specs.Sees.{AreAttempts, AreDue, Sees, is_live, live_rows}
+use Rattle.call_actions.specs.Sees.{AttemptsAgree, DuesAgree, Sees, is_live, live_rows}
 use Rattle.call_core.specs.Parts as parts
 use Rattle.call_core.specs.Parts.{is_above, is_tested, made_attempts}
 use Rattle.call_core.specs.Steps as steps
@@ -227,14 +227,14 @@ module _ (s : Seen) (c : Call) (x : Stepped) (due : ℕ) (h : Sees s c x) (o : I
       frames.delayed_same more c.number (λ k. k.messages) (λ k. k.finished) (λ k. k.taken) (λ k. k.end_taken) (λ k. k.marks ++ w ∷ []) (λ k. k.end) now_open c sent_now
       ∙ delayed_same s c new (is_beyond s c) left sent_now ∙ delayed_within s c o.numbers sent_now x.call.attempts.sent one two
 
-  attempts_now : AreAttempts t d (made_attempts (next_place x.ledger) x.call.attempts)
+  attempts_now : AttemptsAgree t d (made_attempts (next_place x.ledger) x.call.attempts)
   attempts_now =
-      let a : AreAttempts s c x.call.attempts = h.attempts in
-      let due_is : AreDue (record (due_state c s) { newest = Some (length s.attempts + 1); placed = None; forced = None }) (made_attempts (next_place x.ledger) x.call.attempts)
+      let a : AttemptsAgree s c x.call.attempts = h.attempts in
+      let due_is : DuesAgree (record (due_state c s) { newest = Some (length s.attempts + 1); placed = None; forced = None }) (made_attempts (next_place x.ledger) x.call.attempts)
       = record { newest = ap (λ (n : ℕ). Some n) (sym last_place); placed = refl; stopped = a.due.stopped; forced = λ e. refl } in
       record {
         sent = made_now ∙ sym sent_same;
-        due = subst (λ (z : DueState). AreDue z (made_attempts (next_place x.ledger) x.call.attempts)) (sym due_now) due_is;
+        due = subst (λ (z : DueState). DuesAgree z (made_attempts (next_place x.ledger) x.call.attempts)) (sym due_now) due_is;
         unplaced = λ e. refl;
         delayed = λ keeps free. delayed_now ∙ a.delayed keeps free;
         last = λ free. rows_now ∙ a.last free;
@@ -291,7 +291,7 @@ module _ (s : Seen) (c : Call) (x : Stepped) (due : ℕ) (h : Sees s c x) (o : I
     ended = h.ended;
     attempts = attempts_now;
     live = live_now;
-    tokens = frames.bucket_told more c.number (λ k. k.messages) (λ k. k.finished) (λ k. k.taken) (λ k. k.end_taken) (λ k. k.marks ++ w ∷ []) (λ k. k.end) now_open (run_of c s)
+    tokens = frames.bucket_reported more c.number (λ k. k.messages) (λ k. k.finished) (λ k. k.taken) (λ k. k.end_taken) (λ k. k.marks ++ w ∷ []) (λ k. k.end) now_open (run_of c s)
         ∙ bucket_more s c new (is_beyond s c) left (run_of c s) ∙ h.tokens;
     entry_is = ap (λ (b : Bool). length s.entries + (if b then 1 else 0)) (some_still (λ (q : OpenEntry). record q { turn = None }) s.current) ∙ h.entry_is;
     rows = map-append (λ (a : Attempt). a.row) s.attempts (new ∷ []) ∙ ap (λ (l : List Row). l ++ new.row ∷ []) h.rows ∙ ap (λ (r : Row). x.ledger.rows ++ r ∷ []) row_now;

@@ -4,7 +4,7 @@ use Rattle.std.proofs.lemmas.Bool.{and_left, and_right, eq-eqb, le-ltb, lt-ltb, 
 use Rattle.std.specs.List.{list_any}
 use Rattle.std.specs.Option.{option_map_or}
 use Rattle.attempt_ledger.specs.declared.row.Row.{Row}
-use Rattle.call_actions.specs.Order.{AreNumbered}
+use Rattle.call_actions.specs.Order.{AttemptsAreNumbered}
 use Rattle.call_actions.specs.Sees.{live_row}
 use Rattle.call_core.specs.Parts.{find_live}
 use Rattle.ledger_stamps.specs.Steps as stamps
@@ -13,19 +13,19 @@ use Rattle.session_actions.specs.Words.{changed, changed_if, numbered}
 use Rattle.session_actions.specs.declared.attempt.Attempt.{Attempt}
 
 -- one more
-pub numbered_snoc : (k : ℕ) (xs : List Attempt) (y : Attempt) → AreNumbered k xs → y.place ≡ k + length xs → AreNumbered k (xs ++ y ∷ [])
+pub numbered_snoc : (k : ℕ) (xs : List Attempt) (y : Attempt) → AttemptsAreNumbered k xs → y.place ≡ k + length xs → AttemptsAreNumbered k (xs ++ y ∷ [])
 numbered_snoc k [] y p e = let at : y.place ≡ k = omega arith in (at, tt)
 numbered_snoc k (x ∷ xs) y p e =
     let next : y.place ≡ suc k + length xs = omega arith in
     (p.0, numbered_snoc (suc k) xs y p.1 next)
 
 -- each changed, and none moved
-pub numbered_written : (g : Attempt → Attempt) → ((q : Attempt) → (g q).place ≡ q.place) → (k : ℕ) (xs : List Attempt) → AreNumbered k xs → AreNumbered k (map g xs)
+pub numbered_written : (g : Attempt → Attempt) → ((q : Attempt) → (g q).place ≡ q.place) → (k : ℕ) (xs : List Attempt) → AttemptsAreNumbered k xs → AttemptsAreNumbered k (map g xs)
 numbered_written g same k [] p = tt
 numbered_written g same k (x ∷ xs) p = (same x ∙ p.0, numbered_written g same (suc k) xs p.1)
 
--- none stands behind it
-pub none_later : (a : Attempt) (k : ℕ) (xs : List Attempt) → AreNumbered k xs → k + length xs ≤ a.place → list_any (is_later_of a) xs ≡ false
+-- none stands after it
+pub none_later : (a : Attempt) (k : ℕ) (xs : List Attempt) → AttemptsAreNumbered k xs → k + length xs ≤ a.place → list_any (is_later_of a) xs ≡ false
 none_later a k [] p e = refl
 none_later a k (x ∷ xs) p e =
     let at : x.place ≡ k = p.0 in
@@ -37,7 +37,7 @@ none_later a k (x ∷ xs) p e =
 
 -- one of them changed: the others stay
 module _ (f h : Attempt → Attempt) (n : ℕ) (a : Attempt) (here : h a ≡ f a) (away : (q : Attempt) → (q.place ≡ n → ⊥) → h q ≡ q) where
-  none_there : (k : ℕ) (xs : List Attempt) → AreNumbered k xs → n < k → map h xs ≡ xs
+  none_there : (k : ℕ) (xs : List Attempt) → AttemptsAreNumbered k xs → n < k → map h xs ≡ xs
   none_there k [] p e = refl
   none_there k (x ∷ xs) p e =
       let at : x.place ≡ k = p.0 in
@@ -45,7 +45,7 @@ module _ (f h : Attempt → Attempt) (n : ℕ) (a : Attempt) (here : h a ≡ f a
       let rest : n < suc k = omega arith in
       ap (λ (z : Attempt). z ∷ map h xs) (away x off) ∙ ap (λ (l : List Attempt). x ∷ l) (none_there (suc k) xs p.1 rest)
 
-  changed_from : (k i : ℕ) (xs : List Attempt) → AreNumbered k xs → k + i ≡ n → slice_get xs i ≡ Some a → slice_set xs i (f a) ≡ map h xs
+  changed_from : (k i : ℕ) (xs : List Attempt) → AttemptsAreNumbered k xs → k + i ≡ n → slice_get xs i ≡ Some a → slice_set xs i (f a) ≡ map h xs
   changed_from k i [] p e got = absurd (cc)
   changed_from k zero (x ∷ xs) p e got =
       let one : x ≡ a = (cc) in
@@ -57,18 +57,18 @@ module _ (f h : Attempt → Attempt) (n : ℕ) (a : Attempt) (here : h a ≡ f a
       let next : suc k + i ≡ n = omega arith in
       ap (λ (z : Attempt). z ∷ slice_set xs i (f a)) (sym (away x off)) ∙ ap (λ (l : List Attempt). h x ∷ l) (changed_from (suc k) i xs p.1 next got)
 
-  changed_by : (m : ℕ) (xs : List Attempt) → AreNumbered 1 xs → m ≡ n → numbered xs m ≡ Some a → changed f m xs ≡ map h xs
+  changed_by : (m : ℕ) (xs : List Attempt) → AttemptsAreNumbered 1 xs → m ≡ n → numbered xs m ≡ Some a → changed f m xs ≡ map h xs
   changed_by zero xs p e got = absurd (cc)
   changed_by (suc i) xs p e got =
       let at : 1 + i ≡ n = omega arith in
       ap (changed_if f (suc i) xs) got ∙ changed_from 1 i xs p at got
 
-  pub changed_is : (xs : List Attempt) → AreNumbered 1 xs → numbered xs n ≡ Some a → changed f n xs ≡ map h xs
+  pub changed_is : (xs : List Attempt) → AttemptsAreNumbered 1 xs → numbered xs n ≡ Some a → changed f n xs ≡ map h xs
   changed_is xs p got = changed_by n xs p refl got
 
   -- the rows of the ledger
   module _ (g : Row → Row) (row_here : (h a).row ≡ g a.row) where
-    rows_from : (k i : ℕ) (xs : List Attempt) → AreNumbered k xs → k + i ≡ n → slice_get xs i ≡ Some a
+    rows_from : (k i : ℕ) (xs : List Attempt) → AttemptsAreNumbered k xs → k + i ≡ n → slice_get xs i ≡ Some a
         → stamps.changed g (map (λ (q : Attempt). q.row) xs) i ≡ map (λ (q : Attempt). q.row) (map h xs)
     rows_from k i [] p e got = absurd (cc)
     rows_from k zero (x ∷ xs) p e got =
@@ -89,7 +89,7 @@ module _ (f h : Attempt → Attempt) (n : ℕ) (a : Attempt) (here : h a ≡ f a
     within (x ∷ xs) zero got = omega arith
     within (x ∷ xs) (suc i) got = let next : i < length (map (λ (q : Attempt). q.row) xs) = within xs i got in omega arith
 
-    rows_by : (m : ℕ) (xs : List Attempt) → AreNumbered 1 xs → m ≡ n → numbered xs m ≡ Some a
+    rows_by : (m : ℕ) (xs : List Attempt) → AttemptsAreNumbered 1 xs → m ≡ n → numbered xs m ≡ Some a
         → stamps.changed_at g (map (λ (q : Attempt). q.row) xs) m ≡ map (λ (q : Attempt). q.row) (map h xs)
     rows_by zero xs p e got = absurd (cc)
     rows_by (suc i) xs p e got =
@@ -98,13 +98,13 @@ module _ (f h : Attempt → Attempt) (n : ℕ) (a : Attempt) (here : h a ≡ f a
         ap (λ (b : Bool). option_map_or (λ (index : ℕ). stamps.changed g rows index) (if b then Some i else None) rows)
         (lt-ltb i (length rows) (within xs i got)) ∙ rows_from 1 i xs p at got
 
-    pub rows_are : (xs : List Attempt) → AreNumbered 1 xs → numbered xs n ≡ Some a
+    pub rows_are : (xs : List Attempt) → AttemptsAreNumbered 1 xs → numbered xs n ≡ Some a
         → stamps.changed_at g (map (λ (q : Attempt). q.row) xs) n ≡ map (λ (q : Attempt). q.row) (map h xs)
     rows_are xs p got = rows_by n xs p refl got
 
 -- what does not hold of the one at a place holds of none that has this place
 module _ (test : Attempt → Bool) (n : ℕ) (a : Attempt) (not_it : test a ≡ false) where
-  none_past : (k : ℕ) (xs : List Attempt) → AreNumbered k xs → n < k → list_any (λ q. (q.place == n) && test q) xs ≡ false
+  none_past : (k : ℕ) (xs : List Attempt) → AttemptsAreNumbered k xs → n < k → list_any (λ q. (q.place == n) && test q) xs ≡ false
   none_past k [] p e = refl
   none_past k (x ∷ xs) p e =
       let at : x.place ≡ k = p.0 in
@@ -113,7 +113,7 @@ module _ (test : Attempt → Bool) (n : ℕ) (a : Attempt) (not_it : test a ≡ 
       or_from ((x.place == n) && test x) (list_any (λ q. (q.place == n) && test q) xs) (and_left (x.place == n) (test x) (ne_eqb x.place n off))
       (none_past (suc k) xs p.1 rest)
 
-  only_from : (k i : ℕ) (xs : List Attempt) → AreNumbered k xs → k + i ≡ n → slice_get xs i ≡ Some a → list_any (λ q. (q.place == n) && test q) xs ≡ false
+  only_from : (k i : ℕ) (xs : List Attempt) → AttemptsAreNumbered k xs → k + i ≡ n → slice_get xs i ≡ Some a → list_any (λ q. (q.place == n) && test q) xs ≡ false
   only_from k i [] p e got = refl
   only_from k zero (x ∷ xs) p e got =
       let one : x ≡ a = (cc) in
@@ -127,15 +127,15 @@ module _ (test : Attempt → Bool) (n : ℕ) (a : Attempt) (not_it : test a ≡ 
       or_from ((x.place == n) && test x) (list_any (λ q. (q.place == n) && test q) xs) (and_left (x.place == n) (test x) (ne_eqb x.place n off))
       (only_from (suc k) i xs p.1 next got)
 
-  only_by : (m : ℕ) (xs : List Attempt) → AreNumbered 1 xs → m ≡ n → numbered xs m ≡ Some a → list_any (λ q. (q.place == n) && test q) xs ≡ false
+  only_by : (m : ℕ) (xs : List Attempt) → AttemptsAreNumbered 1 xs → m ≡ n → numbered xs m ≡ Some a → list_any (λ q. (q.place == n) && test q) xs ≡ false
   only_by zero xs p e got = absurd (cc)
   only_by (suc i) xs p e got = let at : 1 + i ≡ n = omega arith in only_from 1 i xs p at got
 
-  pub only_here : (xs : List Attempt) → AreNumbered 1 xs → numbered xs n ≡ Some a → list_any (λ q. (q.place == n) && test q) xs ≡ false
+  pub only_here : (xs : List Attempt) → AttemptsAreNumbered 1 xs → numbered xs n ≡ Some a → list_any (λ q. (q.place == n) && test q) xs ≡ false
   only_here xs p got = only_by n xs p refl got
 
 -- it has this place
-place_from : (k i : ℕ) (xs : List Attempt) (a : Attempt) → AreNumbered k xs → slice_get xs i ≡ Some a → a.place ≡ k + i
+place_from : (k i : ℕ) (xs : List Attempt) (a : Attempt) → AttemptsAreNumbered k xs → slice_get xs i ≡ Some a → a.place ≡ k + i
 place_from k i [] a p got = absurd (cc)
 place_from k zero (x ∷ xs) a p got =
     let one : x ≡ a = (cc) in
@@ -143,7 +143,7 @@ place_from k zero (x ∷ xs) a p got =
     let same : a.place ≡ x.place = ap (λ (z : Attempt). z.place) (sym one) in omega arith
 place_from k (suc i) (x ∷ xs) a p got = let next : a.place ≡ suc k + i = place_from (suc k) i xs a p.1 got in omega arith
 
-pub place_is : (n : ℕ) (xs : List Attempt) (a : Attempt) → AreNumbered 1 xs → numbered xs n ≡ Some a → a.place ≡ n
+pub place_is : (n : ℕ) (xs : List Attempt) (a : Attempt) → AttemptsAreNumbered 1 xs → numbered xs n ≡ Some a → a.place ≡ n
 place_is zero xs a p got = absurd (cc)
 place_is (suc i) xs a p got = let at : a.place ≡ 1 + i = place_from 1 i xs a p got in omega arith
 
@@ -163,7 +163,7 @@ module _ (p : Attempt → Bool) (n : ℕ) (a : Attempt) (lives : p a ≡ true) w
   found_if x xs true off rest = ap (λ (b : Bool). if b then Some (live_row x) else find_live n (map live_row xs)) (ne_eqb x.place n off) ∙ rest
   found_if x xs false off rest = rest
 
-  found_from : (k i : ℕ) (xs : List Attempt) → AreNumbered k xs → k + i ≡ n → slice_get xs i ≡ Some a
+  found_from : (k i : ℕ) (xs : List Attempt) → AttemptsAreNumbered k xs → k + i ≡ n → slice_get xs i ≡ Some a
       → find_live n (map live_row (filter p xs)) ≡ Some (live_row a)
   found_from k i [] q e got = absurd (cc)
   found_from k zero (x ∷ xs) q e got =
@@ -179,9 +179,9 @@ module _ (p : Attempt → Bool) (n : ℕ) (a : Attempt) (lives : p a ≡ true) w
       let next : suc k + i ≡ n = omega arith in
       found_if x (filter p xs) (p x) off (found_from (suc k) i xs q.1 next got)
 
-  found_by : (m : ℕ) (xs : List Attempt) → AreNumbered 1 xs → m ≡ n → numbered xs m ≡ Some a → find_live n (map live_row (filter p xs)) ≡ Some (live_row a)
+  found_by : (m : ℕ) (xs : List Attempt) → AttemptsAreNumbered 1 xs → m ≡ n → numbered xs m ≡ Some a → find_live n (map live_row (filter p xs)) ≡ Some (live_row a)
   found_by zero xs q e got = absurd (cc)
   found_by (suc i) xs q e got = let at : 1 + i ≡ n = omega arith in found_from 1 i xs q at got
 
-  pub found_live : (xs : List Attempt) → AreNumbered 1 xs → numbered xs n ≡ Some a → find_live n (map live_row (filter p xs)) ≡ Some (live_row a)
+  pub found_live : (xs : List Attempt) → AttemptsAreNumbered 1 xs → numbered xs n ≡ Some a → find_live n (map live_row (filter p xs)) ≡ Some (live_row a)
   found_live xs q got = found_by n xs q refl got

@@ -19,10 +19,10 @@ use Rattle.call_actions.proofs.PlacedFrames as placing
 use Rattle.call_actions.proofs.PlacedFrames.{none_bad}
 use Rattle.call_actions.proofs.Places.{changed_is, found_live, numbered_written, only_here, place_is, rows_are}
 use Rattle.call_actions.proofs.Ranks.{all_so, any_map_all, filter_mapped, map_through, numbered_map}
-use Rattle.call_actions.proofs.Told.{fold_last}
+use Rattle.call_actions.proofs.Report.{fold_last}
 use Rattle.call_actions.specs.Laws.{AttemptsArePlaced}
 use Rattle.call_actions.specs.Order.{IsInOrder, Keeps, is_beyond, is_own_mark}
-use Rattle.call_actions.specs.Sees.{AreAttempts, AreDue, Sees, is_live, live_row, live_rows}
+use Rattle.call_actions.specs.Sees.{AttemptsAgree, DuesAgree, Sees, is_live, live_row, live_rows}
 use Rattle.call_core.specs.Parts.{begun_row, find_live, linked, names, placed_attempts}
 use Rattle.call_core.specs.Steps as steps
 use Rattle.call_core.specs.Steps.{Stepped, placed_if_live}
@@ -63,7 +63,7 @@ placed_at_if b moment d = if b then record d { placed = Some moment } else d
 abbrev placed_in : Bool → ℕ → Attempts → Attempts
 placed_in b moment a = record a { placed = (if b then Some moment else a.placed) }
 
-placed_due : (b : Bool) (moment : ℕ) (d : DueState) (a : Attempts) → AreDue d a → AreDue (placed_at_if b moment d) (placed_in b moment a)
+placed_due : (b : Bool) (moment : ℕ) (d : DueState) (a : Attempts) → DuesAgree d a → DuesAgree (placed_at_if b moment d) (placed_in b moment a)
 placed_due true moment d a due = record { newest = due.newest; placed = refl; stopped = due.stopped; forced = due.forced }
 placed_due false moment d a due = record { newest = due.newest; placed = due.placed; stopped = due.stopped; forced = due.forced }
 
@@ -150,21 +150,21 @@ module _ (s : Seen) (c : Call) (x : Stepped) (place : ℕ) (a : Attempt) (at : P
   newest_same : is_newest ≡ names place x.call.attempts.newest
   newest_same = names_is place (due_state c s).newest ∙ ap (names place) h.attempts.due.newest
 
-  due_is : AreDue (placed_at_if is_newest (now s) (due_state c s)) (placed_attempts place at.moment x.call.attempts)
+  due_is : DuesAgree (placed_at_if is_newest (now s) (due_state c s)) (placed_attempts place at.moment x.call.attempts)
   due_is =
-      subst (λ (n : ℕ). AreDue (placed_at_if is_newest (now s) (due_state c s)) (placed_attempts place n x.call.attempts)) (sym moment)
-      (subst (λ (b : Bool). AreDue (placed_at_if is_newest (now s) (due_state c s)) (placed_in b (now s) x.call.attempts)) newest_same
+      subst (λ (n : ℕ). DuesAgree (placed_at_if is_newest (now s) (due_state c s)) (placed_attempts place n x.call.attempts)) (sym moment)
+      (subst (λ (b : Bool). DuesAgree (placed_at_if is_newest (now s) (due_state c s)) (placed_in b (now s) x.call.attempts)) newest_same
       (placed_due is_newest (now s) (due_state c s) x.call.attempts h.attempts.due))
 
   none_newest : x.call.attempts.sent ≡ 0 → x.call.attempts.newest ≡ None
   none_newest e = sym h.attempts.due.newest ∙ o.first (h.attempts.sent ∙ e)
 
-  attempts_now : AreAttempts t d (placed_attempts place at.moment x.call.attempts)
+  attempts_now : AttemptsAgree t d (placed_attempts place at.moment x.call.attempts)
   attempts_now =
-      let k : AreAttempts s c x.call.attempts = h.attempts in
+      let k : AttemptsAgree s c x.call.attempts = h.attempts in
       record {
         sent = placing.made_same s pl c ∙ k.sent;
-        due = subst (λ (z : DueState). AreDue z (placed_attempts place at.moment x.call.attempts)) (sym due_now) due_is;
+        due = subst (λ (z : DueState). DuesAgree z (placed_attempts place at.moment x.call.attempts)) (sym due_now) due_is;
         unplaced = λ e. ap (λ (z : Option ℕ). if names place z then Some at.moment else x.call.attempts.placed) (none_newest e) ∙ k.unplaced e;
         delayed = λ keeps free.
             frames.delayed_same more c.number (λ k. k.messages) (λ k. k.finished) (λ k. k.taken) (λ k. k.end_taken) (λ k. k.marks ++ w ∷ []) (λ k. k.end) s.current c x.call.attempts.sent
@@ -255,7 +255,7 @@ module _ (s : Seen) (c : Call) (x : Stepped) (place : ℕ) (a : Attempt) (at : P
     ended = h.ended;
     attempts = attempts_now;
     live = live_now;
-    tokens = frames.bucket_told more c.number (λ k. k.messages) (λ k. k.finished) (λ k. k.taken) (λ k. k.end_taken) (λ k. k.marks ++ w ∷ []) (λ k. k.end) s.current (run_of c s)
+    tokens = frames.bucket_reported more c.number (λ k. k.messages) (λ k. k.finished) (λ k. k.taken) (λ k. k.end_taken) (λ k. k.marks ++ w ∷ []) (λ k. k.end) s.current (run_of c s)
         ∙ placing.bucket_same s pl (run_of c s) ∙ h.tokens;
     entry_is = h.entry_is;
     rows = sym (rows_are (with_placing at) g place a here away (stamps.placed_row at) row_here s.attempts o.places got)

@@ -13,14 +13,14 @@ use Rattle.attempt_ledger.specs.declared.row.RowEnd.{RowEnd}
 use Rattle.call_actions.proofs.Delays.{delayed_now, not_delayed}
 use Rattle.call_actions.proofs.Ends.Frames as ending
 use Rattle.call_actions.proofs.Ends.Frames.{AreLike, ended_by, with_end_at}
-use Rattle.call_actions.proofs.Ending.{KeepsRest, after, base, channel_is, count_then, counts_now, d, due_then, e, ends, free_then, is_ended, its_call, its_end, judges, lent_then, like_then, marks_then, order_then, runs, sees_then, t, tokens_end, told, unended, will}
+use Rattle.call_actions.proofs.Ending.{KeepsRest, after, base, channel_is, count_then, counts_now, d, due_then, e, ends, free_then, is_ended, its_call, its_end, judges, lent_then, like_then, marks_then, order_then, runs, sees_then, t, tokens_end, reported, unended, will}
 use Rattle.call_actions.proofs.Judging.{above_is}
 use Rattle.call_actions.proofs.Lists.{numbered_not}
 use Rattle.call_actions.proofs.Made.{delayed_within}
 use Rattle.call_actions.proofs.Dues.{plan_is}
 use Rattle.call_actions.specs.Laws.{IsCounting, IsEnding, RetriesAreSet, ends_alike, news_of}
 use Rattle.call_actions.specs.Order.{IsInOrder, IsInTurn, Keeps, goes_on_older, is_retried}
-use Rattle.call_actions.specs.Sees.{AreDue, KeepsDelay, Sees}
+use Rattle.call_actions.specs.Sees.{DuesAgree, KeepsDelay, Sees}
 use Rattle.call_core.specs.Parts as parts
 use Rattle.call_core.specs.Parts.{delayed_after, drawn, due_of, from_one, has_none, judged, retry_after, word_of}
 use Rattle.call_core.specs.Steps as steps
@@ -91,7 +91,7 @@ module _ (s : Seen) (c : Call) (x : Stepped) (place : ℕ) (a : Attempt) (out : 
   there = its_end s c x place a out h o turn g n
 
   abbrev lent : Stepped
-  lent = told s c x place a out h o turn g n
+  lent = reported s c x place a out h o turn g n
 
   abbrev put : Attempt → Attempt
   put q = with_end_at place its q
@@ -239,7 +239,7 @@ module _ (s : Seen) (c : Call) (x : Stepped) (place : ℕ) (a : Attempt) (out : 
   judged_is : judges s c x place a out h o turn g n ≡ by_plan
   judged_is = ap judged_on (sym (plan_is s c x h) ∙ rp)
 
-  due_by : (b : Bool) → m.stopped ≡ b → AreDue (if not b && true && true then record m { forced = forced } else m) by_plan.attempts
+  due_by : (b : Bool) → m.stopped ≡ b → DuesAgree (if not b && true && true then record m { forced = forced } else m) by_plan.attempts
   due_by true stopped =
       record {
         newest = like.newest ∙ h.attempts.due.newest;
@@ -255,8 +255,8 @@ module _ (s : Seen) (c : Call) (x : Stepped) (place : ℕ) (a : Attempt) (out : 
         forced = λ z. forced_is;
       }
 
-  due_now : AreDue (due_state (d s c x place a out h o turn g n) (t s c x place a out h o turn g n)) by_plan.attempts
-  due_now = subst (λ (z : DueState). AreDue z by_plan.attempts) (sym due_is) (due_by m.stopped refl)
+  due_now : DuesAgree (due_state (d s c x place a out h o turn g n) (t s c x place a out h o turn g n)) by_plan.attempts
+  due_now = subst (λ (z : DueState). DuesAgree z by_plan.attempts) (sym due_is) (due_by m.stopped refl)
 
   delayed_by : (q : Pushback) → out.pushback ≡ q → last_delayed c known.sent then_base ≡ delayed_after q (from_one number) known.delayed
   delayed_by pushback.None same =
@@ -283,7 +283,7 @@ module _ (s : Seen) (c : Call) (x : Stepped) (place : ℕ) (a : Attempt) (out : 
   sees_now : Sees (t s c x place a out h o turn g n) (d s c x place a out h o turn g n) (after s c x place a out h o turn g n)
   sees_now =
       sees_then s c x place a out h o turn g n (subst (λ (j : Judged). KeepsRest j.attempts known) (sym judged_is) kept)
-      (subst (λ (j : Judged). AreDue (due_state (d s c x place a out h o turn g n) (t s c x place a out h o turn g n)) j.attempts) (sym judged_is) due_now)
+      (subst (λ (j : Judged). DuesAgree (due_state (d s c x place a out h o turn g n) (t s c x place a out h o turn g n)) j.attempts) (sym judged_is) due_now)
       (λ keeps. delayed_by out.pushback refl ∙ ap (λ (j : Judged). j.attempts.delayed) (sym judged_is))
       (word_same ∙ ap (λ (j : Judged). j.word) (sym judged_is))
 

@@ -1,3 +1,3 @@
 pub mod Passed
-pub mod Heard
+pub mod Received
 pub mod Served

@@ -20,7 +20,7 @@ use Rattle.call_actions.proofs.Judging.{count_is}
 use Rattle.call_actions.proofs.Lists.{changed_here, numbered_not}
 use Rattle.call_actions.proofs.Ranks.{numbered_map}
 use Rattle.call_actions.specs.Order.{IsInOrder, IsInTurn, goes_on_followed}
-use Rattle.call_actions.specs.Sees.{AreAttempts, AreDue, Sees}
+use Rattle.call_actions.specs.Sees.{AttemptsAgree, DuesAgree, Sees}
 use Rattle.call_core.specs.Parts as parts
 use Rattle.call_core.specs.Parts.{without}
 use Rattle.call_core.specs.Steps.{Stepped}
@@ -139,12 +139,12 @@ module _ (s : Seen) (c : Call) (x : Stepped) (place : ℕ) (a : Attempt) (out : 
       (endrows.now_open s c x place a e s.runs h o ends own) c.marks
       ∙ ending.counted_rows_same s c place a e s.runs ends c.marks o.marks)
 
-  attempts_now : AreAttempts t d x.call.attempts
+  attempts_now : AttemptsAgree t d x.call.attempts
   attempts_now =
-      let k : AreAttempts s c x.call.attempts = h.attempts in
+      let k : AttemptsAgree s c x.call.attempts = h.attempts in
       record {
         sent = ending.made_same s c place a e s.runs ends ∙ k.sent;
-        due = subst (λ (z : DueState). AreDue z x.call.attempts) (sym due_is)
+        due = subst (λ (z : DueState). DuesAgree z x.call.attempts) (sym due_is)
             (record {
               newest = like.newest ∙ k.due.newest;
               placed = like.placed ∙ k.due.placed;
@@ -186,7 +186,7 @@ module _ (s : Seen) (c : Call) (x : Stepped) (place : ℕ) (a : Attempt) (out : 
     ended = h.ended;
     attempts = attempts_now;
     live = endrows.live_then s c x place a e s.runs h o ends own;
-    tokens = frames.bucket_told base c.number (λ k. k.messages) (λ k. k.finished) (λ k. k.taken) (λ k. k.end_taken) (λ k. k.marks ++ w ∷ []) (λ k. k.end)
+    tokens = frames.bucket_reported base c.number (λ k. k.messages) (λ k. k.finished) (λ k. k.taken) (λ k. k.end_taken) (λ k. k.marks ++ w ∷ []) (λ k. k.end)
         (endrows.now_open s c x place a e s.runs h o ends own) (run_of c s)
         ∙ bucket_stays s c place a e s.runs ends its_call (run_of c s) refl turn.counted ∙ h.tokens;
     entry_is = endrows.entry_then s c x place a e s.runs h o ends own;

@@ -55,7 +55,7 @@ use Rattle.session_actions.specs.declared.response.Outcome.{Outcome}
 use Rattle.session_actions.specs.declared.seen.Seen.{Seen}
 
 -- an open call without a configuration: nothing happened to it, and it has no attempt
-pub record IsBare (s : Seen) (c : Call) : Type 0 where
+pub record IsUnconfigured (s : Seen) (c : Call) : Type 0 where
   pub config : c.config ≡ None
   pub configured : c.configured ≡ None
   pub end : c.end ≡ None
@@ -69,7 +69,7 @@ begun_ledger ledger = record ledger { calls = ledger.calls ++ stamps.begun_call 
 pub record Begins (s : Seen) (request : RequestSeen) (ledger : Ledger) (acts : List CallAct) : Type 0 where
   pub call : Call
   pub sees : Sees (call_begun_by (event.Begin request) s) call (lent (new_call (length s.calls + 1) request (now s)) (begun_ledger ledger) None acts)
-  pub bare : IsBare (call_begun_by (event.Begin request) s) call
+  pub awaiting_config : IsUnconfigured (call_begun_by (event.Begin request) s) call
 
 abbrev pub CallsBegin : Type 0
 CallsBegin =
@@ -86,7 +86,7 @@ pub record Agrees (s : Seen) (number : ℕ) (x : Stepped) : Type 0 where
 -- the channel ends it
 abbrev pub CallsEnd : Type 0
 CallsEnd =
-    (s : Seen) (c : Call) (x : Stepped) (why : EndCause) → Sees s c x → IsBare s c
+    (s : Seen) (c : Call) (x : Stepped) (why : EndCause) → Sees s c x → IsUnconfigured s c
     → Agrees (call_ended c.number why s) c.number (steps.closed_by why (now s) x)
 
 -- it gets the config that is held, with the tokens of its run; where it was sent a message that this config does not allow, it ends at once
@@ -101,12 +101,12 @@ allows h c x = not (is_too_long (Some (chosen_for h.config c.request.path)) x.ca
 
 abbrev pub ConfigsCome : Type 0
 ConfigsCome =
-    (s : Seen) (c : Call) (x : Stepped) (h : HeldConfig) → Sees s c x → IsBare s c → held_config s ≡ Some h → allows h c x ≡ true
+    (s : Seen) (c : Call) (x : Stepped) (h : HeldConfig) → Sees s c x → IsUnconfigured s c → held_config s ≡ Some h → allows h c x ≡ true
     → Agrees (call_configured c.number (length s.configs) s) c.number (configured_by h c s x)
 
 abbrev pub LongMessagesEnd : Type 0
 LongMessagesEnd =
-    (s : Seen) (c : Call) (x : Stepped) (h : HeldConfig) → Sees s c x → IsBare s c → held_config s ≡ Some h → allows h c x ≡ false
+    (s : Seen) (c : Call) (x : Stepped) (h : HeldConfig) → Sees s c x → IsUnconfigured s c → held_config s ≡ Some h → allows h c x ≡ false
     → Agrees (call_ended c.number ending.Request (call_configured c.number (length s.configs) s)) c.number (configured_by h c s x)
 
 -- of any call that has not ended: its application finishes its request
@@ -155,7 +155,7 @@ AttemptsArePlaced =
     → is_of c a ≡ true → is_queued a s ≡ true → at.moment ≡ now s
     → Keeps (attempt_placed place at s) c.number (steps.placed_at place at x)
 
--- an attempt ends: what its outcome is told as, with the bytes of its link that were read
+-- an attempt ends: what its outcome is reported as, with the bytes of its link that were read
 abbrev pub news_of : Attempt → Outcome → Seen → EndNews
 news_of a out s = record {
   code = out.code;
@@ -217,7 +217,7 @@ AttemptsAreCut =
     → Keeps (attempt_ended place end s) c.number (cut_off place at.link (now s) x)
 
 -- an attempt that the server did not process, or that was never sent, ends; and a transparent retry follows it at once, of its number. No token is
--- taken, and no word is drawn. (`calm`: no other attempt of the call waits for its follower.)
+-- taken, and no word is drawn. (`quiescent`: no other attempt of the call waits for its follower.)
 abbrev pub RefusedAreRetried : Type 0
 RefusedAreRetried =
     (s : Seen) (c : Call) (x : Stepped) (place : ℕ) (a : Attempt) (out : Outcome) → Sees s c x → IsInOrder s c → IsInTurn s c → IsEnding s c place a out

@@ -20,9 +20,9 @@ use Rattle.session_actions.specs.declared.call.MarkKind.TheVariants as mark
 use Rattle.session_actions.specs.declared.seen.Seen.{Seen}
 
 -- attempts are numbered by their places
-abbrev pub AreNumbered : ℕ → List Attempt → Type 0
-AreNumbered n [] = Unit {0}
-AreNumbered n (a ∷ attempts) = (a.place ≡ n) × AreNumbered (suc n) attempts
+abbrev pub AttemptsAreNumbered : ℕ → List Attempt → Type 0
+AttemptsAreNumbered n [] = Unit {0}
+AttemptsAreNumbered n (a ∷ attempts) = (a.place ≡ n) × AttemptsAreNumbered (suc n) attempts
 
 -- a mark of a call names an attempt of it; one that ended, where it marks an end
 abbrev pub is_own_mark : Seen → Call → MarkKind → Bool
@@ -35,7 +35,7 @@ abbrev pub is_beyond : Seen → Call → Attempt → Bool
 is_beyond s c a = is_of c a && nat_lt (attempts_made c s) a.row.number
 
 pub record IsInOrder (s : Seen) (c : Call) : Type 0 where
-  pub places : AreNumbered 1 s.attempts
+  pub places : AttemptsAreNumbered 1 s.attempts
   pub marks : list_all (λ m. is_own_mark s c m.what) c.marks ≡ true
   pub numbers : list_any (is_beyond s c) s.attempts ≡ false
   -- before the first attempt there is no newest one

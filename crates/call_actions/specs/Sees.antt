@@ -49,16 +49,16 @@ KeepsDelay (Some config) (plan.Retry p) = Unit {0}
 KeepsDelay (Some config) _ = ⊥
 
 -- what is known of its next attempt: no moment counts where none is made
-pub record AreDue (d : DueState) (a : Attempts) : Type 0 where
+pub record DuesAgree (d : DueState) (a : Attempts) : Type 0 where
   pub newest : d.newest ≡ a.newest
   pub placed : d.placed ≡ a.placed
   pub stopped : d.stopped ≡ a.stopped
   pub forced : a.stopped ≡ false → d.forced ≡ a.forced
 
 -- and of those that were made. (The last end that counts, and the last delay, are kept while the call is not committed.)
-pub record AreAttempts (s : Seen) (c : Call) (a : Attempts) : Type 0 where
+pub record AttemptsAgree (s : Seen) (c : Call) (a : Attempts) : Type 0 where
   pub sent : attempts_made c s ≡ a.sent
-  pub due : AreDue (due_state c s) a
+  pub due : DuesAgree (due_state c s) a
   pub unplaced : a.sent ≡ 0 → a.placed ≡ None
   pub delayed : KeepsDelay c.config (plan_of c s) → a.committed ≡ None → last_delayed c a.sent s ≡ a.delayed
   pub last : a.committed ≡ None → last_counted c s ≡ a.last
@@ -74,7 +74,7 @@ pub record Sees (s : Seen) (c : Call) (x : Stepped) : Type 0 where
   pub finished : c.finished ≡ x.call.is_finished
   pub longest_is : longest c.messages ≡ x.call.longest
   pub ended : option_map (λ e. e.cause) c.end ≡ x.call.ended
-  pub attempts : AreAttempts s c x.call.attempts
+  pub attempts : AttemptsAgree s c x.call.attempts
   pub live : live_rows s c ≡ x.call.live
   pub tokens : option_map (bucket_of s) (run_of c s) ≡ x.tokens
   -- its part of the ledger

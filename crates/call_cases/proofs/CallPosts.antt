@@ -1,4 +1,4 @@
-pub mod Told
+pub mod Report
 pub mod Fed
 pub mod Within
 pub mod Agreeing

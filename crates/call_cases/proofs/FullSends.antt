@@ -1,4 +1,4 @@
 pub mod Chosen
-pub mod Bare
+pub mod Headless
 pub mod Stepping
 pub mod Leading

@@ -1,4 +1,4 @@
-pub mod BareEnds
+pub mod UnconfiguredEnds
 pub mod BeginActions
 pub mod CallEnds
 pub mod CallPosts

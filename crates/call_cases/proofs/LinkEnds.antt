@@ -1,5 +1,5 @@
 pub mod Codes
 pub mod Cutting
-pub mod Behind
+pub mod After
 pub mod Resets
 pub mod Ends

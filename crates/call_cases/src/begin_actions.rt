@@ -3,7 +3,7 @@ ghost use Rattle.call_cases.specs.BeginActions.Laws.{BeginsAreAnswered};
 
 use crate::other_calls::{calls_stay, sets_stay};
 use channel_actions::set_frames::sets_change;
-use session_order::{calls_stir, calm_is_exact};
+use session_order::{calls_stir, quiescence_is_exact};
 
 /// A call that begins is answered with its number, and channel and session agree after it.
 pub fn begins_are_answered()
@@ -11,7 +11,7 @@ pub fn begins_are_answered()
 {
     calls_stay();
     calls_stir();
-    calm_is_exact();
+    quiescence_is_exact();
     sets_change();
     sets_stay();
 }

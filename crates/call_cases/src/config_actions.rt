@@ -8,15 +8,15 @@ use channel_actions::kept_sessions::sessions_are_kept;
 use channel_actions::link_frames::{actions_are_untold, links_stay};
 use net_actions::net_frames::nets_stay;
 use net_actions::{policy_steps_are_actions, subchannel_steps_are_actions};
-use session_order::calm_is_exact;
 use session_order::config_stirs::configs_stir;
+use session_order::quiescence_is_exact;
 
 /// Where no config is held and the resolver has answered, the calls that do not wait for ready end, one by one ("gRPC Wait for Ready Semantics").
 pub fn unserved_calls_end()
     ensures { UnservedCallsEnd }
 {
     calls_are_kept();
-    calm_is_exact();
+    quiescence_is_exact();
     policy_steps_are_actions();
     subchannel_steps_are_actions();
 }
@@ -29,7 +29,7 @@ pub fn served_calls_get_configs()
     calls_are_kept();
     calls_get_configs();
     calls_stay();
-    calm_is_exact();
+    quiescence_is_exact();
     configs_stir();
     links_stay();
     nets_stay();
@@ -53,7 +53,7 @@ pub fn unserved_settlings()
     ensures { UnservedSettlings }
 {
     calls_are_kept();
-    calm_is_exact();
+    quiescence_is_exact();
     policy_steps_are_actions();
     subchannel_steps_are_actions();
 }

@@ -1,6 +1,6 @@
 // What stands on the end of one call; nothing runs.
 ghost use Rattle.call_cases.specs.CallEnds.Laws.{OpenCancels};
-ghost use Rattle.call_cases.specs.ConfigActions.Ends.{BareCallsEnd};
+ghost use Rattle.call_cases.specs.ConfigActions.Ends.{UnconfiguredCallsEnd};
 ghost use Rattle.call_cases.specs.EndedCalls.Laws.{CallsGetConfigsOrEnd, DeadlinesAreMet, LongSendsEnd};
 ghost use Rattle.call_cases.specs.LongSends.Laws.{CallsEndAlike};
 ghost use Rattle.call_cases.specs.SettlingActions.Steps.{ConfigSteps};
@@ -14,7 +14,7 @@ use channel_actions::link_frames::{actions_are_untold, links_stay};
 use net_actions::net_frames::nets_stay;
 use net_actions::{policy_steps_are_actions, subchannel_steps_are_actions};
 use session_order::config_stirs::configs_stir;
-use session_order::{calls_stir, calm_is_exact};
+use session_order::{calls_stir, quiescence_is_exact};
 
 /// A Cancel of an open call is answered, and ends the call (gRPC, "Core concepts": Cancelling an RPC).
 pub fn open_cancels_are_answered()
@@ -32,8 +32,8 @@ pub fn long_sends_end()
 {}
 
 /// A call without an attempt ends alike in channel and session ("gRPC Wait for Ready Semantics").
-pub fn bare_calls_end_too()
-    ensures { BareCallsEnd }
+pub fn unconfigured_calls_end_too()
+    ensures { UnconfiguredCallsEnd }
 {
     calls_stir();
 }
@@ -51,7 +51,7 @@ pub fn calls_get_configs_or_end()
     calls_are_kept();
     calls_get_configs();
     calls_stay();
-    calm_is_exact();
+    quiescence_is_exact();
     configs_stir();
     links_stay();
     nets_stay();
@@ -66,7 +66,7 @@ pub fn calls_get_configs_or_end()
 pub fn config_steps_are_done()
     ensures { ConfigSteps }
 {
-    bare_calls_end_too();
+    unconfigured_calls_end_too();
     calls_get_configs_or_end();
     unserved_calls_end();
 }

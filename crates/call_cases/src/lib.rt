@@ -1,7 +1,6 @@
 // What applications post, how calls get their configs, commit and end, is the actions of a session, in their order; nothing runs.
 #![tactic(auto)]
 
-pub mod bare_ends;
 pub mod begin_actions;
 pub mod call_ends;
 pub mod call_posts;
@@ -18,3 +17,4 @@ pub mod one_call_ends;
 pub mod other_calls;
 pub mod sends_end;
 pub mod settling_actions;
+pub mod unconfigured_ends;

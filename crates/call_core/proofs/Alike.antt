@@ -99,15 +99,15 @@ like_to P (Some r) (Some x) old h e =
     let same : r ≡ old = (cc) in record { row = x; there = refl; like = subst (λ (y : Row). P y x) same h }
 
 -- a row of a list with one more is one of the list, or the new one
-get_behind : (y x r : Row) (rows : List Row) (i : ℕ) → (slice_get rows i ≡ Some r) ⊎ ((i ≡ length rows) × (r ≡ x)) → (slice_get (y ∷ rows) (suc i) ≡ Some r) ⊎ ((suc i ≡ length (y ∷ rows)) × (r ≡ x))
-get_behind y x r rows i (inl e) = inl e
-get_behind y x r rows i (inr both) = inr (ap suc both.0, both.1)
+get_after : (y x r : Row) (rows : List Row) (i : ℕ) → (slice_get rows i ≡ Some r) ⊎ ((i ≡ length rows) × (r ≡ x)) → (slice_get (y ∷ rows) (suc i) ≡ Some r) ⊎ ((suc i ≡ length (y ∷ rows)) × (r ≡ x))
+get_after y x r rows i (inl e) = inl e
+get_after y x r rows i (inr both) = inr (ap suc both.0, both.1)
 
 get_split : (rows : List Row) (x : Row) (i : ℕ) (r : Row) → slice_get (rows ++ x ∷ []) i ≡ Some r → (slice_get rows i ≡ Some r) ⊎ ((i ≡ length rows) × (r ≡ x))
 get_split [] x zero r e = inr (refl, (cc))
 get_split [] x (suc i) r e = absurd (cc)
 get_split (y ∷ rows) x zero r e = inl e
-get_split (y ∷ rows) x (suc i) r e = get_behind y x r rows i (get_split rows x i r e)
+get_split (y ∷ rows) x (suc i) r e = get_after y x r rows i (get_split rows x i r e)
 
 place_split : (rows : List Row) (x r : Row) (i : ℕ) → (slice_get rows i ≡ Some r) ⊎ ((i ≡ length rows) × (r ≡ x)) → (row_in rows (suc i) ≡ Some r) ⊎ ((suc i ≡ length rows + 1) × (r ≡ x))
 place_split rows x r i (inl e) = inl e

@@ -28,14 +28,14 @@ pub record Chain (R : Stepped → Stepped → Type 0) : Type 0 where
   pub joined : (a b c : Stepped) → R a b → R b c → R a c
   pub committed : (place moment : ℕ) (s : Stepped) → R s (step.committed place moment s)
   pub ended : (why : EndCause) (moment : ℕ) (s : Stepped) → R s (step.ended_as why moment s)
-  pub followed : (row : LiveRow) (told : EndNews) (moment : ℕ) (s : Stepped) → find_live row.place s.call.live ≡ None → R s (step.followed row told moment s)
+  pub followed : (row : LiveRow) (reported : EndNews) (moment : ℕ) (s : Stepped) → find_live row.place s.call.live ≡ None → R s (step.followed row reported moment s)
   pub row_ended : (place : ℕ) (end : RowEnd) (s : Stepped) → end.entry ≡ s.ledger.entry → find_live place s.call.live ≡ None → R s (step.row_ended place end s)
   pub judged : (row : LiveRow) (end : RowEnd) (word : ℕ) (s : Stepped) → end.entry ≡ s.ledger.entry → find_live row.place s.call.live ≡ None → s.call.attempts.committed ≡ None → R s (with_judged row end (judged_of row end word s.call s.tokens) s)
   pub left : (place : ℕ) (s : Stepped) → R s (left_live place s)
-  pub settled : (told : EndNews) (s : Stepped) → R s (settled told s)
+  pub settled : (reported : EndNews) (s : Stepped) → R s (settled reported s)
   pub buffered : (b : Buffered) (s : Stepped) → R s (with_buffer b s)
   pub head : (meta : List Field) (s : Stepped) → R s (step.with_head meta s)
-  pub message : (row : ℕ) (octets : List ℕ) (s : Stepped) → R s (record s { call = step.heard_message row octets s.call })
+  pub message : (row : ℕ) (octets : List ℕ) (s : Stepped) → R s (record s { call = step.received_message row octets s.call })
   pub chosen : (chosen : Chosen) (moment : ℕ) (s : Stepped) → most_attempts chosen.plan ≤ 4294967295 → s.call.ended ≡ None → s.call.chosen ≡ None → R s (with_chosen chosen moment s)
   pub placed : (place : ℕ) (row : LiveRow) (at : Placed) (s : Stepped) → at.entry ≡ s.ledger.entry → find_live place s.call.live ≡ Some row → row.link ≡ None → R s (step.placed_row_live row at s)
   pub stopped : (s : Stepped) → R s (step.with_attempts (stopped_attempts s.call.attempts) s)
@@ -65,9 +65,9 @@ chain_counted_by R h row end moment word s None e at gone =
     let after : Judged = judged_of row end word s.call s.tokens in
     h.joined s (with_judged row end after s) (step.counted_free row end moment word s) (h.judged row end word s at gone e) (chain_closed_if R h after.closes row.place moment (with_judged row end after s))
 
-chain_counted : (R : Stepped → Stepped → Type 0) → Chain R → (row : LiveRow) (told : EndNews) (moment word : ℕ) (s : Stepped) → find_live row.place s.call.live ≡ None → R s (step.counted row told moment word s)
-chain_counted R h row told moment word s gone =
-    chain_counted_by R h row (row_end told s.ledger.entry moment (count_of s.tokens)) moment word s s.call.attempts.committed refl refl gone
+chain_counted : (R : Stepped → Stepped → Type 0) → Chain R → (row : LiveRow) (reported : EndNews) (moment word : ℕ) (s : Stepped) → find_live row.place s.call.live ≡ None → R s (step.counted row reported moment word s)
+chain_counted R h row reported moment word s gone =
+    chain_counted_by R h row (row_end reported s.ledger.entry moment (count_of s.tokens)) moment word s s.call.attempts.committed refl refl gone
 
 -- a row that left isn't found
 left_one : (place : ℕ) (l : LiveRow) (live : List LiveRow) (b : Bool) → is_row place l ≡ b → find_live place live ≡ None → find_live place (if not b then l ∷ live else live) ≡ None
@@ -78,24 +78,24 @@ pub left_none : (place : ℕ) (live : List LiveRow) → find_live place (without
 left_none place [] = refl
 left_none place (l ∷ live) = left_one place l (without place live) (is_row place l) refl (left_none place live)
 
-chain_live : (R : Stepped → Stepped → Type 0) → Chain R → (row : LiveRow) (told : EndNews) (moment word : ℕ) (s : Stepped) → R s (step.live_ended row told moment word s)
-chain_live R h row told moment word s =
+chain_live : (R : Stepped → Stepped → Type 0) → Chain R → (row : LiveRow) (reported : EndNews) (moment word : ℕ) (s : Stepped) → R s (step.live_ended row reported moment word s)
+chain_live R h row reported moment word s =
     let u : Stepped = left_live row.place s in
-    let v : Stepped = settled told u in
+    let v : Stepped = settled reported u in
     let gone : find_live row.place u.call.live ≡ None = left_none row.place s.call.live in
-    chain_if R (is_followed s.call.attempts told.cause told.unseen) s (step.followed row told moment u) (step.counted row told moment word v)
-    (h.joined s u (step.followed row told moment u) (h.left row.place s) (h.followed row told moment u gone))
-    (h.joined s u (step.counted row told moment word v) (h.left row.place s)
-    (h.joined u v (step.counted row told moment word v) (h.settled told u) (chain_counted R h row told moment word v gone)))
+    chain_if R (is_followed s.call.attempts reported.cause reported.unseen) s (step.followed row reported moment u) (step.counted row reported moment word v)
+    (h.joined s u (step.followed row reported moment u) (h.left row.place s) (h.followed row reported moment u gone))
+    (h.joined s u (step.counted row reported moment word v) (h.left row.place s)
+    (h.joined u v (step.counted row reported moment word v) (h.settled reported u) (chain_counted R h row reported moment word v gone)))
 
-chain_found : (R : Stepped → Stepped → Type 0) → Chain R → (found : Option LiveRow) (told : EndNews) (moment word : ℕ) (s : Stepped) → R s (step.ended_if_live found told moment word s)
-chain_found R h None told moment word s = h.same s
-chain_found R h (Some row) told moment word s = chain_live R h row told moment word s
+chain_found : (R : Stepped → Stepped → Type 0) → Chain R → (found : Option LiveRow) (reported : EndNews) (moment word : ℕ) (s : Stepped) → R s (step.ended_if_live found reported moment word s)
+chain_found R h None reported moment word s = h.same s
+chain_found R h (Some row) reported moment word s = chain_live R h row reported moment word s
 
-pub chain_ended_at : (R : Stepped → Stepped → Type 0) → Chain R → (row : ℕ) (told : EndNews) (moment word : ℕ) (s : Stepped) → R s (step.ended_at row told moment word s)
-chain_ended_at R h row told moment word s = chain_found R h (find_live row s.call.live) told moment word s
+pub chain_ended_at : (R : Stepped → Stepped → Type 0) → Chain R → (row : ℕ) (reported : EndNews) (moment word : ℕ) (s : Stepped) → R s (step.ended_at row reported moment word s)
+chain_ended_at R h row reported moment word s = chain_found R h (find_live row s.call.live) reported moment word s
 
-chain_head : (R : Stepped → Stepped → Type 0) → Chain R → (row : ℕ) (meta : List Field) (moment : ℕ) (s : Stepped) → R s (step.heard_head row meta moment s)
+chain_head : (R : Stepped → Stepped → Type 0) → Chain R → (row : ℕ) (meta : List Field) (moment : ℕ) (s : Stepped) → R s (step.received_head row meta moment s)
 chain_head R h row meta moment s =
     let c : Stepped = with_buffer (committed_buffer row s.call.buffer) s in
     let t : Stepped = step.commit_by_head row moment s in
@@ -106,7 +106,7 @@ chain_head R h row meta moment s =
     (h.head meta t))
     (h.same s)
 
-pub chain_news : (R : Stepped → Stepped → Type 0) → Chain R → (row : ℕ) (told : News) (moment word : ℕ) (s : Stepped) → R s (step.heard_news row told moment word s)
+pub chain_news : (R : Stepped → Stepped → Type 0) → Chain R → (row : ℕ) (reported : News) (moment word : ℕ) (s : Stepped) → R s (step.received_news row reported moment word s)
 chain_news R h row (news.Head tag meta seen) moment word s = chain_head R h row meta moment s
 chain_news R h row (news.Message tag octets seen) moment word s = h.message row octets s
 chain_news R h row (news.TooLarge tag seen) moment word s = chain_end_if R h (is_committed_live row s.call) ends.Response moment s

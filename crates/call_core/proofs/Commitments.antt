@@ -144,10 +144,10 @@ judged_committed plans.None a number is_alone end above word = refl
 judged_committed (plans.Retry policy) a number is_alone end above word = refl
 judged_committed (plans.Hedge policy) a number is_alone end above word = refl
 
-once_closed_if : (place : ℕ) (row : LiveRow) (told : EndNews) (end : RowEnd) (moment word : ℕ) (s : Stepped) (b : Bool) → find_live place s.call.live ≡ Some row → is_cut end.cause ≡ false → IsApart s → IsAlive s.call → s.call.attempts.committed ≡ None → IsCommittedOnce s → IsCommittedOnce (step.closed_if b row.place moment (with_judged row end (judged_of row end word (left_live row.place s).call (settled told (left_live row.place s)).tokens) (settled told (left_live row.place s))))
-once_closed_if place row told end moment word s b f cause apart alive free old =
+once_closed_if : (place : ℕ) (row : LiveRow) (reported : EndNews) (end : RowEnd) (moment word : ℕ) (s : Stepped) (b : Bool) → find_live place s.call.live ≡ Some row → is_cut end.cause ≡ false → IsApart s → IsAlive s.call → s.call.attempts.committed ≡ None → IsCommittedOnce s → IsCommittedOnce (step.closed_if b row.place moment (with_judged row end (judged_of row end word (left_live row.place s).call (settled reported (left_live row.place s)).tokens) (settled reported (left_live row.place s))))
+once_closed_if place row reported end moment word s b f cause apart alive free old =
     let u : Stepped = left_live row.place s in
-    let v : Stepped = settled told u in
+    let v : Stepped = settled reported u in
     let after : Judged = judged_of row end word u.call v.tokens in
     let w : Stepped = with_judged row end after v in
     let last : RowEnd = record end { word = after.word } in
@@ -161,20 +161,20 @@ once_closed_if place row told end moment word s b f cause apart alive free old =
     old in
     elim b as (λ c. IsCommittedOnce (step.closed_if c row.place moment w)) [ true ↦ once_by_row row.place moment w own (committed ∙ free) alive.live once | false ↦ once ]
 
-once_counted : (place : ℕ) (row : LiveRow) (told : EndNews) (moment word : ℕ) (s : Stepped) (o : Option ℕ) → s.call.attempts.committed ≡ o → find_live place s.call.live ≡ Some row → is_cut told.cause ≡ false → IsKept s.call → IsApart s → IsAlive s.call → IsCommittedOnce s → IsCommittedOnce (if is_some o then step.ended_as ends.Row moment (step.row_ended row.place (row_end told s.ledger.entry moment (count_of (settled told (left_live row.place s)).tokens)) (settled told (left_live row.place s))) else step.counted_free row (row_end told s.ledger.entry moment (count_of (settled told (left_live row.place s)).tokens)) moment word (settled told (left_live row.place s)))
-once_counted place row told moment word s (Some p) c f cause kept apart alive old =
-    let v : Stepped = settled told (left_live row.place s) in
-    let end : RowEnd = row_end told s.ledger.entry moment (count_of v.tokens) in
+once_counted : (place : ℕ) (row : LiveRow) (reported : EndNews) (moment word : ℕ) (s : Stepped) (o : Option ℕ) → s.call.attempts.committed ≡ o → find_live place s.call.live ≡ Some row → is_cut reported.cause ≡ false → IsKept s.call → IsApart s → IsAlive s.call → IsCommittedOnce s → IsCommittedOnce (if is_some o then step.ended_as ends.Row moment (step.row_ended row.place (row_end reported s.ledger.entry moment (count_of (settled reported (left_live row.place s)).tokens)) (settled reported (left_live row.place s))) else step.counted_free row (row_end reported s.ledger.entry moment (count_of (settled reported (left_live row.place s)).tokens)) moment word (settled reported (left_live row.place s)))
+once_counted place row reported moment word s (Some p) c f cause kept apart alive old =
+    let v : Stepped = settled reported (left_live row.place s) in
+    let end : RowEnd = row_end reported s.ledger.entry moment (count_of v.tokens) in
     let w : Stepped = step.row_ended row.place end v in
     let at : row.place ≡ p = found_at p place s.call.live row (kept.committed p c).live f in
     let own : HasOwnEnd s.call.number w.ledger.rows row.place = own_ended s.call.number s.ledger.rows row end (found_stands s.call.number s.ledger.rows place s.call.live row apart.tied f) cause in
     once_end ends.Row moment w
     (λ h. record { place = p; committed = c; own = subst (λ (k : ℕ). HasOwnEnd s.call.number w.ledger.rows k) at own })
     (once_plain s w refl refl refl refl (all_changed_at IsNamed named_write (ended_row end) (λ r. named_write.ended end r) s.ledger.rows row.place) old)
-once_counted place row told moment word s None c f cause kept apart alive old =
-    let v : Stepped = settled told (left_live row.place s) in
-    let end : RowEnd = row_end told s.ledger.entry moment (count_of v.tokens) in
-    once_closed_if place row told end moment word s (judged_of row end word v.call v.tokens).closes f cause apart alive c old
+once_counted place row reported moment word s None c f cause kept apart alive old =
+    let v : Stepped = settled reported (left_live row.place s) in
+    let end : RowEnd = row_end reported s.ledger.entry moment (count_of v.tokens) in
+    once_closed_if place row reported end moment word s (judged_of row end word v.call v.tokens).closes f cause apart alive c old
 
 -- a row more, which isn't committed
 more_chain : (s t : Stepped) (x row : Row) (q : ℕ) → t.ledger.rows ≡ s.ledger.rows ++ x ∷ [] → t.call.number ≡ s.call.number → t.call.attempts.committed ≡ s.call.attempts.committed → x.committed ≡ None → IsCommittedOnce s → row.call ≡ t.call.number → is_some row.committed ≡ true → (row_in s.ledger.rows q ≡ Some row) ⊎ ((q ≡ length s.ledger.rows + 1) × (row ≡ x)) → IsInChain t q row
@@ -271,33 +271,33 @@ once_grown v t x newest place c there number transparent stamp owner same commit
       subst (λ (k : ℕ). HasOwnEnd k t.ledger.rows p) (sym same) (own_more v.call.number v.ledger.rows t.ledger.rows x p rows (old.last p (sym last ∙ h)));
 }
 
-once_followed : (place : ℕ) (row : LiveRow) (told : EndNews) (moment : ℕ) (s : Stepped) (b : Bool) → names row.place s.call.attempts.committed ≡ b → find_live place s.call.live ≡ Some row → IsApart s → IsAlive s.call → IsCommittedOnce s → IsCommittedOnce (step.followed row told moment (left_live row.place s))
-once_followed place row told moment s true n f apart alive old =
+once_followed : (place : ℕ) (row : LiveRow) (reported : EndNews) (moment : ℕ) (s : Stepped) (b : Bool) → names row.place s.call.attempts.committed ≡ b → find_live place s.call.live ≡ Some row → IsApart s → IsAlive s.call → IsCommittedOnce s → IsCommittedOnce (step.followed row reported moment (left_live row.place s))
+once_followed place row reported moment s true n f apart alive old =
     let u : Stepped = left_live row.place s in
-    let end : RowEnd = row_end told s.ledger.entry moment (count_of s.tokens) in
+    let end : RowEnd = row_end reported s.ledger.entry moment (count_of s.tokens) in
     let v : Stepped = step.row_ended row.place end u in
     let x : Row = new_row s.call.number row.number kind.Transparent moment (stamp_if (names row.place s.call.attempts.committed) s.ledger.entry) in
     let one : IsStanding s.call.number s.ledger.rows row = found_stands s.call.number s.ledger.rows place s.call.live row apart.tied f in
-    once_grown v (step.followed row told moment u) x (ended_row end one.row) row.place (names_is row.place s.call.attempts.committed n)
+    once_grown v (step.followed row reported moment u) x (ended_row end one.row) row.place (names_is row.place s.call.attempts.committed n)
     (row_changed_same (ended_row end) s.ledger.rows row.place one.row one.there) one.number refl
     (ap (λ (b : Bool). is_some (stamp_if b s.ledger.entry)) n) refl refl
     (ap (λ (b : Bool). if b then Some (length v.ledger.rows + 1) else s.call.attempts.committed) n) refl refl alive.live
     (once_plain s v refl refl refl refl (all_changed_at IsNamed named_write (ended_row end) (λ r. named_write.ended end r) s.ledger.rows row.place) old)
-once_followed place row told moment s false n f apart alive old =
+once_followed place row reported moment s false n f apart alive old =
     let u : Stepped = left_live row.place s in
-    let end : RowEnd = row_end told s.ledger.entry moment (count_of s.tokens) in
+    let end : RowEnd = row_end reported s.ledger.entry moment (count_of s.tokens) in
     let v : Stepped = step.row_ended row.place end u in
     let x : Row = new_row s.call.number row.number kind.Transparent moment (stamp_if (names row.place s.call.attempts.committed) s.ledger.entry) in
-    once_more v (step.followed row told moment u) x refl refl
+    once_more v (step.followed row reported moment u) x refl refl
     (ap (λ (b : Bool). if b then Some (length v.ledger.rows + 1) else s.call.attempts.committed) n) refl
     (ap (λ (b : Bool). stamp_if b s.ledger.entry) n) alive.live
     (once_plain s v refl refl refl refl (all_changed_at IsNamed named_write (ended_row end) (λ r. named_write.ended end r) s.ledger.rows row.place) old)
 
-once_live : (place : ℕ) (row : LiveRow) (told : EndNews) (moment word : ℕ) (s : Stepped) (b : Bool) → find_live place s.call.live ≡ Some row → is_cut told.cause ≡ false → IsKept s.call → IsApart s → IsAlive s.call → IsCommittedOnce s → IsCommittedOnce (if b then step.followed row told moment (left_live row.place s) else step.counted row told moment word (settled told (left_live row.place s)))
-once_live place row told moment word s true f cause kept apart alive old =
-    once_followed place row told moment s (names row.place s.call.attempts.committed) refl f apart alive old
-once_live place row told moment word s false f cause kept apart alive old =
-    once_counted place row told moment word s s.call.attempts.committed refl f cause kept apart alive old
+once_live : (place : ℕ) (row : LiveRow) (reported : EndNews) (moment word : ℕ) (s : Stepped) (b : Bool) → find_live place s.call.live ≡ Some row → is_cut reported.cause ≡ false → IsKept s.call → IsApart s → IsAlive s.call → IsCommittedOnce s → IsCommittedOnce (if b then step.followed row reported moment (left_live row.place s) else step.counted row reported moment word (settled reported (left_live row.place s)))
+once_live place row reported moment word s true f cause kept apart alive old =
+    once_followed place row reported moment s (names row.place s.call.attempts.committed) refl f apart alive old
+once_live place row reported moment word s false f cause kept apart alive old =
+    once_counted place row reported moment word s s.call.attempts.committed refl f cause kept apart alive old
 
 -- a head, and a message that doesn't fit
 live_row : (place : ℕ) (row : LiveRow) (s : Stepped) → find_live place s.call.live ≡ Some row → IsApart s → (x : Row) × IsRowOf s.call.number s.ledger.rows place x
@@ -350,7 +350,7 @@ once_placed row at s old =
     once_plain s (step.placed_row_live row at s) refl refl refl refl
     (all_changed_at IsNamed named_write (placed_row at) (λ r. record { call = refl; number = refl; kind = refl; committed = refl; stays = λ end e. e }) s.ledger.rows row.place) old
 
-pub once_moves : Moves (λ chosen. Unit {0}) (λ s row told. is_cut told.cause ≡ false) (λ moment s t. IsKept s.call → IsApart s → IsCommittedOnce s → IsCommittedOnce t)
+pub once_moves : Moves (λ chosen. Unit {0}) (λ s row reported. is_cut reported.cause ≡ false) (λ moment s t. IsKept s.call → IsApart s → IsCommittedOnce s → IsCommittedOnce t)
 once_moves = record {
   same = λ moment s kept apart old. old;
   configured = λ chosen moment s known e fresh kept apart old. once_plain s (with_chosen chosen moment s) refl refl refl refl (all_same IsNamed named_write s.ledger.rows) old;
@@ -360,8 +360,8 @@ once_moves = record {
   too_large = λ row moment s e kept apart old. once_closed ends.Response moment s refl old;
   head = λ place row meta moment s e kept apart old. once_head place row meta moment s (is_some s.call.attempts.committed) e kept apart old;
   message = λ row octets moment s kept apart old. once_message octets s (is_committed_live row s.call) old;
-  row_ended = λ place row told moment word s e cause kept apart old.
-      once_live place row told moment word s (is_followed s.call.attempts told.cause told.unseen) e cause kept apart (found_alive s.call place row kept e) old;
+  row_ended = λ place row reported moment word s e cause kept apart old.
+      once_live place row reported moment word s (is_followed s.call.attempts reported.cause reported.unseen) e cause kept apart (found_alive s.call place row kept e) old;
   placed = λ place row at s entry e free kept apart old. once_placed row at s old;
   refused = λ due moment s e passed tested kept apart old.
       let v : Stepped = step.with_attempts (stopped_attempts s.call.attempts) s in

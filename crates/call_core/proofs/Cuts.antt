@@ -13,7 +13,7 @@ use Rattle.ledger_stamps.specs.Steps.{changed_at, committed_row, ended_row, stam
 use Rattle.call_core.specs.declared.act.CallAct.{CallAct}
 use Rattle.call_core.specs.declared.live.LiveRow.{LiveRow}
 use Rattle.call_core.specs.Parts.{count_of, cut_end, is_row, kept_alone, linked, names, read_of, row_end, without}
-use Rattle.call_core.specs.Rows.{AreApart, AreCut, AreStanding, HasEnd, IsApart, IsKeptIn, IsOff, IsOnLink, IsStanding, KeepsRows, row_in}
+use Rattle.call_core.specs.Rows.{LiveRowsAreApart, RowsAreCut, LiveRowsStand, HasEnd, IsApart, IsKeptIn, IsOff, IsOnLink, IsStanding, KeepsRows, row_in}
 use Rattle.call_core.specs.Steps as step
 use Rattle.call_core.specs.Steps.{Stepped, cut_all, cut_row, cut_unless, is_committed_live, next_place}
 use Rattle.call_core.proofs.Chains.{Chain}
@@ -73,26 +73,26 @@ same_links true moment tokens place l link = refl
 same_links false moment tokens place l None = refl
 same_links false moment tokens place l (Some link) = refl
 
-stand_cut : (owner moment : ℕ) (tokens : Option ℕ) (place : ℕ) (l : Ledger) (link : Option ℕ) (live : List LiveRow) → IsOff place live → AreStanding owner l.rows live → AreStanding owner (cut_row moment tokens place l link).rows live
+stand_cut : (owner moment : ℕ) (tokens : Option ℕ) (place : ℕ) (l : Ledger) (link : Option ℕ) (live : List LiveRow) → IsOff place live → LiveRowsStand owner l.rows live → LiveRowsStand owner (cut_row moment tokens place l link).rows live
 stand_cut owner moment tokens place l None live off old = old
 stand_cut owner moment tokens place l (Some link) live off old =
     all_changed owner (ended_row (cut_end l.entry moment (read_of l.links link) tokens)) l.rows place live off old
 
-stand_unless : (kept : Bool) (owner moment : ℕ) (tokens : Option ℕ) (place : ℕ) (l : Ledger) (link : Option ℕ) (live : List LiveRow) → IsOff place live → AreStanding owner l.rows live → AreStanding owner (if kept then l else cut_row moment tokens place l link).rows live
+stand_unless : (kept : Bool) (owner moment : ℕ) (tokens : Option ℕ) (place : ℕ) (l : Ledger) (link : Option ℕ) (live : List LiveRow) → IsOff place live → LiveRowsStand owner l.rows live → LiveRowsStand owner (if kept then l else cut_row moment tokens place l link).rows live
 stand_unless true owner moment tokens place l link live off old = old
 stand_unless false owner moment tokens place l link live off old = stand_cut owner moment tokens place l link live off old
 
-are_cut : (owner : ℕ) (kept : Option ℕ) (moment : ℕ) (tokens : Option ℕ) (live : List LiveRow) (l : Ledger) → AreApart live → AreStanding owner l.rows live → AreCut kept l.entry moment tokens l.links (cut_all kept moment tokens live l).rows live
+are_cut : (owner : ℕ) (kept : Option ℕ) (moment : ℕ) (tokens : Option ℕ) (live : List LiveRow) (l : Ledger) → LiveRowsAreApart live → LiveRowsStand owner l.rows live → RowsAreCut kept l.entry moment tokens l.links (cut_all kept moment tokens live l).rows live
 are_cut owner kept moment tokens [] l apart old = tt
 are_cut owner kept moment tokens (row ∷ live) l apart old =
     let m : Ledger = cut_unless kept moment tokens row l in
     let entry : m.entry ≡ l.entry = same_entry (names row.place kept) moment tokens row.place l row.link in
     let links : m.links ≡ l.links = same_links (names row.place kept) moment tokens row.place l row.link in
-    let rest : AreCut kept m.entry moment tokens m.links (cut_all kept moment tokens live m).rows live =
+    let rest : RowsAreCut kept m.entry moment tokens m.links (cut_all kept moment tokens live m).rows live =
     are_cut owner kept moment tokens live m apart.1 (stand_unless (names row.place kept) owner moment tokens row.place l row.link live apart.0 old.1) in (
       (λ k link e. has_cuts kept moment tokens live row.place (cut_end l.entry moment (read_of l.links link) tokens) m (cut_one owner moment tokens row l (names row.place kept) row.link link old.0 k e)),
-      subst (λ (n : ℕ). AreCut kept n moment tokens l.links (cut_all kept moment tokens live m).rows live) entry
-          (subst (λ (ls : List LinkSeen). AreCut kept m.entry moment tokens ls (cut_all kept moment tokens live m).rows live) links rest),
+      subst (λ (n : ℕ). RowsAreCut kept n moment tokens l.links (cut_all kept moment tokens live m).rows live) entry
+          (subst (λ (ls : List LinkSeen). RowsAreCut kept m.entry moment tokens ls (cut_all kept moment tokens live m).rows live) links rest),
     )
 
 -- a commitment stamps a row and leaves what stands
@@ -116,17 +116,17 @@ stand_commit_one owner entry place rows l false e one = record {
   placed = one.placed;
 }
 
-stand_commit : (owner entry place : ℕ) (rows : List Row) (live : List LiveRow) → AreStanding owner rows live → AreStanding owner (changed_at (committed_row entry) rows place) live
+stand_commit : (owner entry place : ℕ) (rows : List Row) (live : List LiveRow) → LiveRowsStand owner rows live → LiveRowsStand owner (changed_at (committed_row entry) rows place) live
 stand_commit owner entry place rows [] old = tt
 stand_commit owner entry place rows (l ∷ live) old =
     (stand_commit_one owner entry place rows l (place == l.place) refl old.0, stand_commit owner entry place rows live old.1)
 
-pub cut_by_commit : (place moment : ℕ) (s : Stepped) → IsApart s → AreCut (Some place) s.ledger.entry moment (count_of s.tokens) s.ledger.links (step.committed place moment s).ledger.rows s.call.live
+pub cut_by_commit : (place moment : ℕ) (s : Stepped) → IsApart s → RowsAreCut (Some place) s.ledger.entry moment (count_of s.tokens) s.ledger.links (step.committed place moment s).ledger.rows s.call.live
 cut_by_commit place moment s law =
     are_cut s.call.number (Some place) moment (count_of s.tokens) s.call.live (step.commit_stamped place s.ledger) law.apart
     (stand_commit s.call.number s.ledger.entry place s.ledger.rows s.call.live law.tied)
 
-pub cut_by_end : (why : EndCause) (moment : ℕ) (s : Stepped) → IsApart s → AreCut None s.ledger.entry moment (count_of s.tokens) s.ledger.links (step.ended_as why moment s).ledger.rows s.call.live
+pub cut_by_end : (why : EndCause) (moment : ℕ) (s : Stepped) → IsApart s → RowsAreCut None s.ledger.entry moment (count_of s.tokens) s.ledger.links (step.ended_as why moment s).ledger.rows s.call.live
 cut_by_end why moment s law = are_cut s.call.number None moment (count_of s.tokens) s.call.live s.ledger law.apart law.tied
 
 -- places stay apart
@@ -142,16 +142,16 @@ off_alone : (q place : ℕ) (live : List LiveRow) → IsOff q live → IsOff q (
 off_alone q place [] off = tt
 off_alone q place (l ∷ live) off = off_filtered q l (kept_alone place live) (is_row place l) off.0 (off_alone q place live off.1)
 
-apart_filtered : (l : LiveRow) (live : List LiveRow) (b : Bool) → IsOff l.place live → AreApart live → AreApart (if b then l ∷ live else live)
+apart_filtered : (l : LiveRow) (live : List LiveRow) (b : Bool) → IsOff l.place live → LiveRowsAreApart live → LiveRowsAreApart (if b then l ∷ live else live)
 apart_filtered l live true off rest = (off, rest)
 apart_filtered l live false off rest = rest
 
-apart_without : (place : ℕ) (live : List LiveRow) → AreApart live → AreApart (without place live)
+apart_without : (place : ℕ) (live : List LiveRow) → LiveRowsAreApart live → LiveRowsAreApart (without place live)
 apart_without place [] apart = tt
 apart_without place (l ∷ live) apart =
     apart_filtered l (without place live) (not (is_row place l)) (off_without l.place place live apart.0) (apart_without place live apart.1)
 
-apart_alone : (place : ℕ) (live : List LiveRow) → AreApart live → AreApart (kept_alone place live)
+apart_alone : (place : ℕ) (live : List LiveRow) → LiveRowsAreApart live → LiveRowsAreApart (kept_alone place live)
 apart_alone place [] apart = tt
 apart_alone place (l ∷ live) apart =
     apart_filtered l (kept_alone place live) (is_row place l) (off_alone l.place place live apart.0) (apart_alone place live apart.1)
@@ -165,12 +165,12 @@ off_linked q place link [] off = tt
 off_linked q place link (l ∷ live) off =
     ((λ e. off.0 (e ∙ linked_place place link l (is_row place l))), off_linked q place link live off.1)
 
-apart_linked : (place link : ℕ) (live : List LiveRow) → AreApart live → AreApart (map (linked place link) live)
+apart_linked : (place link : ℕ) (live : List LiveRow) → LiveRowsAreApart live → LiveRowsAreApart (map (linked place link) live)
 apart_linked place link [] apart = tt
 apart_linked place link (l ∷ live) apart =
     (subst (λ (k : ℕ). IsOff k (map (linked place link) live)) (sym (linked_place place link l (is_row place l))) (off_linked l.place place link live apart.0), apart_linked place link live apart.1)
 
--- a new row stands behind all others
+-- a new row stands after all others
 read_below : (rows : List Row) (i : ℕ) (r : Row) → slice_get rows i ≡ Some r → i < length rows
 read_below [] i r e = absurd (cc)
 read_below (x ∷ rows) zero r e = omega arith
@@ -184,7 +184,7 @@ off_more : (q : ℕ) (new : LiveRow) (live : List LiveRow) → (q ≡ new.place 
 off_more q new [] other off = (other, tt)
 off_more q new (l ∷ live) other off = (off.0, off_more q new live other off.1)
 
-apart_more : (owner : ℕ) (rows : List Row) (new : LiveRow) (live : List LiveRow) → new.place ≡ length rows + 1 → AreStanding owner rows live → AreApart live → AreApart (live ++ new ∷ [])
+apart_more : (owner : ℕ) (rows : List Row) (new : LiveRow) (live : List LiveRow) → new.place ≡ length rows + 1 → LiveRowsStand owner rows live → LiveRowsAreApart live → LiveRowsAreApart (live ++ new ∷ [])
 apart_more owner rows new [] at old apart = (tt, tt)
 apart_more owner rows new (l ∷ live) at old apart =
     let below : l.place ≤ length rows = row_below rows l.place old.0.row old.0.there in
@@ -200,14 +200,14 @@ apart_chain = record {
   joined = λ a b c first second law. second (first law);
   committed = λ place moment s law. record { tied = tied_chain.committed place moment s law.tied; apart = apart_alone place s.call.live law.apart };
   ended = λ why moment s law. record { tied = tt; apart = tt };
-  followed = λ row told moment s gone law. record {
-    tied = tied_chain.followed row told moment s gone law.tied;
-    apart = apart_more s.call.number (step.row_ended row.place (row_end told s.ledger.entry moment (count_of s.tokens)) s).ledger.rows _ s.call.live refl (tied_chain.row_ended row.place (row_end told s.ledger.entry moment (count_of s.tokens)) s refl gone law.tied) law.apart;
+  followed = λ row reported moment s gone law. record {
+    tied = tied_chain.followed row reported moment s gone law.tied;
+    apart = apart_more s.call.number (step.row_ended row.place (row_end reported s.ledger.entry moment (count_of s.tokens)) s).ledger.rows _ s.call.live refl (tied_chain.row_ended row.place (row_end reported s.ledger.entry moment (count_of s.tokens)) s refl gone law.tied) law.apart;
   };
   row_ended = λ place end s at gone law. record { tied = tied_chain.row_ended place end s at gone law.tied; apart = law.apart };
   judged = λ row end word s at gone free law. record { tied = tied_chain.judged row end word s at gone free law.tied; apart = law.apart };
   left = λ place s law. record { tied = tied_chain.left place s law.tied; apart = apart_without place s.call.live law.apart };
-  settled = λ told s law. record { tied = law.tied; apart = law.apart };
+  settled = λ reported s law. record { tied = law.tied; apart = law.apart };
   buffered = λ b s law. record { tied = law.tied; apart = law.apart };
   head = λ meta s law. record { tied = law.tied; apart = law.apart };
   message = λ row octets s law. message_apart octets s (is_committed_live row s.call) law;
@@ -225,7 +225,7 @@ pub apart_new : (number : ℕ) (request : RequestSeen) (begun : ℕ) (ledger : L
 apart_new number request begun ledger tokens acts = record { tied = tt; apart = tt }
 
 -- what is done to other calls
-elsewhere_all : (owner : ℕ) (rows after : List Row) (live : List LiveRow) → KeepsRows owner rows after → AreStanding owner rows live → AreStanding owner after live
+elsewhere_all : (owner : ℕ) (rows after : List Row) (live : List LiveRow) → KeepsRows owner rows after → LiveRowsStand owner rows live → LiveRowsStand owner after live
 elsewhere_all owner rows after [] keeps old = tt
 elsewhere_all owner rows after (l ∷ live) keeps old =
     let one : IsStanding owner rows l = old.0 in

@@ -63,7 +63,7 @@ waits_parts ledger c false None [] None e = refl
 pub not_yet : (ledger : Ledger) (call : CallState) → step.can_take call ≡ false → step.take_reply ledger call ≡ reply.NotYet
 not_yet ledger call e = waits_parts ledger call call.inbox.is_end_taken call.inbox.head call.inbox.messages call.ended e
 
--- a message comes behind what came before
+-- a message comes after what came before
 more_messages : (ms : List (List ℕ)) (m : List ℕ) → message_items (ms ++ m ∷ []) ≡ message_items ms ++ reply.Message m ∷ []
 more_messages [] m = refl
 more_messages (x ∷ ms) m = ap (λ (xs : List Reply). reply.Message x ∷ xs) (more_messages ms m)
@@ -74,8 +74,8 @@ came_message octets call true =
     ∙ sym (append_assoc (head_items call.inbox.head) (message_items call.inbox.messages) (reply.Message octets ∷ []))
 came_message octets call false = sym (append-nil (came call))
 
-pub heard_behind : (row : ℕ) (octets : List ℕ) (call : CallState) → came (step.heard_message row octets call) ≡ came call ++ (if is_committed_live row call then reply.Message octets ∷ [] else [])
-heard_behind row octets call = came_message octets call (is_committed_live row call)
+pub received_after : (row : ℕ) (octets : List ℕ) (call : CallState) → came (step.received_message row octets call) ≡ came call ++ (if is_committed_live row call then reply.Message octets ∷ [] else [])
+received_after row octets call = came_message octets call (is_committed_live row call)
 
 -- all else leaves the inbox as it is
 same_if : (b : Bool) (x y : Stepped) (i : Inbox) → x.call.inbox ≡ i → y.call.inbox ≡ i → (if b then x else y).call.inbox ≡ i
@@ -102,23 +102,23 @@ same_closed_if : (closes : Bool) (place moment : ℕ) (s : Stepped) → (step.cl
 same_closed_if true place moment s = refl
 same_closed_if false place moment s = refl
 
-same_counted : (row : LiveRow) (told : EndNews) (moment word : ℕ) (s : Stepped) → (step.counted row told moment word s).call.inbox ≡ s.call.inbox
-same_counted row told moment word s =
-    let end : RowEnd = row_end told s.ledger.entry moment (count_of s.tokens) in
+same_counted : (row : LiveRow) (reported : EndNews) (moment word : ℕ) (s : Stepped) → (step.counted row reported moment word s).call.inbox ≡ s.call.inbox
+same_counted row reported moment word s =
+    let end : RowEnd = row_end reported s.ledger.entry moment (count_of s.tokens) in
     let after : Judged = judged_of row end word s.call s.tokens in
     same_if (is_some s.call.attempts.committed) (step.ended_as ends.Row moment (step.row_ended row.place end s)) (step.counted_free row end moment word s) s.call.inbox refl
     (same_closed_if after.closes row.place moment (with_judged row end after s))
 
-same_found : (found : Option LiveRow) (told : EndNews) (moment word : ℕ) (s : Stepped) → (step.ended_if_live found told moment word s).call.inbox ≡ s.call.inbox
-same_found None told moment word s = refl
-same_found (Some row) told moment word s =
-    same_if (is_followed s.call.attempts told.cause told.unseen) (step.followed row told moment (left_live row.place s)) (step.counted row told moment word (settled told (left_live row.place s))) s.call.inbox refl
-    (same_counted row told moment word (settled told (left_live row.place s)))
+same_found : (found : Option LiveRow) (reported : EndNews) (moment word : ℕ) (s : Stepped) → (step.ended_if_live found reported moment word s).call.inbox ≡ s.call.inbox
+same_found None reported moment word s = refl
+same_found (Some row) reported moment word s =
+    same_if (is_followed s.call.attempts reported.cause reported.unseen) (step.followed row reported moment (left_live row.place s)) (step.counted row reported moment word (settled reported (left_live row.place s))) s.call.inbox refl
+    (same_counted row reported moment word (settled reported (left_live row.place s)))
 
-pub same_ended_at : (row : ℕ) (told : EndNews) (moment word : ℕ) (s : Stepped) → (step.ended_at row told moment word s).call.inbox ≡ s.call.inbox
-same_ended_at row told moment word s = same_found (find_live row s.call.live) told moment word s
+pub same_ended_at : (row : ℕ) (reported : EndNews) (moment word : ℕ) (s : Stepped) → (step.ended_at row reported moment word s).call.inbox ≡ s.call.inbox
+same_ended_at row reported moment word s = same_found (find_live row s.call.live) reported moment word s
 
-pub same_too_large : (row moment : ℕ) (s : Stepped) → (step.heard_too_large row moment s).call.inbox ≡ s.call.inbox
+pub same_too_large : (row moment : ℕ) (s : Stepped) → (step.received_too_large row moment s).call.inbox ≡ s.call.inbox
 same_too_large row moment s = same_end_if (is_committed_live row s.call) ends.Response moment s
 
 same_by_last : (last : Option ℕ) (moment : ℕ) (s : Stepped) → (step.ended_by_last last moment s).call.inbox ≡ s.call.inbox

@@ -172,17 +172,17 @@ same_followed plans.None a committed refused = refl
 same_followed (plans.Retry policy) a committed refused = refl
 same_followed (plans.Hedge policy) a committed refused = refl
 
-followed_live : (b : Bool) (row : LiveRow) (told : EndNews) (moment word : ℕ) (s : Stepped) → b ≡ true → next_due (if b then step.followed row told moment (left_live row.place s) else step.counted row told moment word (settled told (left_live row.place s))).call ≡ next_due s.call
-followed_live true row told moment word s e =
+followed_live : (b : Bool) (row : LiveRow) (reported : EndNews) (moment word : ℕ) (s : Stepped) → b ≡ true → next_due (if b then step.followed row reported moment (left_live row.place s) else step.counted row reported moment word (settled reported (left_live row.place s))).call ≡ next_due s.call
+followed_live true row reported moment word s e =
     same_followed (call_plan s.call) s.call.attempts
-    (if names row.place s.call.attempts.committed then Some (step.next_place (step.row_ended row.place (row_end told s.ledger.entry moment (count_of s.tokens)) (left_live row.place s)).ledger) else s.call.attempts.committed)
-    (s.call.attempts.is_refusal_followed || is_refusal told.cause)
-followed_live false row told moment word s e = absurd (cc)
+    (if names row.place s.call.attempts.committed then Some (step.next_place (step.row_ended row.place (row_end reported s.ledger.entry moment (count_of s.tokens)) (left_live row.place s)).ledger) else s.call.attempts.committed)
+    (s.call.attempts.is_refusal_followed || is_refusal reported.cause)
+followed_live false row reported moment word s e = absurd (cc)
 
-followed_found : (found : Option LiveRow) (row : LiveRow) (told : EndNews) (moment word : ℕ) (s : Stepped) → found ≡ Some row → is_followed s.call.attempts told.cause told.unseen ≡ true → next_due (step.ended_if_live found told moment word s).call ≡ next_due s.call
-followed_found None row told moment word s e followed = absurd (cc)
-followed_found (Some x) row told moment word s e followed =
-    followed_live (is_followed s.call.attempts told.cause told.unseen) x told moment word s followed
+followed_found : (found : Option LiveRow) (row : LiveRow) (reported : EndNews) (moment word : ℕ) (s : Stepped) → found ≡ Some row → is_followed s.call.attempts reported.cause reported.unseen ≡ true → next_due (step.ended_if_live found reported moment word s).call ≡ next_due s.call
+followed_found None row reported moment word s e followed = absurd (cc)
+followed_found (Some x) row reported moment word s e followed =
+    followed_live (is_followed s.call.attempts reported.cause reported.unseen) x reported moment word s followed
 
-pub due_followed : (place : ℕ) (row : LiveRow) (told : EndNews) (moment word : ℕ) (s : Stepped) → find_live place s.call.live ≡ Some row → is_followed s.call.attempts told.cause told.unseen ≡ true → next_due (step.ended_at place told moment word s).call ≡ next_due s.call
-due_followed place row told moment word s found followed = followed_found (find_live place s.call.live) row told moment word s found followed
+pub due_followed : (place : ℕ) (row : LiveRow) (reported : EndNews) (moment word : ℕ) (s : Stepped) → find_live place s.call.live ≡ Some row → is_followed s.call.attempts reported.cause reported.unseen ≡ true → next_due (step.ended_at place reported moment word s).call ≡ next_due s.call
+due_followed place row reported moment word s found followed = followed_found (find_live place s.call.live) row reported moment word s found followed

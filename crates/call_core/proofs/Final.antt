@@ -67,11 +67,11 @@ pub final_placed : (row : ℕ) (at : Placed) (s : Stepped) → IsKept s.call →
 final_placed row at s kept e =
     ap (λ (o : Option LiveRow). step.placed_if_live o at s) (none_found row s.call.live (kept.ended e).live)
 
-pub final_ended_at : (row : ℕ) (told : EndNews) (moment word : ℕ) (s : Stepped) → IsKept s.call → is_some s.call.ended ≡ true → step.ended_at row told moment word s ≡ s
-final_ended_at row told moment word s kept e =
-    ap (λ (o : Option LiveRow). step.ended_if_live o told moment word s) (none_found row s.call.live (kept.ended e).live)
+pub final_ended_at : (row : ℕ) (reported : EndNews) (moment word : ℕ) (s : Stepped) → IsKept s.call → is_some s.call.ended ≡ true → step.ended_at row reported moment word s ≡ s
+final_ended_at row reported moment word s kept e =
+    ap (λ (o : Option LiveRow). step.ended_if_live o reported moment word s) (none_found row s.call.live (kept.ended e).live)
 
-pub final_news : (row : ℕ) (told : News) (moment word : ℕ) (s : Stepped) → IsKept s.call → is_some s.call.ended ≡ true → step.heard_news row told moment word s ≡ s
+pub final_news : (row : ℕ) (reported : News) (moment word : ℕ) (s : Stepped) → IsKept s.call → is_some s.call.ended ≡ true → step.received_news row reported moment word s ≡ s
 final_news row (news.Head tag meta seen) moment word s kept e =
     ap (λ (o : Option LiveRow). if is_some o then step.with_head meta (step.commit_by_head row moment s) else s) (none_found row s.call.live (kept.ended e).live)
 final_news row (news.Message tag octets seen) moment word s kept e =

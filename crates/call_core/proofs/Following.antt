@@ -69,27 +69,27 @@ length_closed : (b : Bool) (place moment : ℕ) (s : Stepped) → length (step.c
 length_closed true place moment s = length_end moment (step.committed place moment s) ∙ length_commit place moment s
 length_closed false place moment s = refl
 
-length_counted : (committed : Bool) (row : LiveRow) (told : EndNews) (moment word : ℕ) (s : Stepped) → length (if committed then step.ended_as ends.Row moment (step.row_ended row.place (row_end told s.ledger.entry moment (count_of s.tokens)) s) else step.counted_free row (row_end told s.ledger.entry moment (count_of s.tokens)) moment word s).ledger.rows ≡ length s.ledger.rows
-length_counted true row told moment word s =
-    let end : RowEnd = row_end told s.ledger.entry moment (count_of s.tokens) in
+length_counted : (committed : Bool) (row : LiveRow) (reported : EndNews) (moment word : ℕ) (s : Stepped) → length (if committed then step.ended_as ends.Row moment (step.row_ended row.place (row_end reported s.ledger.entry moment (count_of s.tokens)) s) else step.counted_free row (row_end reported s.ledger.entry moment (count_of s.tokens)) moment word s).ledger.rows ≡ length s.ledger.rows
+length_counted true row reported moment word s =
+    let end : RowEnd = row_end reported s.ledger.entry moment (count_of s.tokens) in
     length_end moment (step.row_ended row.place end s) ∙ length_at (ended_row end) s.ledger.rows row.place
-length_counted false row told moment word s =
-    let end : RowEnd = row_end told s.ledger.entry moment (count_of s.tokens) in
+length_counted false row reported moment word s =
+    let end : RowEnd = row_end reported s.ledger.entry moment (count_of s.tokens) in
     let after : Judged = judged_of row end word s.call s.tokens in
     length_closed after.closes row.place moment (with_judged row end after s) ∙ length_at (ended_row (record end { word = after.word })) s.ledger.rows row.place
 
 -- the step of a row that is live
-live_step : (row : ℕ) (live : LiveRow) (told : EndNews) (moment word : ℕ) (s : Stepped) → find_live row s.call.live ≡ Some live → step.ended_at row told moment word s ≡ step.live_ended live told moment word s
-live_step row live told moment word s e = ap (λ (o : Option LiveRow). step.ended_if_live o told moment word s) e
+live_step : (row : ℕ) (live : LiveRow) (reported : EndNews) (moment word : ℕ) (s : Stepped) → find_live row s.call.live ≡ Some live → step.ended_at row reported moment word s ≡ step.live_ended live reported moment word s
+live_step row live reported moment word s e = ap (λ (o : Option LiveRow). step.ended_if_live o reported moment word s) e
 
-test_step : (live : LiveRow) (told : EndNews) (moment word : ℕ) (s : Stepped) (b : Bool) → is_retried told s.call.attempts ≡ b → step.live_ended live told moment word s ≡ (if b then step.followed live told moment (left_live live.place s) else step.counted live told moment word (settled told (left_live live.place s)))
-test_step live told moment word s b e =
-    ap (λ (t : Bool). if t then step.followed live told moment (left_live live.place s) else step.counted live told moment word (settled told (left_live live.place s)))
-    (retried_by s.call.attempts told.cause told.unseen ∙ e)
+test_step : (live : LiveRow) (reported : EndNews) (moment word : ℕ) (s : Stepped) (b : Bool) → is_retried reported s.call.attempts ≡ b → step.live_ended live reported moment word s ≡ (if b then step.followed live reported moment (left_live live.place s) else step.counted live reported moment word (settled reported (left_live live.place s)))
+test_step live reported moment word s b e =
+    ap (λ (t : Bool). if t then step.followed live reported moment (left_live live.place s) else step.counted live reported moment word (settled reported (left_live live.place s)))
+    (retried_by s.call.attempts reported.cause reported.unseen ∙ e)
 
-followed_is : (live : LiveRow) (told : EndNews) (moment : ℕ) (s : Stepped) → IsRetried live moment s (step.followed live told moment (left_live live.place s))
-followed_is live told moment s =
-    let end : RowEnd = row_end told s.ledger.entry moment (count_of s.tokens) in
+followed_is : (live : LiveRow) (reported : EndNews) (moment : ℕ) (s : Stepped) → IsRetried live moment s (step.followed live reported moment (left_live live.place s))
+followed_is live reported moment s =
+    let end : RowEnd = row_end reported s.ledger.entry moment (count_of s.tokens) in
     let rows : List Row = changed_at (ended_row end) s.ledger.rows live.place in
     let x : Row = new_row s.call.number live.number kind.Transparent moment (stamp_if (names live.place s.call.attempts.committed) s.ledger.entry) in
     let same : length rows ≡ length s.ledger.rows = length_at (ended_row end) s.ledger.rows live.place in
@@ -105,11 +105,11 @@ followed_is live told moment s =
       tokens = refl;
     }
 
-pub retried_end : (row : ℕ) (live : LiveRow) (told : EndNews) (moment word : ℕ) (s : Stepped) → find_live row s.call.live ≡ Some live → is_retried told s.call.attempts ≡ true → IsRetried live moment s (step.ended_at row told moment word s)
-retried_end row live told moment word s e retried =
-    subst (λ (t : Stepped). IsRetried live moment s t) (sym (live_step row live told moment word s e ∙ test_step live told moment word s true retried)) (followed_is live told moment s)
+pub retried_end : (row : ℕ) (live : LiveRow) (reported : EndNews) (moment word : ℕ) (s : Stepped) → find_live row s.call.live ≡ Some live → is_retried reported s.call.attempts ≡ true → IsRetried live moment s (step.ended_at row reported moment word s)
+retried_end row live reported moment word s e retried =
+    subst (λ (t : Stepped). IsRetried live moment s t) (sym (live_step row live reported moment word s e ∙ test_step live reported moment word s true retried)) (followed_is live reported moment s)
 
-pub counted_end : (row : ℕ) (live : LiveRow) (told : EndNews) (moment word : ℕ) (s : Stepped) → find_live row s.call.live ≡ Some live → is_retried told s.call.attempts ≡ false → length (step.ended_at row told moment word s).ledger.rows ≡ length s.ledger.rows
-counted_end row live told moment word s e counted =
-    ap (λ (t : Stepped). length t.ledger.rows) (live_step row live told moment word s e ∙ test_step live told moment word s false counted)
-    ∙ length_counted (is_some s.call.attempts.committed) live told moment word (settled told (left_live live.place s))
+pub counted_end : (row : ℕ) (live : LiveRow) (reported : EndNews) (moment word : ℕ) (s : Stepped) → find_live row s.call.live ≡ Some live → is_retried reported s.call.attempts ≡ false → length (step.ended_at row reported moment word s).ledger.rows ≡ length s.ledger.rows
+counted_end row live reported moment word s e counted =
+    ap (λ (t : Stepped). length t.ledger.rows) (live_step row live reported moment word s e ∙ test_step live reported moment word s false counted)
+    ∙ length_counted (is_some s.call.attempts.committed) live reported moment word (settled reported (left_live live.place s))

@@ -216,11 +216,11 @@ follow_free : (row new : ℕ) (committed : Option ℕ) → (if names row committ
 follow_free row new None e = refl
 follow_free row new (Some p) e = absurd (follow_some (p == row) new p e)
 
-alone_followed : (place : ℕ) (row : LiveRow) (told : EndNews) (moment : ℕ) (s : Stepped) → find_live place s.call.live ≡ Some row → HasAtMostOne s.call → HasAtMostOne (step.followed row told moment (left_live row.place s)).call
-alone_followed place row told moment s e at_most =
+alone_followed : (place : ℕ) (row : LiveRow) (reported : EndNews) (moment : ℕ) (s : Stepped) → find_live place s.call.live ≡ Some row → HasAtMostOne s.call → HasAtMostOne (step.followed row reported moment (left_live row.place s)).call
+alone_followed place row reported moment s e at_most =
     let both : IsOne place row s.call.live × IsAlone s.call row = alone_found s.call place row at_most e in
     let u : Stepped = left_live row.place s in
-    let new : LiveRow = record { place = next_place (step.row_ended row.place (row_end told u.ledger.entry moment (count_of u.tokens)) u).ledger; number = row.number; link = None } in
+    let new : LiveRow = record { place = next_place (step.row_ended row.place (row_end reported u.ledger.entry moment (count_of u.tokens)) u).ledger; number = row.number; link = None } in
     inr (
       new,
       record {
@@ -230,18 +230,18 @@ alone_followed place row told moment s e at_most =
       },
     )
 
-going_followed : (place : ℕ) (row : LiveRow) (told : EndNews) (moment : ℕ) (s : Stepped) → find_live place s.call.live ≡ Some row → IsAlive s.call → IsGoing s.call → IsGoing (step.followed row told moment (left_live row.place s)).call
-going_followed place row told moment s e alive old =
+going_followed : (place : ℕ) (row : LiveRow) (reported : EndNews) (moment : ℕ) (s : Stepped) → find_live place s.call.live ≡ Some row → IsAlive s.call → IsGoing s.call → IsGoing (step.followed row reported moment (left_live row.place s)).call
+going_followed place row reported moment s e alive old =
     let u : Stepped = left_live row.place s in
-    let new : ℕ = next_place (step.row_ended row.place (row_end told u.ledger.entry moment (count_of u.tokens)) u).ledger in
-    let some : has_none (step.followed row told moment u).call.live ≡ false = some_more u.call.live (record { place = new; number = row.number; link = None }) in
+    let new : ℕ = next_place (step.row_ended row.place (row_end reported u.ledger.entry moment (count_of u.tokens)) u).ledger in
+    let some : has_none (step.followed row reported moment u).call.live ≡ false = some_more u.call.live (record { place = new; number = row.number; link = None }) in
     record {
       next = λ h. inl some;
-      alone = λ h. alone_followed place row told moment s e (old.alone h);
+      alone = λ h. alone_followed place row reported moment s e (old.alone h);
       most = old.most;
       fresh = λ h. absurd (alive.configured h);
       goes = λ h r c. old.goes h (record { ended = r.ended; configured = r.configured }) (follow_free row.place new s.call.attempts.committed c);
-      last = λ r h. absurd (some_list (step.followed row told moment u).call.live some h);
+      last = λ r h. absurd (some_list (step.followed row reported moment u).call.live some h);
       none = λ h. absurd (found_some place s.call.live row e (old.none h));
     }
 
@@ -315,13 +315,13 @@ known_open place row s e alive free old = record {
   alone = λ h. ((alone_found s.call place row (old.alone h) e).1.number, old.goes h (runs s.call alive) free);
 }
 
-going_closed : (place : ℕ) (row : LiveRow) (told : EndNews) (end : RowEnd) (moment word : ℕ) (s : Stepped) (b : Bool) → (judged_of row end word (left_live row.place s).call (settled told (left_live row.place s)).tokens).closes ≡ b → find_live place s.call.live ≡ Some row → IsAlive s.call → s.call.attempts.committed ≡ None → IsGoing s.call → IsGoing (step.closed_if b row.place moment (with_judged row end (judged_of row end word (left_live row.place s).call (settled told (left_live row.place s)).tokens) (settled told (left_live row.place s)))).call
-going_closed place row told end moment word s true c e alive free old =
-    going_over (step.closed_if true row.place moment (with_judged row end (judged_of row end word (left_live row.place s).call (settled told (left_live row.place s)).tokens) (settled told (left_live row.place s)))).call
+going_closed : (place : ℕ) (row : LiveRow) (reported : EndNews) (end : RowEnd) (moment word : ℕ) (s : Stepped) (b : Bool) → (judged_of row end word (left_live row.place s).call (settled reported (left_live row.place s)).tokens).closes ≡ b → find_live place s.call.live ≡ Some row → IsAlive s.call → s.call.attempts.committed ≡ None → IsGoing s.call → IsGoing (step.closed_if b row.place moment (with_judged row end (judged_of row end word (left_live row.place s).call (settled reported (left_live row.place s)).tokens) (settled reported (left_live row.place s)))).call
+going_closed place row reported end moment word s true c e alive free old =
+    going_over (step.closed_if true row.place moment (with_judged row end (judged_of row end word (left_live row.place s).call (settled reported (left_live row.place s)).tokens) (settled reported (left_live row.place s)))).call
     old.most (λ h. absurd (alive.configured h)) (λ h. (cc)) refl
-going_closed place row told end moment word s false c e alive free old =
+going_closed place row reported end moment word s false c e alive free old =
     let u : Stepped = left_live row.place s in
-    let v : Stepped = settled told u in
+    let v : Stepped = settled reported u in
     let a : Attempts = s.call.attempts in
     let plan : CallPlan = call_plan s.call in
     let is_alone : Bool = has_none u.call.live in
@@ -337,18 +337,18 @@ going_closed place row told end moment word s false c e alive free old =
       none = λ h. absurd (found_some place s.call.live row e (old.none (sym (judged_sent plan a row.number is_alone end above word) ∙ h)));
     }
 
-going_counted : (place : ℕ) (row : LiveRow) (told : EndNews) (moment word : ℕ) (s : Stepped) (o : Option ℕ) → s.call.attempts.committed ≡ o → find_live place s.call.live ≡ Some row → IsAlive s.call → IsGoing s.call → IsGoing (if is_some o then step.ended_as ends.Row moment (step.row_ended row.place (row_end told s.ledger.entry moment (count_of (settled told (left_live row.place s)).tokens)) (settled told (left_live row.place s))) else step.counted_free row (row_end told s.ledger.entry moment (count_of (settled told (left_live row.place s)).tokens)) moment word (settled told (left_live row.place s))).call
-going_counted place row told moment word s (Some p) c e alive old =
-    going_over (step.ended_as ends.Row moment (step.row_ended row.place (row_end told s.ledger.entry moment (count_of (settled told (left_live row.place s)).tokens)) (settled told (left_live row.place s)))).call
+going_counted : (place : ℕ) (row : LiveRow) (reported : EndNews) (moment word : ℕ) (s : Stepped) (o : Option ℕ) → s.call.attempts.committed ≡ o → find_live place s.call.live ≡ Some row → IsAlive s.call → IsGoing s.call → IsGoing (if is_some o then step.ended_as ends.Row moment (step.row_ended row.place (row_end reported s.ledger.entry moment (count_of (settled reported (left_live row.place s)).tokens)) (settled reported (left_live row.place s))) else step.counted_free row (row_end reported s.ledger.entry moment (count_of (settled reported (left_live row.place s)).tokens)) moment word (settled reported (left_live row.place s))).call
+going_counted place row reported moment word s (Some p) c e alive old =
+    going_over (step.ended_as ends.Row moment (step.row_ended row.place (row_end reported s.ledger.entry moment (count_of (settled reported (left_live row.place s)).tokens)) (settled reported (left_live row.place s)))).call
     old.most (λ h. absurd (alive.configured h)) (λ h. (cc)) refl
-going_counted place row told moment word s None c e alive old =
-    let v : Stepped = settled told (left_live row.place s) in
-    let end : RowEnd = row_end told s.ledger.entry moment (count_of v.tokens) in
-    going_closed place row told end moment word s (judged_of row end word v.call v.tokens).closes refl e alive c old
+going_counted place row reported moment word s None c e alive old =
+    let v : Stepped = settled reported (left_live row.place s) in
+    let end : RowEnd = row_end reported s.ledger.entry moment (count_of v.tokens) in
+    going_closed place row reported end moment word s (judged_of row end word v.call v.tokens).closes refl e alive c old
 
-going_live : (place : ℕ) (row : LiveRow) (told : EndNews) (moment word : ℕ) (s : Stepped) (b : Bool) → find_live place s.call.live ≡ Some row → IsAlive s.call → IsGoing s.call → IsGoing (if b then step.followed row told moment (left_live row.place s) else step.counted row told moment word (settled told (left_live row.place s))).call
-going_live place row told moment word s true e alive old = going_followed place row told moment s e alive old
-going_live place row told moment word s false e alive old = going_counted place row told moment word s s.call.attempts.committed refl e alive old
+going_live : (place : ℕ) (row : LiveRow) (reported : EndNews) (moment word : ℕ) (s : Stepped) (b : Bool) → find_live place s.call.live ≡ Some row → IsAlive s.call → IsGoing s.call → IsGoing (if b then step.followed row reported moment (left_live row.place s) else step.counted row reported moment word (settled reported (left_live row.place s))).call
+going_live place row reported moment word s true e alive old = going_followed place row reported moment s e alive old
+going_live place row reported moment word s false e alive old = going_counted place row reported moment word s s.call.attempts.committed refl e alive old
 
 -- the tokens forbid an attempt
 tested_sent : (b : Bool) (n : ℕ) → (n == 0) ≡ b → not b ≡ true → n ≡ 0 → ⊥
@@ -446,7 +446,7 @@ going_accepted over None moment s found old = old
 going_accepted over (Some place) moment s found old = going_over_if place moment (found place refl).0 s over (found place refl).1 old
 
 -- the parts of a run
-pub going_moves : Moves (λ chosen. 1 ≤ most_attempts chosen.plan) (λ s row told. Unit {0}) (λ moment s t. IsKept s.call → IsGoing s.call → IsGoing t.call)
+pub going_moves : Moves (λ chosen. 1 ≤ most_attempts chosen.plan) (λ s row reported. Unit {0}) (λ moment s t. IsKept s.call → IsGoing s.call → IsGoing t.call)
 going_moves = record {
   same = λ moment s kept old. old;
   configured = λ chosen moment s most e fresh kept old. going_chosen chosen moment s most fresh kept old;
@@ -455,8 +455,8 @@ going_moves = record {
   too_large = λ row moment s e kept old. going_ended ends.Response moment s old;
   head = λ place row meta moment s e kept old. going_head_by place row meta moment s (is_some s.call.attempts.committed) e old;
   message = λ row octets moment s kept old. going_message octets s.call (is_committed_live row s.call) old;
-  row_ended = λ place row told moment word s e known kept old.
-      going_live place row told moment word s (is_followed s.call.attempts told.cause told.unseen) e (found_alive s.call place row kept e) old;
+  row_ended = λ place row reported moment word s e known kept old.
+      going_live place row reported moment word s (is_followed s.call.attempts reported.cause reported.unseen) e (found_alive s.call place row kept e) old;
   placed = λ place row at s entry e free kept old. going_placed place row at s e old;
   refused = λ due moment s e passed tested kept old.
       let both : (hedges (call_plan s.call) ≡ true) × (s.call.attempts.sent ≡ 0 → ⊥) = tested_hedges (call_plan s.call) s.call.attempts tested in

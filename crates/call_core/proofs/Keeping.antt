@@ -174,9 +174,9 @@ committed_before : (row new p : ℕ) (committed : Option ℕ) → (if names row 
 committed_before row new p None h = absurd (cc)
 committed_before row new p (Some q) h = (q, refl)
 
-kept_followed : (row : LiveRow) (told : EndNews) (moment : ℕ) (s : Stepped) → IsAlive s.call → IsSole s.call row.place → IsKept (step.followed row told moment s).call
-kept_followed row told moment s alive sole =
-    let t : Stepped = step.row_ended row.place (row_end told s.ledger.entry moment (count_of s.tokens)) s in
+kept_followed : (row : LiveRow) (reported : EndNews) (moment : ℕ) (s : Stepped) → IsAlive s.call → IsSole s.call row.place → IsKept (step.followed row reported moment s).call
+kept_followed row reported moment s alive sole =
+    let t : Stepped = step.row_ended row.place (row_end reported s.ledger.entry moment (count_of s.tokens)) s in
     let new : ℕ = next_place t.ledger in
     record {
       ended = λ h. absurd (alive.live h);
@@ -210,16 +210,16 @@ kept_closed_if : (closes : Bool) (place moment : ℕ) (s : Stepped) → IsKept s
 kept_closed_if true place moment s kept configured = kept_by_row place moment s kept configured
 kept_closed_if false place moment s kept configured = kept
 
-kept_counted_by : (row : LiveRow) (told : EndNews) (moment word : ℕ) (s : Stepped) (o : Option ℕ) → s.call.attempts.committed ≡ o → IsKept s.call → IsAlive s.call → IsKept (if is_some o then step.ended_as ends.Row moment (step.row_ended row.place (row_end told s.ledger.entry moment (count_of s.tokens)) s) else step.counted_free row (row_end told s.ledger.entry moment (count_of s.tokens)) moment word s).call
-kept_counted_by row told moment word s (Some p) e kept alive =
-    kept_end ends.Row moment (step.row_ended row.place (row_end told s.ledger.entry moment (count_of s.tokens)) s) kept
-kept_counted_by row told moment word s None e kept alive =
-    let end : RowEnd = row_end told s.ledger.entry moment (count_of s.tokens) in
+kept_counted_by : (row : LiveRow) (reported : EndNews) (moment word : ℕ) (s : Stepped) (o : Option ℕ) → s.call.attempts.committed ≡ o → IsKept s.call → IsAlive s.call → IsKept (if is_some o then step.ended_as ends.Row moment (step.row_ended row.place (row_end reported s.ledger.entry moment (count_of s.tokens)) s) else step.counted_free row (row_end reported s.ledger.entry moment (count_of s.tokens)) moment word s).call
+kept_counted_by row reported moment word s (Some p) e kept alive =
+    kept_end ends.Row moment (step.row_ended row.place (row_end reported s.ledger.entry moment (count_of s.tokens)) s) kept
+kept_counted_by row reported moment word s None e kept alive =
+    let end : RowEnd = row_end reported s.ledger.entry moment (count_of s.tokens) in
     let after : Judged = judged_of row end word s.call s.tokens in
     kept_closed_if after.closes row.place moment (with_judged row end after s) (kept_judged row end word s alive e) alive.configured
 
-kept_counted : (row : LiveRow) (told : EndNews) (moment word : ℕ) (s : Stepped) → IsKept s.call → IsAlive s.call → IsKept (step.counted row told moment word s).call
-kept_counted row told moment word s kept alive = kept_counted_by row told moment word s s.call.attempts.committed refl kept alive
+kept_counted : (row : LiveRow) (reported : EndNews) (moment word : ℕ) (s : Stepped) → IsKept s.call → IsAlive s.call → IsKept (step.counted row reported moment word s).call
+kept_counted row reported moment word s kept alive = kept_counted_by row reported moment word s s.call.attempts.committed refl kept alive
 
 sole_left : (place : ℕ) (row : LiveRow) (s : Stepped) → IsKept s.call → find_live place s.call.live ≡ Some row → IsSole (left_live row.place s).call row.place
 sole_left place row s kept e = record {
@@ -229,19 +229,19 @@ sole_left place row s kept e = record {
       (sym is, without_all row.place s.call.live (subst (λ (k : ℕ). AllAt k s.call.live) (sym is) all), (kept.committed p h).stopped);
 }
 
-kept_live_by : (b : Bool) (row : LiveRow) (told : EndNews) (moment word : ℕ) (s : Stepped) → IsKept s.call → IsAlive s.call → IsSole s.call row.place → IsKept (if b then step.followed row told moment s else step.counted row told moment word (settled told s)).call
-kept_live_by true row told moment word s kept alive sole = kept_followed row told moment s alive sole
-kept_live_by false row told moment word s kept alive sole = kept_counted row told moment word (settled told s) kept alive
+kept_live_by : (b : Bool) (row : LiveRow) (reported : EndNews) (moment word : ℕ) (s : Stepped) → IsKept s.call → IsAlive s.call → IsSole s.call row.place → IsKept (if b then step.followed row reported moment s else step.counted row reported moment word (settled reported s)).call
+kept_live_by true row reported moment word s kept alive sole = kept_followed row reported moment s alive sole
+kept_live_by false row reported moment word s kept alive sole = kept_counted row reported moment word (settled reported s) kept alive
 
-kept_ended_by : (place : ℕ) (found : Option LiveRow) (told : EndNews) (moment word : ℕ) (s : Stepped) → find_live place s.call.live ≡ found → IsKept s.call → IsKept (step.ended_if_live found told moment word s).call
-kept_ended_by place None told moment word s e kept = kept
-kept_ended_by place (Some row) told moment word s e kept =
+kept_ended_by : (place : ℕ) (found : Option LiveRow) (reported : EndNews) (moment word : ℕ) (s : Stepped) → find_live place s.call.live ≡ found → IsKept s.call → IsKept (step.ended_if_live found reported moment word s).call
+kept_ended_by place None reported moment word s e kept = kept
+kept_ended_by place (Some row) reported moment word s e kept =
     let alive : IsAlive s.call = found_alive s.call place row kept e in
     let alive_left : IsAlive (left_live row.place s).call = record { live = alive.live; configured = alive.configured } in
-    kept_live_by (is_followed s.call.attempts told.cause told.unseen) row told moment word (left_live row.place s) (kept_left row.place s kept) alive_left (sole_left place row s kept e)
+    kept_live_by (is_followed s.call.attempts reported.cause reported.unseen) row reported moment word (left_live row.place s) (kept_left row.place s kept) alive_left (sole_left place row s kept e)
 
-pub kept_ended_at : (row : ℕ) (told : EndNews) (moment word : ℕ) (s : Stepped) → IsKept s.call → IsKept (step.ended_at row told moment word s).call
-kept_ended_at row told moment word s kept = kept_ended_by row (find_live row s.call.live) told moment word s refl kept
+pub kept_ended_at : (row : ℕ) (reported : EndNews) (moment word : ℕ) (s : Stepped) → IsKept s.call → IsKept (step.ended_at row reported moment word s).call
+kept_ended_at row reported moment word s kept = kept_ended_by row (find_live row s.call.live) reported moment word s refl kept
 
 -- a change of parts of which the law doesn't speak
 kept_like : (a b : CallState) → b.live ≡ a.live → b.ended ≡ a.ended → b.attempts ≡ a.attempts → b.chosen ≡ a.chosen → IsKept a → IsKept b
@@ -272,7 +272,7 @@ kept_message : (row : ℕ) (octets : List ℕ) (call : CallState) (b : Bool) →
 kept_message row octets call true kept = kept_like call _ refl refl refl refl kept
 kept_message row octets call false kept = kept
 
-pub kept_news : (row : ℕ) (told : News) (moment word : ℕ) (s : Stepped) → IsKept s.call → IsKept (step.heard_news row told moment word s).call
+pub kept_news : (row : ℕ) (reported : News) (moment word : ℕ) (s : Stepped) → IsKept s.call → IsKept (step.received_news row reported moment word s).call
 kept_news row (news.Head tag meta seen) moment word s kept = kept_head_found row meta moment s (find_live row s.call.live) refl kept
 kept_news row (news.Message tag octets seen) moment word s kept = kept_message row octets s.call (is_committed_live row s.call) kept
 kept_news row (news.TooLarge tag seen) moment word s kept = kept_end_if (is_committed_live row s.call) ends.Response moment s kept

@@ -35,4 +35,4 @@ mod Rows
 mod Standing
 mod Stopping
 mod Timed
-mod Told
+mod Report

@@ -1,4 +1,4 @@
--- Deadlines and limits end a call, a committed call hears one row, and an ended row holds its tokens.
+-- Deadlines and limits end a call, a committed call receives one row, and an ended row holds its tokens.
 use Rattle.std.proofs.Common.{◌≡◌, ◌≤◌, ◌<◌, ℕ, Bool, true, false, not, ◌&&◌, ◌||◌, length, if◌then◌else◌, Option, Some, None, is_some, List, [], ◌∷◌, ◌++◌, refl, sym, ap, ◌∙◌}
 use Rattle.std.proofs.lemmas.Bool.{le-leb, lt-leb, lt-ltb}
 use Rattle.grpc_base.specs.declared.event.EndCause.{EndCause}
@@ -73,7 +73,7 @@ other_large : (moment : ℕ) (s : Stepped) (found : Option LiveRow) (b : Bool) �
 other_large moment s found true e = ap (λ (o : Option LiveRow). step.ended_if (is_some o) ends.Response moment s) e
 other_large moment s found false e = refl
 
-pub other_news : (row place : ℕ) (told : News) (moment word : ℕ) (s : Stepped) → IsKept s.call → s.call.attempts.committed ≡ Some place → (row ≡ place → ⊥) → step.heard_news row told moment word s ≡ s
+pub other_news : (row place : ℕ) (reported : News) (moment word : ℕ) (s : Stepped) → IsKept s.call → s.call.attempts.committed ≡ Some place → (row ≡ place → ⊥) → step.received_news row reported moment word s ≡ s
 other_news row place (news.Head tag meta seen) moment word s kept c off =
     ap (λ (o : Option LiveRow). if is_some o then step.with_head meta (step.commit_by_head row moment s) else s) (off_live row place s kept c off)
 other_news row place (news.Message tag octets seen) moment word s kept c off =
@@ -90,7 +90,7 @@ head_by : (row : ℕ) (meta : List Field) (moment : ℕ) (s : Stepped) (b : Bool
 head_by row meta moment s true = refl
 head_by row meta moment s false = refl
 
-pub head_first : (row : ℕ) (live : LiveRow) (meta : List Field) (moment : ℕ) (s : Stepped) → find_live row s.call.live ≡ Some live → came (step.heard_head row meta moment s).call ≡ reply.Head meta ∷ message_items s.call.inbox.messages
+pub head_first : (row : ℕ) (live : LiveRow) (meta : List Field) (moment : ℕ) (s : Stepped) → find_live row s.call.live ≡ Some live → came (step.received_head row meta moment s).call ≡ reply.Head meta ∷ message_items s.call.inbox.messages
 head_first row live meta moment s e =
     ap (λ (o : Option LiveRow). came (if is_some o then step.with_head meta (step.commit_by_head row moment s) else s).call) e
     ∙ head_by row meta moment s (is_some s.call.attempts.committed)
@@ -99,7 +99,7 @@ committed_by : (row : ℕ) (o : Option ℕ) (meta : List Field) (moment : ℕ) (
 committed_by row None meta moment s e sole = refl
 committed_by row (Some p) meta moment s e sole = e ∙ ap (λ (k : ℕ). Some k) (sole p refl)
 
-pub head_commits : (row : ℕ) (live : LiveRow) (meta : List Field) (moment : ℕ) (s : Stepped) → IsKept s.call → find_live row s.call.live ≡ Some live → (step.heard_head row meta moment s).call.attempts.committed ≡ Some row
+pub head_commits : (row : ℕ) (live : LiveRow) (meta : List Field) (moment : ℕ) (s : Stepped) → IsKept s.call → find_live row s.call.live ≡ Some live → (step.received_head row meta moment s).call.attempts.committed ≡ Some row
 head_commits row live meta moment s kept e =
     ap (λ (o : Option LiveRow). (if is_some o then step.with_head meta (step.commit_by_head row moment s) else s).call.attempts.committed) e
     ∙ committed_by row s.call.attempts.committed meta moment s refl (λ p c. sym (found_at p row s.call.live live (kept.committed p c).live e) ∙ found_place row s.call.live live e)

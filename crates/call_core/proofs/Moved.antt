@@ -116,9 +116,9 @@ written_if : (b : Bool) (n : ℕ) → Written (λ e. e) n None (stamp_if b n)
 written_if true n = refl
 written_if false n = tt
 
-moved_followed : (row : LiveRow) (told : EndNews) (moment : ℕ) (s : Stepped) → Moved s.ledger (step.followed row told moment s).ledger
-moved_followed row told moment s =
-    let end : RowEnd = row_end told s.ledger.entry moment (count_of s.tokens) in
+moved_followed : (row : LiveRow) (reported : EndNews) (moment : ℕ) (s : Stepped) → Moved s.ledger (step.followed row reported moment s).ledger
+moved_followed row reported moment s =
+    let end : RowEnd = row_end reported s.ledger.entry moment (count_of s.tokens) in
     let t : Stepped = step.row_ended row.place end s in
     moved_then s.ledger t.ledger _ (moved_row_ended row.place end s refl)
     (moved_added row.number kind.Transparent moment (stamp_if (names row.place s.call.attempts.committed) s.ledger.entry) t (written_if (names row.place s.call.attempts.committed) s.ledger.entry))
@@ -134,35 +134,35 @@ moved_judged row end after moment s e =
     (moved_row_ended row.place (record end { word = after.word }) s e)
     (moved_closed_if after.closes row.place moment (with_judged row end after s))
 
-moved_counted : (row : LiveRow) (told : EndNews) (moment word : ℕ) (s : Stepped) → Moved s.ledger (step.counted row told moment word s).ledger
-moved_counted row told moment word s =
-    let end : RowEnd = row_end told s.ledger.entry moment (count_of s.tokens) in
+moved_counted : (row : LiveRow) (reported : EndNews) (moment word : ℕ) (s : Stepped) → Moved s.ledger (step.counted row reported moment word s).ledger
+moved_counted row reported moment word s =
+    let end : RowEnd = row_end reported s.ledger.entry moment (count_of s.tokens) in
     moved_if s.ledger (is_some s.call.attempts.committed) (step.ended_as ends.Row moment (step.row_ended row.place end s)) (step.counted_free row end moment word s)
     (moved_then s.ledger (step.row_ended row.place end s).ledger _ (moved_row_ended row.place end s refl) (moved_ended ends.Row moment (step.row_ended row.place end s)))
     (moved_judged row end (judged_of row end word s.call s.tokens) moment s refl)
 
-moved_live : (row : LiveRow) (told : EndNews) (moment word : ℕ) (s : Stepped) → Moved s.ledger (step.live_ended row told moment word s).ledger
-moved_live row told moment word s =
-    moved_if s.ledger (is_followed s.call.attempts told.cause told.unseen) (step.followed row told moment (left_live row.place s)) (step.counted row told moment word (settled told (left_live row.place s)))
-    (moved_followed row told moment (left_live row.place s))
-    (moved_counted row told moment word (settled told (left_live row.place s)))
+moved_live : (row : LiveRow) (reported : EndNews) (moment word : ℕ) (s : Stepped) → Moved s.ledger (step.live_ended row reported moment word s).ledger
+moved_live row reported moment word s =
+    moved_if s.ledger (is_followed s.call.attempts reported.cause reported.unseen) (step.followed row reported moment (left_live row.place s)) (step.counted row reported moment word (settled reported (left_live row.place s)))
+    (moved_followed row reported moment (left_live row.place s))
+    (moved_counted row reported moment word (settled reported (left_live row.place s)))
 
-moved_found : (found : Option LiveRow) (told : EndNews) (moment word : ℕ) (s : Stepped) → Moved s.ledger (step.ended_if_live found told moment word s).ledger
-moved_found None told moment word s = moved_same s.ledger
-moved_found (Some row) told moment word s = moved_live row told moment word s
+moved_found : (found : Option LiveRow) (reported : EndNews) (moment word : ℕ) (s : Stepped) → Moved s.ledger (step.ended_if_live found reported moment word s).ledger
+moved_found None reported moment word s = moved_same s.ledger
+moved_found (Some row) reported moment word s = moved_live row reported moment word s
 
-pub moved_ended_at : (row : ℕ) (told : EndNews) (moment word : ℕ) (s : Stepped) → Moved s.ledger (step.ended_at row told moment word s).ledger
-moved_ended_at row told moment word s = moved_found (find_live row s.call.live) told moment word s
+pub moved_ended_at : (row : ℕ) (reported : EndNews) (moment word : ℕ) (s : Stepped) → Moved s.ledger (step.ended_at row reported moment word s).ledger
+moved_ended_at row reported moment word s = moved_found (find_live row s.call.live) reported moment word s
 
 -- news
-moved_head : (row : ℕ) (meta : List Field) (moment : ℕ) (s : Stepped) → Moved s.ledger (step.heard_head row meta moment s).ledger
+moved_head : (row : ℕ) (meta : List Field) (moment : ℕ) (s : Stepped) → Moved s.ledger (step.received_head row meta moment s).ledger
 moved_head row meta moment s =
     let c : Stepped = record s { call = record s.call { buffer = committed_buffer row s.call.buffer } } in
     moved_if s.ledger (is_some (find_live row s.call.live)) (step.with_head meta (step.commit_by_head row moment s)) s
     (moved_if s.ledger (is_some s.call.attempts.committed) s (step.committed row moment c) (moved_same s.ledger) (moved_commit row moment c))
     (moved_same s.ledger)
 
-pub moved_news : (row : ℕ) (told : News) (moment word : ℕ) (s : Stepped) → Moved s.ledger (step.heard_news row told moment word s).ledger
+pub moved_news : (row : ℕ) (reported : News) (moment word : ℕ) (s : Stepped) → Moved s.ledger (step.received_news row reported moment word s).ledger
 moved_news row (news.Head tag meta seen) moment word s = moved_head row meta moment s
 moved_news row (news.Message tag octets seen) moment word s = moved_same s.ledger
 moved_news row (news.TooLarge tag seen) moment word s = moved_ended_if (is_committed_live row s.call) ends.Response moment s

@@ -1,5 +1,5 @@
 -- What holds of each whole thing that is done to a call, holds of every call of it. `R` sees the moment at which it is done; `C` is
--- what is known of a configuration, and `T` what is known of an end that is told of a live row.
+-- what is known of a configuration, and `T` what is known of an end that is reported of a live row.
 use Rattle.std.proofs.Common.{◌≡◌, ◌≤◌, ℕ, Bool, true, false, not, ◌&&◌, ◌||◌, nat_le, nat_lt, length, if◌then◌else◌, Option, Some, None, is_some, List, refl}
 use Rattle.std.proofs.lemmas.Bool.{ltb-false}
 use Rattle.grpc_base.specs.declared.event.EndCause.{EndCause}
@@ -24,8 +24,8 @@ pub record Moves (C : Chosen → Type 0) (T : Stepped → LiveRow → EndNews �
   pub ended : (why : EndCause) (moment : ℕ) (s : Stepped) → is_by_row why ≡ false → s.call.ended ≡ None → R moment s (step.ended_as why moment s)
   pub too_large : (row moment : ℕ) (s : Stepped) → is_committed_live row s.call ≡ true → R moment s (step.ended_as ends.Response moment s)
   pub head : (place : ℕ) (row : LiveRow) (meta : List Field) (moment : ℕ) (s : Stepped) → find_live place s.call.live ≡ Some row → R moment s (step.with_head meta (step.commit_by_head place moment s))
-  pub message : (row : ℕ) (octets : List ℕ) (moment : ℕ) (s : Stepped) → R moment s (record s { call = step.heard_message row octets s.call })
-  pub row_ended : (place : ℕ) (row : LiveRow) (told : EndNews) (moment word : ℕ) (s : Stepped) → find_live place s.call.live ≡ Some row → T s row told → R moment s (step.live_ended row told moment word s)
+  pub message : (row : ℕ) (octets : List ℕ) (moment : ℕ) (s : Stepped) → R moment s (record s { call = step.received_message row octets s.call })
+  pub row_ended : (place : ℕ) (row : LiveRow) (reported : EndNews) (moment word : ℕ) (s : Stepped) → find_live place s.call.live ≡ Some row → T s row reported → R moment s (step.live_ended row reported moment word s)
   pub placed : (place : ℕ) (row : LiveRow) (at : Placed) (s : Stepped) → at.entry ≡ s.ledger.entry → find_live place s.call.live ≡ Some row → row.link ≡ None → R at.moment s (step.placed_row_live row at s)
   pub refused : (due moment : ℕ) (s : Stepped) → next_due s.call ≡ Some due → due ≤ moment → is_tested (call_plan s.call) s.call.attempts ≡ true → R moment s (step.refused_due moment s)
   pub made : (due moment : ℕ) (s : Stepped) → next_due s.call ≡ Some due → due ≤ moment → R moment s (step.made due s)
@@ -97,12 +97,12 @@ pub moves_placed : (C : Chosen → Type 0) (T : Stepped → LiveRow → EndNews 
 moves_placed C T R h row at s e = placed_found C T R h row (find_live row s.call.live) at s e refl
 
 -- news
-ended_found : (C : Chosen → Type 0) (T : Stepped → LiveRow → EndNews → Type 0) (R : ℕ → Stepped → Stepped → Type 0) → Moves C T R → (place : ℕ) (found : Option LiveRow) (told : EndNews) (moment word : ℕ) (s : Stepped) → find_live place s.call.live ≡ found → ((row : LiveRow) → find_live place s.call.live ≡ Some row → T s row told) → R moment s (step.ended_if_live found told moment word s)
-ended_found C T R h place None told moment word s e known = h.same moment s
-ended_found C T R h place (Some row) told moment word s e known = h.row_ended place row told moment word s e (known row e)
+ended_found : (C : Chosen → Type 0) (T : Stepped → LiveRow → EndNews → Type 0) (R : ℕ → Stepped → Stepped → Type 0) → Moves C T R → (place : ℕ) (found : Option LiveRow) (reported : EndNews) (moment word : ℕ) (s : Stepped) → find_live place s.call.live ≡ found → ((row : LiveRow) → find_live place s.call.live ≡ Some row → T s row reported) → R moment s (step.ended_if_live found reported moment word s)
+ended_found C T R h place None reported moment word s e known = h.same moment s
+ended_found C T R h place (Some row) reported moment word s e known = h.row_ended place row reported moment word s e (known row e)
 
-pub moves_ended_at : (C : Chosen → Type 0) (T : Stepped → LiveRow → EndNews → Type 0) (R : ℕ → Stepped → Stepped → Type 0) → Moves C T R → (row : ℕ) (told : EndNews) (moment word : ℕ) (s : Stepped) → ((live : LiveRow) → find_live row s.call.live ≡ Some live → T s live told) → R moment s (step.ended_at row told moment word s)
-moves_ended_at C T R h row told moment word s known = ended_found C T R h row (find_live row s.call.live) told moment word s refl known
+pub moves_ended_at : (C : Chosen → Type 0) (T : Stepped → LiveRow → EndNews → Type 0) (R : ℕ → Stepped → Stepped → Type 0) → Moves C T R → (row : ℕ) (reported : EndNews) (moment word : ℕ) (s : Stepped) → ((live : LiveRow) → find_live row s.call.live ≡ Some live → T s live reported) → R moment s (step.ended_at row reported moment word s)
+moves_ended_at C T R h row reported moment word s known = ended_found C T R h row (find_live row s.call.live) reported moment word s refl known
 
 head_found : (C : Chosen → Type 0) (T : Stepped → LiveRow → EndNews → Type 0) (R : ℕ → Stepped → Stepped → Type 0) → Moves C T R → (place : ℕ) (found : Option LiveRow) (meta : List Field) (moment : ℕ) (s : Stepped) → find_live place s.call.live ≡ found → R moment s (if is_some found then step.with_head meta (step.commit_by_head place moment s) else s)
 head_found C T R h place None meta moment s e = h.same moment s
@@ -112,7 +112,7 @@ large_if : (C : Chosen → Type 0) (T : Stepped → LiveRow → EndNews → Type
 large_if C T R h row moment s true e = h.too_large row moment s e
 large_if C T R h row moment s false e = h.same moment s
 
-pub moves_news : (C : Chosen → Type 0) (T : Stepped → LiveRow → EndNews → Type 0) (R : ℕ → Stepped → Stepped → Type 0) → Moves C T R → (row : ℕ) (told : News) (moment word : ℕ) (s : Stepped) → ((tag : ℕ) (end : EndNews) (live : LiveRow) → told ≡ news.Ended tag end → find_live row s.call.live ≡ Some live → T s live end) → R moment s (step.heard_news row told moment word s)
+pub moves_news : (C : Chosen → Type 0) (T : Stepped → LiveRow → EndNews → Type 0) (R : ℕ → Stepped → Stepped → Type 0) → Moves C T R → (row : ℕ) (reported : News) (moment word : ℕ) (s : Stepped) → ((tag : ℕ) (end : EndNews) (live : LiveRow) → reported ≡ news.Ended tag end → find_live row s.call.live ≡ Some live → T s live end) → R moment s (step.received_news row reported moment word s)
 moves_news C T R h row (news.Head tag meta seen) moment word s known = head_found C T R h row (find_live row s.call.live) meta moment s refl
 moves_news C T R h row (news.Message tag octets seen) moment word s known = h.message row octets moment s
 moves_news C T R h row (news.TooLarge tag seen) moment word s known = large_if C T R h row moment s (is_committed_live row s.call) refl

@@ -38,9 +38,9 @@ pub record NamesStay (f : Row → Row) : Type 0 where
   pub number : (r : Row) → (f r).number ≡ r.number
   pub kind : (r : Row) → (f r).kind ≡ r.kind
 
-front : (x y : Row) (xs : List Row) (b : Bool) → number_and_kind y ≡ number_and_kind x → map number_and_kind (if b then y ∷ xs else xs) ≡ map number_and_kind (if b then x ∷ xs else xs)
-front x y xs true e = ap (λ (p : ℕ × Option RowKind). p ∷ map number_and_kind xs) e
-front x y xs false e = refl
+prefix : (x y : Row) (xs : List Row) (b : Bool) → number_and_kind y ≡ number_and_kind x → map number_and_kind (if b then y ∷ xs else xs) ≡ map number_and_kind (if b then x ∷ xs else xs)
+prefix x y xs true e = ap (λ (p : ℕ × Option RowKind). p ∷ map number_and_kind xs) e
+prefix x y xs false e = refl
 
 same_attempt : (c : ℕ) (f : Row → Row) (r : Row) → NamesStay f → is_attempt_of c (f r) ≡ is_attempt_of c r
 same_attempt c f r stay =
@@ -50,17 +50,17 @@ same_name : (f : Row → Row) (r : Row) → NamesStay f → number_and_kind (f r
 same_name f r stay =
     ap (λ (n : ℕ). let p : ℕ × Option RowKind = (n, Some (f r).kind) in p) (stay.number r) ∙ ap (λ (k : RowKind). let p : ℕ × Option RowKind = (r.number, Some k) in p) (stay.kind r)
 
-behind : (x : Row) (xs ys : List Row) (b : Bool) → map number_and_kind xs ≡ map number_and_kind ys → map number_and_kind (if b then x ∷ xs else xs) ≡ map number_and_kind (if b then x ∷ ys else ys)
-behind x xs ys true e = ap (λ (l : List (ℕ × Option RowKind)). number_and_kind x ∷ l) e
-behind x xs ys false e = e
+afterwards : (x : Row) (xs ys : List Row) (b : Bool) → map number_and_kind xs ≡ map number_and_kind ys → map number_and_kind (if b then x ∷ xs else xs) ≡ map number_and_kind (if b then x ∷ ys else ys)
+afterwards x xs ys true e = ap (λ (l : List (ℕ × Option RowKind)). number_and_kind x ∷ l) e
+afterwards x xs ys false e = e
 
 attempts_changed : (c : ℕ) (f : Row → Row) (rows : List Row) (index : ℕ) → NamesStay f → attempts_in c (changed f rows index) ≡ attempts_in c rows
 attempts_changed c f [] index stay = refl
 attempts_changed c f (r ∷ rows) zero stay =
     ap (λ (b : Bool). map number_and_kind (if b then f r ∷ filter (is_attempt_of c) rows else filter (is_attempt_of c) rows)) (same_attempt c f r stay)
-    ∙ front r (f r) (filter (is_attempt_of c) rows) (is_attempt_of c r) (same_name f r stay)
+    ∙ prefix r (f r) (filter (is_attempt_of c) rows) (is_attempt_of c r) (same_name f r stay)
 attempts_changed c f (r ∷ rows) (suc index) stay =
-    behind r (filter (is_attempt_of c) (changed f rows index)) (filter (is_attempt_of c) rows) (is_attempt_of c r) (attempts_changed c f rows index stay)
+    afterwards r (filter (is_attempt_of c) (changed f rows index)) (filter (is_attempt_of c) rows) (is_attempt_of c r) (attempts_changed c f rows index stay)
 
 attempts_index : (c : ℕ) (f : Row → Row) (rows : List Row) (index : Option ℕ) → NamesStay f → attempts_in c (option_map_or (λ i. changed f rows i) index rows) ≡ attempts_in c rows
 attempts_index c f rows None stay = refl
@@ -70,14 +70,14 @@ pub attempts_at : (c : ℕ) (f : Row → Row) (rows : List Row) (place : ℕ) �
 attempts_at c f rows place stay = attempts_index c f rows (index_at place (length rows)) stay
 
 -- a row more
-more_behind : (x : Row) (xs ys : List Row) (l : List (ℕ × Option RowKind)) (b : Bool) → map number_and_kind xs ≡ map number_and_kind ys ++ l → map number_and_kind (if b then x ∷ xs else xs) ≡ map number_and_kind (if b then x ∷ ys else ys) ++ l
-more_behind x xs ys l true e = ap (λ (p : List (ℕ × Option RowKind)). number_and_kind x ∷ p) e
-more_behind x xs ys l false e = e
+more_after : (x : Row) (xs ys : List Row) (l : List (ℕ × Option RowKind)) (b : Bool) → map number_and_kind xs ≡ map number_and_kind ys ++ l → map number_and_kind (if b then x ∷ xs else xs) ≡ map number_and_kind (if b then x ∷ ys else ys) ++ l
+more_after x xs ys l true e = ap (λ (p : List (ℕ × Option RowKind)). number_and_kind x ∷ p) e
+more_after x xs ys l false e = e
 
 pub attempts_more : (c : ℕ) (rows : List Row) (r : Row) → attempts_in c (rows ++ r ∷ []) ≡ attempts_in c rows ++ attempts_in c (r ∷ [])
 attempts_more c [] r = refl
 attempts_more c (x ∷ rows) r =
-    more_behind x (filter (is_attempt_of c) (rows ++ r ∷ [])) (filter (is_attempt_of c) rows) (attempts_in c (r ∷ [])) (is_attempt_of c x) (attempts_more c rows r)
+    more_after x (filter (is_attempt_of c) (rows ++ r ∷ [])) (filter (is_attempt_of c) rows) (attempts_in c (r ∷ [])) (is_attempt_of c x) (attempts_more c rows r)
 
 no_attempt : (r : Row) (b : Bool) → b ≡ false → map number_and_kind (if b then r ∷ [] else []) ≡ []
 no_attempt r true e = absurd (cc)
@@ -141,10 +141,10 @@ transparent_none : (c : ℕ) (row : Row) → row.kind ≡ kind.Transparent → a
 transparent_none c row e =
     no_attempt row (is_attempt_of c row) (ap (λ (k : RowKind). (row.call == c) && not (is_transparent k)) e ∙ and_false (row.call == c))
 
-followed_attempts_same : (row : LiveRow) (told : EndNews) (moment : ℕ) (s : Stepped) → attempts_in s.call.number (step.followed row told moment s).ledger.rows ≡ attempts_in s.call.number s.ledger.rows
-followed_attempts_same row told moment s =
+followed_attempts_same : (row : LiveRow) (reported : EndNews) (moment : ℕ) (s : Stepped) → attempts_in s.call.number (step.followed row reported moment s).ledger.rows ≡ attempts_in s.call.number s.ledger.rows
+followed_attempts_same row reported moment s =
     let c : ℕ = s.call.number in
-    let end : RowEnd = row_end told s.ledger.entry moment (count_of s.tokens) in
+    let end : RowEnd = row_end reported s.ledger.entry moment (count_of s.tokens) in
     let rows : List Row = changed_at (ended_row end) s.ledger.rows row.place in
     let new : Row = new_row c row.number kind.Transparent moment (stamp_if (names row.place s.call.attempts.committed) s.ledger.entry) in
     attempts_more c rows new ∙ ap (λ (l : List (ℕ × Option RowKind)). attempts_in c rows ++ l) (transparent_none c new refl)
@@ -253,7 +253,7 @@ numbered_chain = record {
       refl refl (λ e. refl) old;
   ended = λ why moment s old.
       numbered_like s (step.ended_as why moment s) refl (attempts_all s.call.number None moment (count_of s.tokens) s.call.live s.ledger) refl refl (λ e. refl) old;
-  followed = λ row told moment s gone old. numbered_like s (step.followed row told moment s) refl (followed_attempts_same row told moment s) refl refl (λ e. e) old;
+  followed = λ row reported moment s gone old. numbered_like s (step.followed row reported moment s) refl (followed_attempts_same row reported moment s) refl refl (λ e. e) old;
   row_ended = λ place end s at gone old. numbered_like s (step.row_ended place end s) refl (attempts_at s.call.number (ended_row end) s.ledger.rows place (ended_stays end)) refl refl (λ e. e) old;
   judged = λ row end word s at gone free old.
       let after : Judged = judged_of row end word s.call s.tokens in
@@ -263,7 +263,7 @@ numbered_chain = record {
       refl (judged_sent (call_plan s.call) s.call.attempts row.number (has_none s.call.live) end (is_above s.tokens) word)
       (judged_stopped (call_plan s.call) s.call.attempts row.number (has_none s.call.live) end (is_above s.tokens) word) old;
   left = λ place s old. numbered_like s (left_live place s) refl refl refl refl (λ e. e) old;
-  settled = λ told s old. numbered_like s (settled told s) refl refl refl refl (λ e. e) old;
+  settled = λ reported s old. numbered_like s (settled reported s) refl refl refl refl (λ e. e) old;
   buffered = λ b s old. numbered_like s (with_buffer b s) refl refl refl refl (λ e. e) old;
   head = λ meta s old. numbered_like s (step.with_head meta s) refl refl refl refl (λ e. e) old;
   message = λ row octets s old. numbered_message row octets s (is_committed_live row s.call) old;

@@ -21,7 +21,7 @@ use Rattle.call_core.specs.declared.judge.Judged.{Judged}
 use Rattle.call_core.specs.declared.live.LiveRow.{LiveRow}
 use Rattle.call_core.specs.Parts.{committed_buffer, count_of, find_live, furthest, has_none, is_above, is_followed, is_row, is_tested, is_too_long, kept_alone, kind_of_next, linked, names, pushed_over, row_end, stopped_attempts, without}
 use Rattle.call_core.specs.Steps as step
-use Rattle.call_core.specs.Steps.{Stepped, call_plan, deadline_at, full_with, given_up_act, is_committed_live, judged_of, left_live, next_due, next_place, send_refusal, settled, stamp_if, told_all, told_unless, with_chosen, with_judged, with_message}
+use Rattle.call_core.specs.Steps.{Stepped, call_plan, deadline_at, full_with, given_up_act, is_committed_live, judged_of, left_live, next_due, next_place, send_refusal, settled, stamp_if, reported_all, reported_unless, with_chosen, with_judged, with_message}
 
 -- a row waits at a place
 abbrev pub WaitsIn : ℕ → List LiveRow → Type 0
@@ -89,20 +89,20 @@ either P s true x y first second = first
 either P s false x y first second = second
 
 -- cuts: each row that waits is dropped, but for the one that is kept
-told_one : (b : Bool) (acts : List CallAct) (a : CallAct) → (if b then acts else acts ++ a ∷ []) ≡ acts ++ (if b then [] else a ∷ [])
-told_one true acts a = sym (append-nil acts)
-told_one false acts a = refl
+reported_one : (b : Bool) (acts : List CallAct) (a : CallAct) → (if b then acts else acts ++ a ∷ []) ≡ acts ++ (if b then [] else a ∷ [])
+reported_one true acts a = sym (append-nil acts)
+reported_one false acts a = refl
 
-told_behind : (kept : Option ℕ) (live : List LiveRow) (acts : List CallAct) → told_all kept live acts ≡ acts ++ told_all kept live []
-told_behind kept [] acts = sym (append-nil acts)
-told_behind kept (row ∷ live) acts =
+reported_after : (kept : Option ℕ) (live : List LiveRow) (acts : List CallAct) → reported_all kept live acts ≡ acts ++ reported_all kept live []
+reported_after kept [] acts = sym (append-nil acts)
+reported_after kept (row ∷ live) acts =
     let one : List CallAct = if names row.place kept then [] else given_up_act row.place row.link ∷ [] in
-    let first : told_unless kept row acts ≡ acts ++ one = told_one (names row.place kept) acts (given_up_act row.place row.link) in
-    let start : told_unless kept row [] ≡ one = told_one (names row.place kept) [] (given_up_act row.place row.link) in
-    told_behind kept live (told_unless kept row acts)
-    ∙ ap (λ (l : List CallAct). l ++ told_all kept live []) first
-    ∙ append_assoc acts one (told_all kept live [])
-    ∙ ap (λ (l : List CallAct). acts ++ l) (ap (λ (l : List CallAct). l ++ told_all kept live []) (sym start) ∙ sym (told_behind kept live (told_unless kept row [])))
+    let first : reported_unless kept row acts ≡ acts ++ one = reported_one (names row.place kept) acts (given_up_act row.place row.link) in
+    let start : reported_unless kept row [] ≡ one = reported_one (names row.place kept) [] (given_up_act row.place row.link) in
+    reported_after kept live (reported_unless kept row acts)
+    ∙ ap (λ (l : List CallAct). l ++ reported_all kept live []) first
+    ∙ append_assoc acts one (reported_all kept live [])
+    ∙ ap (λ (l : List CallAct). acts ++ l) (ap (λ (l : List CallAct). l ++ reported_all kept live []) (sym start) ∙ sym (reported_after kept live (reported_unless kept row [])))
 
 pub follow_to : (acts : List CallAct) (P Q R : ℕ → Type 0) → ((place : ℕ) → Q place → R place) → Follow P acts Q → Follow P acts R
 follow_to [] P Q R more h = λ place p. more place (h place p)
@@ -166,28 +166,28 @@ cut_before row live P X link e place h = record { waits = by h.waits; known = h.
     by (inl (inr rest)) = inl rest
     by (inr p) = inr p
 
-told_act : (kept : Option ℕ) (row : LiveRow) (live : List LiveRow) (P X : ℕ → Type 0) (link : Option ℕ) → row.link ≡ link → Follow (Before live P X) (told_all kept live []) (After kept P X) → Follow (Before (row ∷ live) P X) (told_all kept live (given_up_act row.place link ∷ [])) (After kept P X)
-told_act kept row live P X None e further =
-    subst (λ (acts : List CallAct). Follow (Before (row ∷ live) P X) acts (After kept P X)) (sym (told_behind kept live (act.Drop row.place ∷ [])))
-    (follow_from (told_all kept live []) (λ place. Before (row ∷ live) P X place × (place ≡ row.place → ⊥)) (Before live P X) (After kept P X) (dropped_before row live P X) further)
-told_act kept row live P X (Some link) e further =
-    subst (λ (acts : List CallAct). Follow (Before (row ∷ live) P X) acts (After kept P X)) (sym (told_behind kept live (act.Cut row.place ∷ [])))
-    (follow_from (told_all kept live []) (Before (row ∷ live) P X) (Before live P X) (After kept P X) (cut_before row live P X link e) further)
+reported_act : (kept : Option ℕ) (row : LiveRow) (live : List LiveRow) (P X : ℕ → Type 0) (link : Option ℕ) → row.link ≡ link → Follow (Before live P X) (reported_all kept live []) (After kept P X) → Follow (Before (row ∷ live) P X) (reported_all kept live (given_up_act row.place link ∷ [])) (After kept P X)
+reported_act kept row live P X None e further =
+    subst (λ (acts : List CallAct). Follow (Before (row ∷ live) P X) acts (After kept P X)) (sym (reported_after kept live (act.Drop row.place ∷ [])))
+    (follow_from (reported_all kept live []) (λ place. Before (row ∷ live) P X place × (place ≡ row.place → ⊥)) (Before live P X) (After kept P X) (dropped_before row live P X) further)
+reported_act kept row live P X (Some link) e further =
+    subst (λ (acts : List CallAct). Follow (Before (row ∷ live) P X) acts (After kept P X)) (sym (reported_after kept live (act.Cut row.place ∷ [])))
+    (follow_from (reported_all kept live []) (Before (row ∷ live) P X) (Before live P X) (After kept P X) (cut_before row live P X link e) further)
 
-told_named : (kept : Option ℕ) (row : LiveRow) (live : List LiveRow) (P X : ℕ → Type 0) (b : Bool) → names row.place kept ≡ b → ((Q : ℕ → Type 0) → Follow (Before live Q X) (told_all kept live []) (After kept Q X)) → Follow (Before (row ∷ live) P X) (told_all kept live (if b then [] else given_up_act row.place row.link ∷ [])) (After kept P X)
-told_named kept row live P X true e further =
-    follow_to (told_all kept live []) (Before (row ∷ live) P X) (After kept (Or P row.place) X) (After kept P X) (named_after kept row.place P X (kept_here row.place kept e))
-    (follow_from (told_all kept live []) (Before (row ∷ live) P X) (Before live (Or P row.place) X) (After kept (Or P row.place) X) (named_before row live P X) (further (Or P row.place)))
-told_named kept row live P X false e further = told_act kept row live P X row.link refl (further P)
+reported_named : (kept : Option ℕ) (row : LiveRow) (live : List LiveRow) (P X : ℕ → Type 0) (b : Bool) → names row.place kept ≡ b → ((Q : ℕ → Type 0) → Follow (Before live Q X) (reported_all kept live []) (After kept Q X)) → Follow (Before (row ∷ live) P X) (reported_all kept live (if b then [] else given_up_act row.place row.link ∷ [])) (After kept P X)
+reported_named kept row live P X true e further =
+    follow_to (reported_all kept live []) (Before (row ∷ live) P X) (After kept (Or P row.place) X) (After kept P X) (named_after kept row.place P X (kept_here row.place kept e))
+    (follow_from (reported_all kept live []) (Before (row ∷ live) P X) (Before live (Or P row.place) X) (After kept (Or P row.place) X) (named_before row live P X) (further (Or P row.place)))
+reported_named kept row live P X false e further = reported_act kept row live P X row.link refl (further P)
 
-told_follow : (kept : Option ℕ) (live : List LiveRow) (X P : ℕ → Type 0) → Follow (Before live P X) (told_all kept live []) (After kept P X)
-told_follow kept [] X P = none_before kept P X
-told_follow kept (row ∷ live) X P = told_named kept row live P X (names row.place kept) refl (told_follow kept live X)
+reported_follow : (kept : Option ℕ) (live : List LiveRow) (X P : ℕ → Type 0) → Follow (Before live P X) (reported_all kept live []) (After kept P X)
+reported_follow kept [] X P = none_before kept P X
+reported_follow kept (row ∷ live) X P = reported_named kept row live P X (names row.place kept) refl (reported_follow kept live X)
 
-told_from : (P : ℕ → Type 0) (kept : Option ℕ) (live : List LiveRow) → Follow (λ place. WaitsIn place live × P place) (told_all kept live []) (After kept (λ place. ⊥) (λ place. WaitsIn place live))
-told_from P kept live =
-    follow_from (told_all kept live []) (λ place. WaitsIn place live × P place) (Before live (λ place. ⊥) (λ place. WaitsIn place live)) (After kept (λ place. ⊥) (λ place. WaitsIn place live))
-    (λ place h. record { waits = inl h.0; known = h.0 }) (told_follow kept live (λ place. WaitsIn place live) (λ place. ⊥))
+reported_from : (P : ℕ → Type 0) (kept : Option ℕ) (live : List LiveRow) → Follow (λ place. WaitsIn place live × P place) (reported_all kept live []) (After kept (λ place. ⊥) (λ place. WaitsIn place live))
+reported_from P kept live =
+    follow_from (reported_all kept live []) (λ place. WaitsIn place live × P place) (Before live (λ place. ⊥) (λ place. WaitsIn place live)) (After kept (λ place. ⊥) (λ place. WaitsIn place live))
+    (λ place h. record { waits = inl h.0; known = h.0 }) (reported_follow kept live (λ place. WaitsIn place live) (λ place. ⊥))
 
 -- what waits in lists that change
 alone_if : (place : ℕ) (row : LiveRow) (live : List LiveRow) (b : Bool) → is_row place row ≡ b → WaitsIn place (row ∷ live) → (WaitsIn place live → WaitsIn place (kept_alone place live)) → WaitsIn place (if b then row ∷ kept_alone place live else kept_alone place live)
@@ -244,9 +244,9 @@ Off row place = place ≡ row → ⊥
 -- a commitment, and the end of a call
 commit : (place moment : ℕ) (s : Stepped) → Adds Any s (step.committed place moment s)
 commit place moment s = record {
-  acts = told_all (Some place) s.call.live [];
-  is = told_behind (Some place) s.call.live s.acts;
-  follow = follow_to (told_all (Some place) s.call.live []) (λ p. WaitsIn p s.call.live × Unit {0}) (After (Some place) (λ p. ⊥) (λ p. WaitsIn p s.call.live)) (λ p. WaitsIn p (kept_alone place s.call.live)) (λ p h. kept p h h.left) (told_from Any (Some place) s.call.live);
+  acts = reported_all (Some place) s.call.live [];
+  is = reported_after (Some place) s.call.live s.acts;
+  follow = follow_to (reported_all (Some place) s.call.live []) (λ p. WaitsIn p s.call.live × Unit {0}) (After (Some place) (λ p. ⊥) (λ p. WaitsIn p s.call.live)) (λ p. WaitsIn p (kept_alone place s.call.live)) (λ p h. kept p h h.left) (reported_from Any (Some place) s.call.live);
 }
   where
     kept : (p : ℕ) → After (Some place) (λ p. ⊥) (λ p. WaitsIn p s.call.live) p → ⊥ ⊎ (Some place ≡ Some p) → WaitsIn p (kept_alone place s.call.live)
@@ -259,9 +259,9 @@ none_left p (inr e) = (cc)
 
 end_call : (why : EndCause) (moment : ℕ) (s : Stepped) → Adds Any s (step.ended_as why moment s)
 end_call why moment s = record {
-  acts = told_all None s.call.live [] ++ act.End why ∷ [];
-  is = ap (λ (l : List CallAct). l ++ act.End why ∷ []) (told_behind None s.call.live s.acts) ∙ append_assoc s.acts (told_all None s.call.live []) (act.End why ∷ []);
-  follow = follow_then (told_all None s.call.live []) (act.End why ∷ []) (λ p. WaitsIn p s.call.live × Unit {0}) (After None (λ p. ⊥) (λ p. WaitsIn p s.call.live)) (λ p. ⊥) (told_from Any None s.call.live) (λ p h. none_left p h.left);
+  acts = reported_all None s.call.live [] ++ act.End why ∷ [];
+  is = ap (λ (l : List CallAct). l ++ act.End why ∷ []) (reported_after None s.call.live s.acts) ∙ append_assoc s.acts (reported_all None s.call.live []) (act.End why ∷ []);
+  follow = follow_then (reported_all None s.call.live []) (act.End why ∷ []) (λ p. WaitsIn p s.call.live × Unit {0}) (After None (λ p. ⊥) (λ p. WaitsIn p s.call.live)) (λ p. ⊥) (reported_from Any None s.call.live) (λ p h. none_left p h.left);
 }
 
 end_if : (ends : Bool) (why : EndCause) (moment : ℕ) (s : Stepped) → Adds Any s (step.ended_if ends why moment s)
@@ -286,11 +286,11 @@ add_row number why due committed s = record { acts = act.Queue (next_place s.led
 left : (row : ℕ) (found : LiveRow) (s : Stepped) → find_live row s.call.live ≡ Some found → Adds (Off row) s (left_live found.place s)
 left row found s e = adds_quiet (Off row) s (left_live found.place s) refl (λ place h far. waits_without found.place place s.call.live (λ at. far (at ∙ found_place row s.call.live found e)) h)
 
-follow : (row : LiveRow) (told : EndNews) (moment : ℕ) (s : Stepped) → Adds Any s (step.followed row told moment s)
-follow row told moment s =
-    let t : Stepped = step.row_ended row.place (row_end told s.ledger.entry moment (count_of s.tokens)) s in
+follow : (row : LiveRow) (reported : EndNews) (moment : ℕ) (s : Stepped) → Adds Any s (step.followed row reported moment s)
+follow row reported moment s =
+    let t : Stepped = step.row_ended row.place (row_end reported s.ledger.entry moment (count_of s.tokens)) s in
     let u : Stepped = step.row_added row.number kind.Transparent moment (stamp_if (names row.place s.call.attempts.committed) s.ledger.entry) t in
-    let v : Stepped = step.followed row told moment s in
+    let v : Stepped = step.followed row reported moment s in
     adds_then Any s t v (adds_same Any s t refl refl) (adds_then Any t u v (add_row row.number kind.Transparent moment (stamp_if (names row.place s.call.attempts.committed) s.ledger.entry) t) (adds_same Any u v refl refl))
 
 close_if : (closes : Bool) (place moment : ℕ) (s : Stepped) → Adds Any s (step.closed_if closes place moment s)
@@ -302,31 +302,31 @@ judge row end after moment s =
     let t : Stepped = with_judged row end after s in
     adds_then Any s t (step.closed_if after.closes row.place moment t) (adds_same Any s t refl refl) (close_if after.closes row.place moment t)
 
-count : (row : LiveRow) (told : EndNews) (moment word : ℕ) (s : Stepped) → Adds Any s (step.counted row told moment word s)
-count row told moment word s =
-    let end : RowEnd = row_end told s.ledger.entry moment (count_of s.tokens) in
+count : (row : LiveRow) (reported : EndNews) (moment word : ℕ) (s : Stepped) → Adds Any s (step.counted row reported moment word s)
+count row reported moment word s =
+    let end : RowEnd = row_end reported s.ledger.entry moment (count_of s.tokens) in
     let t : Stepped = step.row_ended row.place end s in
     either Any s (is_some s.call.attempts.committed) (step.ended_as ends.Row moment t) (step.counted_free row end moment word s)
     (adds_then Any s t (step.ended_as ends.Row moment t) (adds_same Any s t refl refl) (end_call ends.Row moment t))
     (judge row end (judged_of row end word s.call s.tokens) moment s)
 
-end_live : (row : ℕ) (found : LiveRow) (told : EndNews) (moment word : ℕ) (s : Stepped) → find_live row s.call.live ≡ Some found → Adds (Off row) s (step.live_ended found told moment word s)
-end_live row found told moment word s e =
+end_live : (row : ℕ) (found : LiveRow) (reported : EndNews) (moment word : ℕ) (s : Stepped) → find_live row s.call.live ≡ Some found → Adds (Off row) s (step.live_ended found reported moment word s)
+end_live row found reported moment word s e =
     let t : Stepped = left_live found.place s in
-    let u : Stepped = settled told t in
-    either (Off row) s (is_followed s.call.attempts told.cause told.unseen) (step.followed found told moment t) (step.counted found told moment word u)
-    (adds_then (Off row) s t (step.followed found told moment t) (left row found s e) (follow found told moment t))
-    (adds_then (Off row) s t (step.counted found told moment word u) (left row found s e) (adds_then Any t u (step.counted found told moment word u) (adds_same Any t u refl refl) (count found told moment word u)))
+    let u : Stepped = settled reported t in
+    either (Off row) s (is_followed s.call.attempts reported.cause reported.unseen) (step.followed found reported moment t) (step.counted found reported moment word u)
+    (adds_then (Off row) s t (step.followed found reported moment t) (left row found s e) (follow found reported moment t))
+    (adds_then (Off row) s t (step.counted found reported moment word u) (left row found s e) (adds_then Any t u (step.counted found reported moment word u) (adds_same Any t u refl refl) (count found reported moment word u)))
 
-end_found : (row : ℕ) (found : Option LiveRow) (told : EndNews) (moment word : ℕ) (s : Stepped) → find_live row s.call.live ≡ found → Adds (Off row) s (step.ended_if_live found told moment word s)
-end_found row None told moment word s e = adds_same (Off row) s s refl refl
-end_found row (Some found) told moment word s e = end_live row found told moment word s e
+end_found : (row : ℕ) (found : Option LiveRow) (reported : EndNews) (moment word : ℕ) (s : Stepped) → find_live row s.call.live ≡ found → Adds (Off row) s (step.ended_if_live found reported moment word s)
+end_found row None reported moment word s e = adds_same (Off row) s s refl refl
+end_found row (Some found) reported moment word s e = end_live row found reported moment word s e
 
-pub adds_ended_at : (row : ℕ) (told : EndNews) (moment word : ℕ) (s : Stepped) → Adds (Off row) s (step.ended_at row told moment word s)
-adds_ended_at row told moment word s = end_found row (find_live row s.call.live) told moment word s refl
+pub adds_ended_at : (row : ℕ) (reported : EndNews) (moment word : ℕ) (s : Stepped) → Adds (Off row) s (step.ended_at row reported moment word s)
+adds_ended_at row reported moment word s = end_found row (find_live row s.call.live) reported moment word s refl
 
 -- news
-head : (row : ℕ) (meta : List Field) (moment : ℕ) (s : Stepped) → Adds Any s (step.heard_head row meta moment s)
+head : (row : ℕ) (meta : List Field) (moment : ℕ) (s : Stepped) → Adds Any s (step.received_head row meta moment s)
 head row meta moment s =
     let c : Stepped = record s { call = record s.call { buffer = committed_buffer row s.call.buffer } } in
     let t : Stepped = step.commit_by_head row moment s in
@@ -338,7 +338,7 @@ message : (b : Bool) (octets : List ℕ) (s : Stepped) → Adds Any s (record s 
 message true octets s = adds_same Any s _ refl refl
 message false octets s = adds_same Any s s refl refl
 
-pub adds_news : (row : ℕ) (told : News) (moment word : ℕ) (s : Stepped) → Adds (Off row) s (step.heard_news row told moment word s)
+pub adds_news : (row : ℕ) (reported : News) (moment word : ℕ) (s : Stepped) → Adds (Off row) s (step.received_news row reported moment word s)
 adds_news row (news.Head tag meta seen) moment word s = adds_less (Off row) s _ (head row meta moment s)
 adds_news row (news.Message tag octets seen) moment word s = adds_less (Off row) s _ (message (is_committed_live row s.call) octets s)
 adds_news row (news.TooLarge tag seen) moment word s = adds_less (Off row) s _ (end_if (is_committed_live row s.call) ends.Response moment s)

@@ -177,25 +177,25 @@ known_of place row s f going apart = record {
   alone = λ h. (alone_found s.call place row (going.alone h) f).1.number;
 }
 
-have_closed : (place : ℕ) (row : LiveRow) (told : EndNews) (end : RowEnd) (moment word : ℕ) (s : Stepped) (b : Bool) → find_live place s.call.live ≡ Some row → end.tokens ≡ count_of (settled told (left_live row.place s)).tokens → IsGoing s.call → IsApart s → HasReasons s → HasReasons (step.closed_if b row.place moment (with_judged row end (judged_of row end word (left_live row.place s).call (settled told (left_live row.place s)).tokens) (settled told (left_live row.place s))))
-have_closed place row told end moment word s b f counted going apart old =
+have_closed : (place : ℕ) (row : LiveRow) (reported : EndNews) (end : RowEnd) (moment word : ℕ) (s : Stepped) (b : Bool) → find_live place s.call.live ≡ Some row → end.tokens ≡ count_of (settled reported (left_live row.place s)).tokens → IsGoing s.call → IsApart s → HasReasons s → HasReasons (step.closed_if b row.place moment (with_judged row end (judged_of row end word (left_live row.place s).call (settled reported (left_live row.place s)).tokens) (settled reported (left_live row.place s))))
+have_closed place row reported end moment word s b f counted going apart old =
     let u : Stepped = left_live row.place s in
-    let v : Stepped = settled told u in
+    let v : Stepped = settled reported u in
     let after : Judged = judged_of row end word u.call v.tokens in
     let w : Stepped = with_judged row end after v in
     let have : HasReasons w = have_judged (call_plan s.call) s.call.number s.ledger.rows row s.call.attempts (has_none u.call.live) end v.tokens word (known_of place row s f going apart) counted old in
     elim b as (λ c. HasReasons (step.closed_if c row.place moment w)) [ true ↦ have_by_row row.place moment w have | false ↦ have ]
 
-have_counted : (place : ℕ) (row : LiveRow) (told : EndNews) (moment word : ℕ) (s : Stepped) (committed : Bool) → find_live place s.call.live ≡ Some row → IsGoing s.call → IsApart s → HasReasons s → HasReasons (if committed then step.ended_as ends.Row moment (step.row_ended row.place (row_end told s.ledger.entry moment (count_of (settled told (left_live row.place s)).tokens)) (settled told (left_live row.place s))) else step.counted_free row (row_end told s.ledger.entry moment (count_of (settled told (left_live row.place s)).tokens)) moment word (settled told (left_live row.place s)))
-have_counted place row told moment word s true f going apart old =
-    let v : Stepped = settled told (left_live row.place s) in
-    let end : RowEnd = row_end told s.ledger.entry moment (count_of v.tokens) in
+have_counted : (place : ℕ) (row : LiveRow) (reported : EndNews) (moment word : ℕ) (s : Stepped) (committed : Bool) → find_live place s.call.live ≡ Some row → IsGoing s.call → IsApart s → HasReasons s → HasReasons (if committed then step.ended_as ends.Row moment (step.row_ended row.place (row_end reported s.ledger.entry moment (count_of (settled reported (left_live row.place s)).tokens)) (settled reported (left_live row.place s))) else step.counted_free row (row_end reported s.ledger.entry moment (count_of (settled reported (left_live row.place s)).tokens)) moment word (settled reported (left_live row.place s)))
+have_counted place row reported moment word s true f going apart old =
+    let v : Stepped = settled reported (left_live row.place s) in
+    let end : RowEnd = row_end reported s.ledger.entry moment (count_of v.tokens) in
     have_end ends.Row moment (step.row_ended row.place end v)
     (have_like (call_plan s.call) s.call.number s.ledger.rows (changed_at (ended_row end) s.ledger.rows row.place) s.call.attempts s.call.attempts (all_changed_at IsKeptRow kept_write (ended_row end) (λ r. kept_write.ended end r) s.ledger.rows row.place) refl refl refl refl refl old)
-have_counted place row told moment word s false f going apart old =
-    let v : Stepped = settled told (left_live row.place s) in
-    let end : RowEnd = row_end told s.ledger.entry moment (count_of v.tokens) in
-    have_closed place row told end moment word s (judged_of row end word v.call v.tokens).closes f refl going apart old
+have_counted place row reported moment word s false f going apart old =
+    let v : Stepped = settled reported (left_live row.place s) in
+    let end : RowEnd = row_end reported s.ledger.entry moment (count_of v.tokens) in
+    have_closed place row reported end moment word s (judged_of row end word v.call v.tokens).closes f refl going apart old
 
 -- a row more
 more_reason : (plan : CallPlan) (owner : ℕ) (rows : List Row) (x row : Row) (place : ℕ) → Reason plan owner (rows ++ x ∷ []) (length rows + 1) x x.kind → ((place : ℕ) (row : Row) → IsRowOf owner rows place row → Reason plan owner rows place row row.kind) → row.call ≡ owner → (row_in rows place ≡ Some row) ⊎ ((place ≡ length rows + 1) × (row ≡ x)) → Reason plan owner (rows ++ x ∷ []) place row row.kind
@@ -228,10 +228,10 @@ followed_cause a causes.Lost unseen e = absurd (let bad : false ≡ true = e in 
 followed_cause a causes.Pick unseen e = absurd (let bad : false ≡ true = e in cc)
 followed_cause a causes.Cut unseen e = absurd (let bad : false ≡ true = e in cc)
 
-have_followed : (place : ℕ) (row : LiveRow) (told : EndNews) (moment : ℕ) (s : Stepped) → is_followed s.call.attempts told.cause told.unseen ≡ true → find_live place s.call.live ≡ Some row → IsApart s → HasReasons s → HasReasons (step.followed row told moment (left_live row.place s))
-have_followed place row told moment s f found apart old =
+have_followed : (place : ℕ) (row : LiveRow) (reported : EndNews) (moment : ℕ) (s : Stepped) → is_followed s.call.attempts reported.cause reported.unseen ≡ true → find_live place s.call.live ≡ Some row → IsApart s → HasReasons s → HasReasons (step.followed row reported moment (left_live row.place s))
+have_followed place row reported moment s f found apart old =
     let owner : ℕ = s.call.number in
-    let end : RowEnd = row_end told s.ledger.entry moment (count_of s.tokens) in
+    let end : RowEnd = row_end reported s.ledger.entry moment (count_of s.tokens) in
     let rows : List Row = changed_at (ended_row end) s.ledger.rows row.place in
     let x : Row = new_row owner row.number kind.Transparent moment (stamp_if (names row.place s.call.attempts.committed) s.ledger.entry) in
     let one : IsStanding owner s.ledger.rows row = found_stands owner s.ledger.rows place s.call.live row apart.tied found in
@@ -239,13 +239,13 @@ have_followed place row told moment s f found apart old =
     let mid : HaveReasons (call_plan s.call) owner rows s.call.attempts =
     have_like (call_plan s.call) owner s.ledger.rows rows s.call.attempts s.call.attempts (all_changed_at IsKeptRow kept_write (ended_row end) (λ r. kept_write.ended end r) s.ledger.rows row.place) refl refl refl refl refl old in
     let below : row.place ≤ length rows = row_below rows row.place has.row has.is.there in
-    have_more (call_plan s.call) owner rows x s.call.attempts (step.followed row told moment (left_live row.place s)).call.attempts
+    have_more (call_plan s.call) owner rows x s.call.attempts (step.followed row reported moment (left_live row.place s)).call.attempts
     (record {
       before = row.place;
       order = (omega (arith, below));
       has = record { row = has.row; is = record { there = row_more rows x row.place has.row has.is.there; call = has.is.call }; end = end; ended = has.ended };
       number = one.number;
-      cause = followed_cause s.call.attempts told.cause told.unseen f;
+      cause = followed_cause s.call.attempts reported.cause reported.unseen f;
       due = refl;
     })
     (λ due e. forced_plan (call_plan s.call) owner rows (rows ++ x ∷ []) s.call.attempts.sent due (kept_more owner rows x) (mid.forced due e))
@@ -253,9 +253,9 @@ have_followed place row told moment s f found apart old =
     (λ at e. placed_to owner rows (rows ++ x ∷ []) s.call.attempts.sent at (kept_more owner rows x) (mid.placed at e))
     refl mid
 
-have_live : (place : ℕ) (row : LiveRow) (told : EndNews) (moment word : ℕ) (s : Stepped) (b : Bool) → is_followed s.call.attempts told.cause told.unseen ≡ b → find_live place s.call.live ≡ Some row → IsGoing s.call → IsApart s → HasReasons s → HasReasons (if b then step.followed row told moment (left_live row.place s) else step.counted row told moment word (settled told (left_live row.place s)))
-have_live place row told moment word s true f found going apart old = have_followed place row told moment s f found apart old
-have_live place row told moment word s false f found going apart old = have_counted place row told moment word s (is_some s.call.attempts.committed) found going apart old
+have_live : (place : ℕ) (row : LiveRow) (reported : EndNews) (moment word : ℕ) (s : Stepped) (b : Bool) → is_followed s.call.attempts reported.cause reported.unseen ≡ b → find_live place s.call.live ≡ Some row → IsGoing s.call → IsApart s → HasReasons s → HasReasons (if b then step.followed row reported moment (left_live row.place s) else step.counted row reported moment word (settled reported (left_live row.place s)))
+have_live place row reported moment word s true f found going apart old = have_followed place row reported moment s f found apart old
+have_live place row reported moment word s false f found going apart old = have_counted place row reported moment word s (is_some s.call.attempts.committed) found going apart old
 
 -- the configuration: before it no row is a retry or a hedge
 chosen_reason : (plan : CallPlan) (owner : ℕ) (rows : List Row) (place : ℕ) (row : Row) (why : RowKind) → Reason plans.None owner rows place row why → Reason plan owner rows place row why
@@ -414,7 +414,7 @@ have_over over None moment s old = old
 have_over true (Some place) moment s old = have_commit place moment s old
 have_over false (Some place) moment s old = old
 
-pub reasons_moves : Moves (λ chosen. Unit {0}) (λ s row told. Unit {0}) (λ moment s t. IsGoing s.call → IsNumbered s → IsApart s → HasReasons s → HasReasons t)
+pub reasons_moves : Moves (λ chosen. Unit {0}) (λ s row reported. Unit {0}) (λ moment s t. IsGoing s.call → IsNumbered s → IsApart s → HasReasons s → HasReasons t)
 reasons_moves = record {
   same = λ moment s going numbered apart old. old;
   configured = λ chosen moment s known e fresh going numbered apart old. have_chosen chosen moment s fresh going old;
@@ -423,8 +423,8 @@ reasons_moves = record {
   too_large = λ row moment s e going numbered apart old. have_end ends.Response moment s old;
   head = λ place row meta moment s e going numbered apart old. have_head place meta moment s (is_some s.call.attempts.committed) old;
   message = λ row octets moment s going numbered apart old. have_message octets s (is_committed_live row s.call) old;
-  row_ended = λ place row told moment word s e known going numbered apart old.
-      have_live place row told moment word s (is_followed s.call.attempts told.cause told.unseen) refl e going apart old;
+  row_ended = λ place row reported moment word s e known going numbered apart old.
+      have_live place row reported moment word s (is_followed s.call.attempts reported.cause reported.unseen) refl e going apart old;
   placed = λ place row at s entry e free going numbered apart old. have_placed place row at s e free apart old;
   refused = λ due moment s e passed tested going numbered apart old.
       have_by_last s.call.attempts.last moment (step.with_attempts (stopped_attempts s.call.attempts) s) (have_stopped s old);

@@ -12,7 +12,7 @@ use Rattle.a6_numbers.specs.Throttling.{Bucket}
 use Rattle.call_core.specs.declared.act.CallAct.{CallAct}
 use Rattle.call_core.specs.declared.live.LiveRow.{LiveRow}
 use Rattle.call_core.specs.Parts.{count_of, cut_end, find_live, is_row, kept_alone, linked, read_of, row_end, without}
-use Rattle.call_core.specs.Rows.{AreStanding, IsOff, IsOnLink, IsStanding, IsTied, row_in}
+use Rattle.call_core.specs.Rows.{LiveRowsStand, IsOff, IsOnLink, IsStanding, IsTied, row_in}
 use Rattle.call_core.specs.Steps as step
 use Rattle.call_core.specs.Steps.{Stepped, cut_all, cut_row, cut_unless, is_committed_live, judged_of, next_place}
 use Rattle.call_core.proofs.Chains.{Chain}
@@ -89,26 +89,26 @@ pub off_found : (place : ℕ) (live : List LiveRow) → find_live place live ≡
 off_found place [] h = tt
 off_found place (l ∷ live) h = off_one place l live (is_row place l) refl h (off_found place live)
 
-pub all_changed : (c : ℕ) (f : Row → Row) (rows : List Row) (place : ℕ) (live : List LiveRow) → IsOff place live → AreStanding c rows live → AreStanding c (changed_at f rows place) live
+pub all_changed : (c : ℕ) (f : Row → Row) (rows : List Row) (place : ℕ) (live : List LiveRow) → IsOff place live → LiveRowsStand c rows live → LiveRowsStand c (changed_at f rows place) live
 all_changed c f rows place [] off old = tt
 all_changed c f rows place (l ∷ live) off old =
     (moved_standing c rows (changed_at f rows place) l (row_changed_other f rows place l.place off.0) old.0, all_changed c f rows place live off.1 old.1)
 
-pub all_more : (c : ℕ) (rows : List Row) (x : Row) (live : List LiveRow) → AreStanding c rows live → AreStanding c (rows ++ x ∷ []) live
+pub all_more : (c : ℕ) (rows : List Row) (x : Row) (live : List LiveRow) → LiveRowsStand c rows live → LiveRowsStand c (rows ++ x ∷ []) live
 all_more c rows x [] old = tt
 all_more c rows x (l ∷ live) old =
     let one : IsStanding c rows l = old.0 in
     (record { row = one.row; there = row_more rows x l.place one.row one.there; call = one.call; number = one.number; ended = one.ended; placed = one.placed }, all_more c rows x live old.1)
 
-pub all_behind : (c : ℕ) (rows : List Row) (x : LiveRow) (live : List LiveRow) → AreStanding c rows live → IsStanding c rows x → AreStanding c rows (live ++ x ∷ [])
-all_behind c rows x [] old new = (new, tt)
-all_behind c rows x (l ∷ live) old new = (old.0, all_behind c rows x live old.1 new)
+pub all_after : (c : ℕ) (rows : List Row) (x : LiveRow) (live : List LiveRow) → LiveRowsStand c rows live → IsStanding c rows x → LiveRowsStand c rows (live ++ x ∷ [])
+all_after c rows x [] old new = (new, tt)
+all_after c rows x (l ∷ live) old new = (old.0, all_after c rows x live old.1 new)
 
-without_one : (c : ℕ) (rows : List Row) (l : LiveRow) (live : List LiveRow) (b : Bool) → IsStanding c rows l → AreStanding c rows live → AreStanding c rows (if b then l ∷ live else live)
+without_one : (c : ℕ) (rows : List Row) (l : LiveRow) (live : List LiveRow) (b : Bool) → IsStanding c rows l → LiveRowsStand c rows live → LiveRowsStand c rows (if b then l ∷ live else live)
 without_one c rows l live true one rest = (one, rest)
 without_one c rows l live false one rest = rest
 
-pub all_without : (c : ℕ) (rows : List Row) (place : ℕ) (live : List LiveRow) → AreStanding c rows live → AreStanding c rows (without place live)
+pub all_without : (c : ℕ) (rows : List Row) (place : ℕ) (live : List LiveRow) → LiveRowsStand c rows live → LiveRowsStand c rows (without place live)
 all_without c rows place [] old = tt
 all_without c rows place (l ∷ live) old = without_one c rows l (without place live) (not (is_row place l)) old.0 (all_without c rows place live old.1)
 
@@ -128,7 +128,7 @@ kept_cut moment tokens q (row ∷ live) l =
     kept_cut moment tokens q live (cut_unless (Some q) moment tokens row l) ∙ kept_cut_one moment tokens q row l (q == row.place) refl
 
 -- a commitment
-commit_one : (c place moment : ℕ) (s : Stepped) (l : LiveRow) (b : Bool) (rest : List LiveRow) → (l.place == place) ≡ b → IsStanding c s.ledger.rows l → AreStanding c (step.committed place moment s).ledger.rows rest → AreStanding c (step.committed place moment s).ledger.rows (if b then l ∷ rest else rest)
+commit_one : (c place moment : ℕ) (s : Stepped) (l : LiveRow) (b : Bool) (rest : List LiveRow) → (l.place == place) ≡ b → IsStanding c s.ledger.rows l → LiveRowsStand c (step.committed place moment s).ledger.rows rest → LiveRowsStand c (step.committed place moment s).ledger.rows (if b then l ∷ rest else rest)
 commit_one c place moment s l false rest e one old = old
 commit_one c place moment s l true rest e one old =
     let at : l.place ≡ place = eqb-true l.place place e in
@@ -147,15 +147,15 @@ commit_one c place moment s l true rest e one old =
       old,
     )
 
-commit_all : (c place moment : ℕ) (s : Stepped) (live : List LiveRow) → AreStanding c s.ledger.rows live → AreStanding c (step.committed place moment s).ledger.rows (kept_alone place live)
+commit_all : (c place moment : ℕ) (s : Stepped) (live : List LiveRow) → LiveRowsStand c s.ledger.rows live → LiveRowsStand c (step.committed place moment s).ledger.rows (kept_alone place live)
 commit_all c place moment s [] old = tt
 commit_all c place moment s (l ∷ live) old =
     commit_one c place moment s l (l.place == place) (kept_alone place live) refl old.0 (commit_all c place moment s live old.1)
 
 -- a row more
-added : (number : ℕ) (rows : List Row) (x : Row) (live : List LiveRow) (l : LiveRow) → l.place ≡ length rows + 1 → x.call ≡ number → x.number ≡ l.number → x.ended ≡ None → IsOnLink x.placed l.link → AreStanding number rows live → AreStanding number (rows ++ x ∷ []) (live ++ l ∷ [])
+added : (number : ℕ) (rows : List Row) (x : Row) (live : List LiveRow) (l : LiveRow) → l.place ≡ length rows + 1 → x.call ≡ number → x.number ≡ l.number → x.ended ≡ None → IsOnLink x.placed l.link → LiveRowsStand number rows live → LiveRowsStand number (rows ++ x ∷ []) (live ++ l ∷ [])
 added number rows x live l at call same ended placed old =
-    all_behind number (rows ++ x ∷ []) l live (all_more number rows x live old)
+    all_after number (rows ++ x ∷ []) l live (all_more number rows x live old)
     (record { row = x; there = subst (λ (k : ℕ). row_in (rows ++ x ∷ []) k ≡ Some x) (sym at) (row_last rows x); call = call; number = same; ended = ended; placed = placed })
 
 -- a placing
@@ -182,7 +182,7 @@ place_one c rows row l at true e free found old =
       placed = subst (λ (o : Option Placed). IsOnLink o (Some at.link)) (sym (link_stamped old.row.placed at none)) refl;
     }
 
-place_all : (c : ℕ) (rows : List Row) (row : LiveRow) (at : Placed) (live : List LiveRow) → row.link ≡ None → IsStanding c rows row → AreStanding c rows live → AreStanding c (changed_at (placed_row at) rows row.place) (map (linked row.place at.link) live)
+place_all : (c : ℕ) (rows : List Row) (row : LiveRow) (at : Placed) (live : List LiveRow) → row.link ≡ None → IsStanding c rows row → LiveRowsStand c rows live → LiveRowsStand c (changed_at (placed_row at) rows row.place) (map (linked row.place at.link) live)
 place_all c rows row at [] free found old = tt
 place_all c rows row at (l ∷ live) free found old =
     (place_one c rows row l at (l.place == row.place) refl free found old.0, place_all c rows row at live free found old.1)
@@ -192,7 +192,7 @@ found_one : (c : ℕ) (rows : List Row) (place : ℕ) (l row : LiveRow) (live : 
 found_one c rows place l row live true one rest e = let is : l ≡ row = (cc) in subst (λ (x : LiveRow). IsStanding c rows x) is one
 found_one c rows place l row live false one rest e = rest e
 
-pub found_stands : (c : ℕ) (rows : List Row) (place : ℕ) (live : List LiveRow) (row : LiveRow) → AreStanding c rows live → find_live place live ≡ Some row → IsStanding c rows row
+pub found_stands : (c : ℕ) (rows : List Row) (place : ℕ) (live : List LiveRow) (row : LiveRow) → LiveRowsStand c rows live → find_live place live ≡ Some row → IsStanding c rows row
 found_stands c rows place [] row old e = absurd (cc)
 found_stands c rows place (l ∷ live) row old e = found_one c rows place l row live (is_row place l) old.0 (found_stands c rows place live row old.1) e
 
@@ -206,8 +206,8 @@ tied_chain = record {
   joined = λ a b c first second old. second (first old);
   committed = λ place moment s old. commit_all s.call.number place moment s s.call.live old;
   ended = λ why moment s old. tt;
-  followed = λ row told moment s gone old.
-      let end : RowEnd = row_end told s.ledger.entry moment (count_of s.tokens) in
+  followed = λ row reported moment s gone old.
+      let end : RowEnd = row_end reported s.ledger.entry moment (count_of s.tokens) in
       let rows : List Row = changed_at (ended_row end) s.ledger.rows row.place in
       added s.call.number rows _ s.call.live (record { place = length rows + 1; number = row.number; link = None }) refl refl refl refl tt
       (all_changed s.call.number (ended_row end) s.ledger.rows row.place s.call.live (off_found row.place s.call.live gone) old);
@@ -216,7 +216,7 @@ tied_chain = record {
       let last : RowEnd = record end { word = (judged_of row end word s.call s.tokens).word } in
       all_changed s.call.number (ended_row last) s.ledger.rows row.place s.call.live (off_found row.place s.call.live gone) old;
   left = λ place s old. all_without s.call.number s.ledger.rows place s.call.live old;
-  settled = λ told s old. old;
+  settled = λ reported s old. old;
   buffered = λ b s old. old;
   head = λ meta s old. old;
   message = λ row octets s old. message_tied octets s (is_committed_live row s.call) old;

@@ -18,14 +18,14 @@ stopped_chain = record {
   joined = λ a b c first second old. second (first old);
   committed = λ place moment s old. record { configured = old.configured; stopped = refl };
   ended = λ why moment s old. record { configured = old.configured; stopped = refl };
-  followed = λ row told moment s gone old. record { configured = old.configured; stopped = old.stopped };
+  followed = λ row reported moment s gone old. record { configured = old.configured; stopped = old.stopped };
   row_ended = λ place end s at gone old. record { configured = old.configured; stopped = old.stopped };
   judged = λ row end word s at gone free old. record {
     configured = old.configured;
     stopped = judged_stopped (call_plan s.call) s.call.attempts row.number (has_none s.call.live) end (is_above s.tokens) word old.stopped;
   };
   left = λ place s old. record { configured = old.configured; stopped = old.stopped };
-  settled = λ told s old. record { configured = old.configured; stopped = old.stopped };
+  settled = λ reported s old. record { configured = old.configured; stopped = old.stopped };
   buffered = λ b s old. record { configured = old.configured; stopped = old.stopped };
   head = λ meta s old. record { configured = old.configured; stopped = old.stopped };
   message = λ row octets s old. stopped_message octets s (is_committed_live row s.call) old;

@@ -21,9 +21,9 @@ use Rattle.call_core.specs.declared.act.CallAct.{CallAct}
 use Rattle.call_core.specs.declared.judge.Judged.{Judged}
 use Rattle.call_core.specs.declared.live.LiveRow.{LiveRow}
 use Rattle.call_core.specs.Commitments.{IsRowOf}
-use Rattle.call_core.specs.Orders.{AreTimed, IsFair, IsSameTimes, IsTimed, KeepsTimes, WasTimed}
+use Rattle.call_core.specs.Orders.{RowsAreTimed, IsFair, IsSameTimes, IsTimed, KeepsTimes, WasTimed}
 use Rattle.call_core.specs.Parts.{committed_buffer, count_of, cut_end, find_live, furthest, has_none, is_followed, kind_of_next, names, pushed_over, read_of, row_end, stopped_attempts}
-use Rattle.call_core.specs.Rows.{AreStanding, IsApart, IsOnLink, IsStanding, row_in}
+use Rattle.call_core.specs.Rows.{LiveRowsStand, IsApart, IsOnLink, IsStanding, row_in}
 use Rattle.call_core.specs.Steps as step
 use Rattle.call_core.specs.Steps.{Stepped, call_plan, cut_all, cut_row, cut_unless, is_committed_live, judged_of, left_live, new_call, new_row, settled, stamp_if, with_chosen, with_judged, with_message}
 use Rattle.call_core.proofs.Alike.{AreLike, IsWrite, WasRow, all_changed_at, all_same, like_from, row_split}
@@ -186,7 +186,7 @@ link_placed None None link on e = absurd (cc)
 link_placed None (Some x) link on e = absurd on
 link_placed (Some p) o link on e = refl
 
-placed_standing : (owner : ℕ) (rows : List Row) (live : List LiveRow) → AreStanding owner rows live → ArePlaced rows live
+placed_standing : (owner : ℕ) (rows : List Row) (live : List LiveRow) → LiveRowsStand owner rows live → ArePlaced rows live
 placed_standing owner rows [] old = tt
 placed_standing owner rows (l ∷ live) old =
     let one : IsStanding owner rows l = old.0 in (
@@ -225,18 +225,18 @@ cuts_timed owner kept moment tokens (row ∷ live) l placed old =
     (cut_timed owner (names row.place kept) moment tokens row l row.link refl placed.0 old)
 
 -- commitment and end
-timed_commit : (place moment : ℕ) (s : Stepped) → IsApart s → AreTimed moment s → AreTimed moment (step.committed place moment s)
+timed_commit : (place moment : ℕ) (s : Stepped) → IsApart s → RowsAreTimed moment s → RowsAreTimed moment (step.committed place moment s)
 timed_commit place moment s apart old =
     let rows : List Row = changed_at (committed_row s.ledger.entry) s.ledger.rows place in
     cuts_timed s.call.number (Some place) moment (count_of s.tokens) s.call.live (step.commit_stamped place s.ledger)
     (placed_like s.ledger.rows rows s.call.live (all_changed_at IsPlacedLike placed_write (committed_row s.ledger.entry) (λ r. record { placed = refl }) s.ledger.rows place) (placed_standing s.call.number s.ledger.rows s.call.live apart.tied))
     (all_changed s.call.number moment place (committed_row s.ledger.entry) s.ledger.rows (λ r. record { call = refl }) (λ r is timed. timed_committed moment s.ledger.entry r timed) old)
 
-timed_end : (why : EndCause) (moment : ℕ) (s : Stepped) → IsApart s → AreTimed moment s → AreTimed moment (step.ended_as why moment s)
+timed_end : (why : EndCause) (moment : ℕ) (s : Stepped) → IsApart s → RowsAreTimed moment s → RowsAreTimed moment (step.ended_as why moment s)
 timed_end why moment s apart old =
     cuts_timed s.call.number None moment (count_of s.tokens) s.call.live s.ledger (placed_standing s.call.number s.ledger.rows s.call.live apart.tied) old
 
-timed_by_row : (place moment : ℕ) (s : Stepped) → IsApart s → AreTimed moment s → AreTimed moment (step.ended_by_row place moment s)
+timed_by_row : (place moment : ℕ) (s : Stepped) → IsApart s → RowsAreTimed moment s → RowsAreTimed moment (step.ended_by_row place moment s)
 timed_by_row place moment s apart old =
     timed_end ends.Row moment (step.committed place moment s) (apart_chain.committed place moment s apart) (timed_commit place moment s apart old)
 
@@ -246,52 +246,52 @@ free_link None None on e = refl
 free_link None (Some x) on e = absurd on
 free_link (Some p) link on e = absurd (cc)
 
-timed_row : (row : LiveRow) (told : EndNews) (end : RowEnd) (moment : ℕ) (s : Stepped) → IsStanding s.call.number s.ledger.rows row → IsFair row told → end.moment ≡ moment → end.code ≡ told.code → end.cause ≡ told.cause → AreTimed moment s → AllTimed s.call.number moment (changed_at (ended_row end) s.ledger.rows row.place)
-timed_row row told end moment s one fair at same_code same_cause old =
+timed_row : (row : LiveRow) (reported : EndNews) (end : RowEnd) (moment : ℕ) (s : Stepped) → IsStanding s.call.number s.ledger.rows row → IsFair row reported → end.moment ≡ moment → end.code ≡ reported.code → end.cause ≡ reported.cause → RowsAreTimed moment s → AllTimed s.call.number moment (changed_at (ended_row end) s.ledger.rows row.place)
+timed_row row reported end moment s one fair at same_code same_cause old =
     all_changed s.call.number moment row.place (ended_row end) s.ledger.rows (λ r. record { call = refl })
     (λ r is timed.
     timed_ended moment end r at
     (λ none.
     let both : Some one.row ≡ Some r = sym one.there ∙ is.there in
     let equal : one.row ≡ r = (cc) in
-    let told_of : (told.code ≡ code.Unavailable) × (told.cause ≡ cause.Pick) = fair (free_link one.row.placed row.link one.placed (ap (λ (x : Row). x.placed) equal ∙ none)) in
-    (same_code ∙ told_of.0, same_cause ∙ told_of.1))
+    let reported_of : (reported.code ≡ code.Unavailable) × (reported.cause ≡ cause.Pick) = fair (free_link one.row.placed row.link one.placed (ap (λ (x : Row). x.placed) equal ∙ none)) in
+    (same_code ∙ reported_of.0, same_cause ∙ reported_of.1))
     timed)
     old
 
-timed_closed : (place : ℕ) (row : LiveRow) (told : EndNews) (end : RowEnd) (moment word : ℕ) (s : Stepped) (b : Bool) → find_live place s.call.live ≡ Some row → IsFair row told → end.entry ≡ s.ledger.entry → end.moment ≡ moment → end.code ≡ told.code → end.cause ≡ told.cause → s.call.attempts.committed ≡ None → IsApart s → AreTimed moment s → AreTimed moment (step.closed_if b row.place moment (with_judged row end (judged_of row end word (left_live row.place s).call (settled told (left_live row.place s)).tokens) (settled told (left_live row.place s))))
-timed_closed place row told end moment word s b f fair entry at same_code same_cause free apart old =
+timed_closed : (place : ℕ) (row : LiveRow) (reported : EndNews) (end : RowEnd) (moment word : ℕ) (s : Stepped) (b : Bool) → find_live place s.call.live ≡ Some row → IsFair row reported → end.entry ≡ s.ledger.entry → end.moment ≡ moment → end.code ≡ reported.code → end.cause ≡ reported.cause → s.call.attempts.committed ≡ None → IsApart s → RowsAreTimed moment s → RowsAreTimed moment (step.closed_if b row.place moment (with_judged row end (judged_of row end word (left_live row.place s).call (settled reported (left_live row.place s)).tokens) (settled reported (left_live row.place s))))
+timed_closed place row reported end moment word s b f fair entry at same_code same_cause free apart old =
     let u : Stepped = left_live row.place s in
-    let v : Stepped = settled told u in
+    let v : Stepped = settled reported u in
     let after : Judged = judged_of row end word u.call v.tokens in
     let w : Stepped = with_judged row end after v in
-    let timed : AreTimed moment w = timed_row row told (record end { word = after.word }) moment s (found_stands s.call.number s.ledger.rows place s.call.live row apart.tied f) fair at same_code same_cause old in
-    let still : IsApart w = apart_chain.judged row end word v entry (left_none row.place s.call.live) free (apart_chain.settled told u (apart_chain.left row.place s apart)) in
-    elim b as (λ c. AreTimed moment (step.closed_if c row.place moment w)) [ true ↦ timed_by_row row.place moment w still timed | false ↦ timed ]
+    let timed : RowsAreTimed moment w = timed_row row reported (record end { word = after.word }) moment s (found_stands s.call.number s.ledger.rows place s.call.live row apart.tied f) fair at same_code same_cause old in
+    let still : IsApart w = apart_chain.judged row end word v entry (left_none row.place s.call.live) free (apart_chain.settled reported u (apart_chain.left row.place s apart)) in
+    elim b as (λ c. RowsAreTimed moment (step.closed_if c row.place moment w)) [ true ↦ timed_by_row row.place moment w still timed | false ↦ timed ]
 
-timed_counted : (place : ℕ) (row : LiveRow) (told : EndNews) (moment word : ℕ) (s : Stepped) (o : Option ℕ) → s.call.attempts.committed ≡ o → find_live place s.call.live ≡ Some row → IsFair row told → IsApart s → AreTimed moment s → AreTimed moment (if is_some o then step.ended_as ends.Row moment (step.row_ended row.place (row_end told s.ledger.entry moment (count_of (settled told (left_live row.place s)).tokens)) (settled told (left_live row.place s))) else step.counted_free row (row_end told s.ledger.entry moment (count_of (settled told (left_live row.place s)).tokens)) moment word (settled told (left_live row.place s)))
-timed_counted place row told moment word s (Some p) c f fair apart old =
-    let v : Stepped = settled told (left_live row.place s) in
-    let end : RowEnd = row_end told s.ledger.entry moment (count_of v.tokens) in
+timed_counted : (place : ℕ) (row : LiveRow) (reported : EndNews) (moment word : ℕ) (s : Stepped) (o : Option ℕ) → s.call.attempts.committed ≡ o → find_live place s.call.live ≡ Some row → IsFair row reported → IsApart s → RowsAreTimed moment s → RowsAreTimed moment (if is_some o then step.ended_as ends.Row moment (step.row_ended row.place (row_end reported s.ledger.entry moment (count_of (settled reported (left_live row.place s)).tokens)) (settled reported (left_live row.place s))) else step.counted_free row (row_end reported s.ledger.entry moment (count_of (settled reported (left_live row.place s)).tokens)) moment word (settled reported (left_live row.place s)))
+timed_counted place row reported moment word s (Some p) c f fair apart old =
+    let v : Stepped = settled reported (left_live row.place s) in
+    let end : RowEnd = row_end reported s.ledger.entry moment (count_of v.tokens) in
     timed_end ends.Row moment (step.row_ended row.place end v)
-    (apart_chain.row_ended row.place end v refl (left_none row.place s.call.live) (apart_chain.settled told (left_live row.place s) (apart_chain.left row.place s apart)))
-    (timed_row row told end moment s (found_stands s.call.number s.ledger.rows place s.call.live row apart.tied f) fair refl refl refl old)
-timed_counted place row told moment word s None c f fair apart old =
-    let v : Stepped = settled told (left_live row.place s) in
-    let end : RowEnd = row_end told s.ledger.entry moment (count_of v.tokens) in
-    timed_closed place row told end moment word s (judged_of row end word v.call v.tokens).closes f fair refl refl refl refl c apart old
+    (apart_chain.row_ended row.place end v refl (left_none row.place s.call.live) (apart_chain.settled reported (left_live row.place s) (apart_chain.left row.place s apart)))
+    (timed_row row reported end moment s (found_stands s.call.number s.ledger.rows place s.call.live row apart.tied f) fair refl refl refl old)
+timed_counted place row reported moment word s None c f fair apart old =
+    let v : Stepped = settled reported (left_live row.place s) in
+    let end : RowEnd = row_end reported s.ledger.entry moment (count_of v.tokens) in
+    timed_closed place row reported end moment word s (judged_of row end word v.call v.tokens).closes f fair refl refl refl refl c apart old
 
-timed_live : (place : ℕ) (row : LiveRow) (told : EndNews) (moment word : ℕ) (s : Stepped) (b : Bool) → find_live place s.call.live ≡ Some row → IsFair row told → IsApart s → AreTimed moment s → AreTimed moment (if b then step.followed row told moment (left_live row.place s) else step.counted row told moment word (settled told (left_live row.place s)))
-timed_live place row told moment word s true f fair apart old =
-    let end : RowEnd = row_end told s.ledger.entry moment (count_of s.tokens) in
+timed_live : (place : ℕ) (row : LiveRow) (reported : EndNews) (moment word : ℕ) (s : Stepped) (b : Bool) → find_live place s.call.live ≡ Some row → IsFair row reported → IsApart s → RowsAreTimed moment s → RowsAreTimed moment (if b then step.followed row reported moment (left_live row.place s) else step.counted row reported moment word (settled reported (left_live row.place s)))
+timed_live place row reported moment word s true f fair apart old =
+    let end : RowEnd = row_end reported s.ledger.entry moment (count_of s.tokens) in
     let committed : Option ℕ = stamp_if (names row.place s.call.attempts.committed) s.ledger.entry in
     all_more s.call.number moment (changed_at (ended_row end) s.ledger.rows row.place) (new_row s.call.number row.number kind.Transparent moment committed)
     (timed_new s.call.number moment moment row.number kind.Transparent committed (omega arith))
-    (timed_row row told end moment s (found_stands s.call.number s.ledger.rows place s.call.live row apart.tied f) fair refl refl refl old)
-timed_live place row told moment word s false f fair apart old = timed_counted place row told moment word s s.call.attempts.committed refl f fair apart old
+    (timed_row row reported end moment s (found_stands s.call.number s.ledger.rows place s.call.live row apart.tied f) fair refl refl refl old)
+timed_live place row reported moment word s false f fair apart old = timed_counted place row reported moment word s s.call.attempts.committed refl f fair apart old
 
 -- the other things that are done
-timed_place : (place : ℕ) (row : LiveRow) (at : Placed) (s : Stepped) → find_live place s.call.live ≡ Some row → IsApart s → AreTimed at.moment s → AreTimed at.moment (step.placed_row_live row at s)
+timed_place : (place : ℕ) (row : LiveRow) (at : Placed) (s : Stepped) → find_live place s.call.live ≡ Some row → IsApart s → RowsAreTimed at.moment s → RowsAreTimed at.moment (step.placed_row_live row at s)
 timed_place place row at s f apart old =
     let one : IsStanding s.call.number s.ledger.rows row = found_stands s.call.number s.ledger.rows place s.call.live row apart.tied f in
     all_changed s.call.number at.moment row.place (placed_row at) s.ledger.rows (λ r. record { call = refl })
@@ -301,29 +301,29 @@ timed_place place row at s f apart old =
     timed_placed at.moment at r refl (ap (λ (x : Row). x.ended) (sym equal) ∙ one.ended) timed)
     old
 
-timed_by_last : (last : Option ℕ) (moment : ℕ) (s : Stepped) → IsApart s → AreTimed moment s → AreTimed moment (step.ended_by_last last moment s)
+timed_by_last : (last : Option ℕ) (moment : ℕ) (s : Stepped) → IsApart s → RowsAreTimed moment s → RowsAreTimed moment (step.ended_by_last last moment s)
 timed_by_last None moment s apart old = old
 timed_by_last (Some last) moment s apart old =
-    elim (has_none s.call.live) as (λ b. AreTimed moment (if b then step.ended_by_row last moment s else s)) [ true ↦ timed_by_row last moment s apart old | false ↦ old ]
+    elim (has_none s.call.live) as (λ b. RowsAreTimed moment (if b then step.ended_by_row last moment s else s)) [ true ↦ timed_by_row last moment s apart old | false ↦ old ]
 
-timed_head : (place : ℕ) (meta : List Field) (moment : ℕ) (s : Stepped) (b : Bool) → IsApart s → AreTimed moment s → AreTimed moment (step.with_head meta (if b then s else step.committed place moment (record s { call = record s.call { buffer = committed_buffer place s.call.buffer } })))
+timed_head : (place : ℕ) (meta : List Field) (moment : ℕ) (s : Stepped) (b : Bool) → IsApart s → RowsAreTimed moment s → RowsAreTimed moment (step.with_head meta (if b then s else step.committed place moment (record s { call = record s.call { buffer = committed_buffer place s.call.buffer } })))
 timed_head place meta moment s true apart old = old
 timed_head place meta moment s false apart old =
     timed_commit place moment (record s { call = record s.call { buffer = committed_buffer place s.call.buffer } }) (record { tied = apart.tied; apart = apart.apart }) old
 
-timed_message : (octets : List ℕ) (moment : ℕ) (s : Stepped) (b : Bool) → AreTimed moment s → AreTimed moment (record s { call = (if b then record s.call { inbox = record s.call.inbox { messages = s.call.inbox.messages ++ octets ∷ [] } } else s.call) })
+timed_message : (octets : List ℕ) (moment : ℕ) (s : Stepped) (b : Bool) → RowsAreTimed moment s → RowsAreTimed moment (record s { call = (if b then record s.call { inbox = record s.call.inbox { messages = s.call.inbox.messages ++ octets ∷ [] } } else s.call) })
 timed_message octets moment s true old = old
 timed_message octets moment s false old = old
 
-timed_over : (over : Bool) (row : Option ℕ) (moment : ℕ) (s : Stepped) → IsApart s → AreTimed moment s → AreTimed moment (step.committed_over over row moment s)
+timed_over : (over : Bool) (row : Option ℕ) (moment : ℕ) (s : Stepped) → IsApart s → RowsAreTimed moment s → RowsAreTimed moment (step.committed_over over row moment s)
 timed_over over None moment s apart old = old
 timed_over true (Some place) moment s apart old = timed_commit place moment s apart old
 timed_over false (Some place) moment s apart old = old
 
-timed_since : (now moment : ℕ) (s : Stepped) → now ≤ moment → AreTimed now s → AreTimed moment s
+timed_since : (now moment : ℕ) (s : Stepped) → now ≤ moment → RowsAreTimed now s → RowsAreTimed moment s
 timed_since now moment s le old = all_later s.call.number now moment s.ledger.rows le old
 
-pub timed_moves : Moves (λ chosen. Unit {0}) (λ s row told. IsFair row told) (λ moment s t. (now : ℕ) → now ≤ moment → IsApart s → AreTimed now s → AreTimed moment t)
+pub timed_moves : Moves (λ chosen. Unit {0}) (λ s row reported. IsFair row reported) (λ moment s t. (now : ℕ) → now ≤ moment → IsApart s → RowsAreTimed now s → RowsAreTimed moment t)
 timed_moves = record {
   same = λ moment s now le apart old. timed_since now moment s le old;
   configured = λ chosen moment s known e fresh now le apart old. timed_since now moment s le old;
@@ -333,8 +333,8 @@ timed_moves = record {
   too_large = λ row moment s e now le apart old. timed_end ends.Response moment s apart (timed_since now moment s le old);
   head = λ place row meta moment s e now le apart old. timed_head place meta moment s (is_some s.call.attempts.committed) apart (timed_since now moment s le old);
   message = λ row octets moment s now le apart old. timed_message octets moment s (is_committed_live row s.call) (timed_since now moment s le old);
-  row_ended = λ place row told moment word s e fair now le apart old.
-      timed_live place row told moment word s (is_followed s.call.attempts told.cause told.unseen) e fair apart (timed_since now moment s le old);
+  row_ended = λ place row reported moment word s e fair now le apart old.
+      timed_live place row reported moment word s (is_followed s.call.attempts reported.cause reported.unseen) e fair apart (timed_since now moment s le old);
   placed = λ place row at s entry e free now le apart old. timed_place place row at s e apart (timed_since now at.moment s le old);
   refused = λ due moment s e passed tested now le apart old.
       timed_by_last s.call.attempts.last moment (step.with_attempts (stopped_attempts s.call.attempts) s) (record { tied = apart.tied; apart = apart.apart }) (timed_since now moment s le old);
@@ -347,7 +347,7 @@ timed_moves = record {
       timed_over (pushed_over s.call.buffer (framed message) row) row moment (record s { call = with_message message row s.call }) (record { tied = apart.tied; apart = apart.apart }) (timed_since now moment s le old);
 }
 
-pub timed_begun : (number : ℕ) (request : RequestSeen) (begun : ℕ) (ledger : Ledger) (tokens : Option Bucket) (acts : List CallAct) → ((place : ℕ) (row : Row) → row_in ledger.rows place ≡ Some row → row.call ≡ number → ⊥) → AreTimed begun (step.lent (new_call number request begun) ledger tokens acts)
+pub timed_begun : (number : ℕ) (request : RequestSeen) (begun : ℕ) (ledger : Ledger) (tokens : Option Bucket) (acts : List CallAct) → ((place : ℕ) (row : Row) → row_in ledger.rows place ≡ Some row → row.call ≡ number → ⊥) → RowsAreTimed begun (step.lent (new_call number request begun) ledger tokens acts)
 timed_begun number request begun ledger tokens acts fresh = λ place row is. absurd (fresh place row is.there is.call)
 
 -- what is done to other calls
@@ -367,6 +367,6 @@ same_timed now old new same timed = record {
   placed = subst (λ (o : Option Placed). IfSome o (λ p. p.moment ≤ now)) (sym same.placed) timed.placed;
 }
 
-pub timed_elsewhere : (now : ℕ) (s : Stepped) (ledger : Ledger) → KeepsTimes s.call.number s.ledger.rows ledger.rows → AreTimed now s → AreTimed now (record s { ledger = ledger })
+pub timed_elsewhere : (now : ℕ) (s : Stepped) (ledger : Ledger) → KeepsTimes s.call.number s.ledger.rows ledger.rows → RowsAreTimed now s → RowsAreTimed now (record s { ledger = ledger })
 timed_elsewhere now s ledger keeps old = λ place row is.
     let was : WasTimed s.call.number s.ledger.rows place row = keeps place row is in same_timed now was.row row was.same (old place was.row was.is)

@@ -14,7 +14,7 @@ use Rattle.call_core.specs.Steps.{Stepped}
 -- an attempt that never left the client is always retried; one that the peer ended and the server can't have seen, once a call and
 -- before the commitment
 abbrev pub is_retried : EndNews → Attempts → Bool
-is_retried told a = is_unsent told.cause || (is_by_peer told.cause && told.unseen && not (is_some a.committed) && not a.is_refusal_followed)
+is_retried reported a = is_unsent reported.cause || (is_by_peer reported.cause && reported.unseen && not (is_some a.committed) && not a.is_refusal_followed)
 
 -- the retry stands after all other rows and joins the queue: it has the number of the attempt, is due at once, takes over its
 -- commitment and costs no token

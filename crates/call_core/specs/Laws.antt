@@ -45,7 +45,7 @@ pub record IsKept (call : CallState) : Type 0 where
   pub unconfigured : call.chosen ≡ None → IsOver call
   pub free : call.chosen ≡ None → call.attempts.committed ≡ None
 
--- the items that came for the application and wait, the end behind them once the call ended
+-- the items that came for the application and wait, the end after them once the call ended
 abbrev pub head_items : Option (List Field) → List Reply
 head_items None = []
 head_items (Some meta) = reply.Head meta ∷ []
@@ -77,7 +77,7 @@ pub record IsForbidden (moment : ℕ) (s t : Stepped) : Type 0 where
   pub tokens : is_above s.tokens ≡ false
   pub stopped : t.call.attempts.stopped ≡ true
 
--- an attempt was due, and was made: its row stands behind all others and joins the queue
+-- an attempt was due, and was made: its row stands after all others and joins the queue
 pub record IsMade (moment : ℕ) (s t : Stepped) : Type 0 where
   pub row : Row
   pub rows : t.ledger.rows ≡ s.ledger.rows ++ row ∷ []
@@ -126,8 +126,8 @@ KeepsRefusal s t = s.call.attempts.is_refusal_followed ≡ true → t.call.attem
 
 -- an end counts: its row is live, and no transparent retry follows
 abbrev pub counts_end : ℕ → EndNews → CallState → Bool
-counts_end row told call = is_some (find_live row call.live) && not (is_followed call.attempts told.cause told.unseen)
+counts_end row reported call = is_some (find_live row call.live) && not (is_followed call.attempts reported.cause reported.unseen)
 
 -- what it does to the tokens (gRFC A6, "Throttling Retry Attempts and Hedged RPCs")
 abbrev pub settled_by : EndNews → CallState → Option Bucket → Option Bucket
-settled_by told call tokens = settled_tokens told.code told.pushback (is_in_set (call_plan call) told.code) tokens
+settled_by reported call tokens = settled_tokens reported.code reported.pushback (is_in_set (call_plan call) reported.code) tokens

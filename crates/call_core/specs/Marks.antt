@@ -96,8 +96,8 @@ pub record Fits (policy : HedgePolicy) (marks : List Mark) (a : Attempts) : Type
   pub newest : 1 ≤ made_in marks → a.newest ≡ newest_in marks
   pub placed : 1 ≤ made_in marks → a.placed ≡ placed_in marks
 
-abbrev pub AreMarks : HedgePolicy → List Mark → Stepped → Type 0
-AreMarks policy marks s = IsOpen s.call → call_plan s.call ≡ plans.Hedge policy → Fits policy marks s.call.attempts
+abbrev pub MarksAgree : HedgePolicy → List Mark → Stepped → Type 0
+MarksAgree policy marks s = IsOpen s.call → call_plan s.call ≡ plans.Hedge policy → Fits policy marks s.call.attempts
 
 -- the marks after each thing that is done to the call: the configuration, where it has none
 abbrev pub marks_configured : ℕ → CallState → List Mark → List Mark
@@ -110,15 +110,15 @@ marks_placed place moment call marks =
 
 -- an end that counts
 abbrev pub ended_mark : EndNews → ℕ → Option Bucket → ℕ → Mark
-ended_mark told moment tokens entry = Ended (row_end told entry moment (count_of tokens)) (is_above tokens)
+ended_mark reported moment tokens entry = Ended (row_end reported entry moment (count_of tokens)) (is_above tokens)
 
 abbrev pub marks_ended : ℕ → EndNews → ℕ → Stepped → List Mark → List Mark
-marks_ended place told moment s marks =
-    if counts_end place told s.call then ended_mark told moment (settled_by told s.call s.tokens) s.ledger.entry ∷ marks else marks
+marks_ended place reported moment s marks =
+    if counts_end place reported s.call then ended_mark reported moment (settled_by reported s.call s.tokens) s.ledger.entry ∷ marks else marks
 
-abbrev pub marks_heard : ℕ → News → ℕ → Stepped → List Mark → List Mark
-marks_heard place (news.Ended tag end) moment s marks = marks_ended place end moment s marks
-marks_heard place _ moment s marks = marks
+abbrev pub marks_received : ℕ → News → ℕ → Stepped → List Mark → List Mark
+marks_received place (news.Ended tag end) moment s marks = marks_ended place end moment s marks
+marks_received place _ moment s marks = marks
 
 -- a moment by which an attempt is due: it is made, unless it is a hedge that the tokens forbid
 abbrev pub marks_at : Option ℕ → ℕ → Stepped → List Mark → List Mark

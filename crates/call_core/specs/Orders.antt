@@ -14,16 +14,16 @@ pub record IsTimed (now : ℕ) (row : Row) : Type 0 where
   pub due : row.due ≤ now
   pub placed : IfSome row.placed (λ placed. placed.moment ≤ now)
 
-abbrev pub AreTimed : ℕ → Stepped → Type 0
-AreTimed now s = (place : ℕ) (row : Row) → IsRowOf s.call.number s.ledger.rows place row → IsTimed now row
+abbrev pub RowsAreTimed : ℕ → Stepped → Type 0
+RowsAreTimed now s = (place : ℕ) (row : Row) → IsRowOf s.call.number s.ledger.rows place row → IsTimed now row
 
 -- each row of the call was due by a moment
-abbrev pub AreDue : ℕ → Stepped → Type 0
-AreDue now s = (place : ℕ) (row : Row) → IsRowOf s.call.number s.ledger.rows place row → row.due ≤ now
+abbrev pub RowsAreDue : ℕ → Stepped → Type 0
+RowsAreDue now s = (place : ℕ) (row : Row) → IsRowOf s.call.number s.ledger.rows place row → row.due ≤ now
 
--- what is told of a row that isn't placed: that no link was found for it
+-- what is reported of a row that isn't placed: that no link was found for it
 abbrev pub IsFair : LiveRow → EndNews → Type 0
-IsFair live told = live.link ≡ None → (told.code ≡ code.Unavailable) × (told.cause ≡ cause.Pick)
+IsFair live reported = live.link ≡ None → (reported.code ≡ code.Unavailable) × (reported.cause ≡ cause.Pick)
 
 -- what is done to other calls leaves a row's moments; and a row that gets a stream is placed
 pub record IsSameTimes (old new : Row) : Type 0 where

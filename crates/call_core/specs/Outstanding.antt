@@ -12,11 +12,11 @@ pub record IsOutstanding (owner : ℕ) (row : Row) : Type 0 where
 
 -- each outstanding row of the call is one of its live rows. So of a call that is committed every row that was placed has ended, but for
 -- the one to which it is committed; and of a call that ended every one
-abbrev pub AreHeld : Stepped → Type 0
-AreHeld s =
+abbrev pub RowsAreHeld : Stepped → Type 0
+RowsAreHeld s =
     (place : ℕ) (row : Row) → row_in s.ledger.rows place ≡ Some row → IsOutstanding s.call.number row → is_some (find_live place s.call.live) ≡ true
 
 -- every row of the call that was placed has ended, but for the one at this place
-abbrev pub AreOverBut : Option ℕ → Stepped → Type 0
-AreOverBut kept s =
+abbrev pub RowsAreOverBut : Option ℕ → Stepped → Type 0
+RowsAreOverBut kept s =
     (place : ℕ) (row : Row) → row_in s.ledger.rows place ≡ Some row → IsOutstanding s.call.number row → kept ≡ Some place

@@ -10,14 +10,14 @@ use Rattle.call_core.specs.Steps.{Stepped}
 abbrev pub IsLast : ℕ → List Row → LiveRow → Type 0
 IsLast owner rows live = (place : ℕ) (row : Row) → IsRowOf owner rows place row → row.number ≡ live.number → place ≤ live.place
 
-abbrev pub AreLast : ℕ → List Row → List LiveRow → Type 0
-AreLast owner rows [] = Unit {0}
-AreLast owner rows (row ∷ live) = IsLast owner rows row × AreLast owner rows live
+abbrev pub LiveRowsAreLast : ℕ → List Row → List LiveRow → Type 0
+LiveRowsAreLast owner rows [] = Unit {0}
+LiveRowsAreLast owner rows (row ∷ live) = IsLast owner rows row × LiveRowsAreLast owner rows live
 
 -- no number is above that of the newest attempt; of two rows of a number the later one is a transparent retry; and each live row is the
 -- last of its number
-pub record AreChained (s : Stepped) : Type 0 where
-  pub last : AreLast s.call.number s.ledger.rows s.call.live
+pub record RowsAreChained (s : Stepped) : Type 0 where
+  pub last : LiveRowsAreLast s.call.number s.ledger.rows s.call.live
   pub within : (place : ℕ) (row : Row) → IsRowOf s.call.number s.ledger.rows place row → row.number ≤ s.call.attempts.sent
   pub kinds : (place other : ℕ) (row next : Row) → IsRowOf s.call.number s.ledger.rows place row → IsRowOf s.call.number s.ledger.rows other next → place < other → next.number ≡ row.number → is_transparent next.kind ≡ true
 

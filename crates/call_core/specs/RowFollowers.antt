@@ -77,7 +77,7 @@ pub record HaveFollowers (at owner : ℕ) (rows : List Row) (is_spent : Bool) (n
   pub followers : (place : ℕ) (row : Row) → IsRowOf owner rows place row → is_transparent row.kind ≡ true → IsFollowerOf owner rows place row
   pub followed : EndsKeep (IsFollowedDuly owner) owner rows rows
   -- one refusal is followed in a call, and before the commitment
-  pub once : (place other : ℕ) (end behind : RowEnd) → IsSpentBy owner rows place end → IsSpentBy owner rows other behind → place ≡ other
+  pub once : (place other : ℕ) (end afterwards : RowEnd) → IsSpentBy owner rows place end → IsSpentBy owner rows other afterwards → place ≡ other
   pub free : (place : ℕ) (end : RowEnd) → IsSpentBy owner rows place end → (other : ℕ) (row : Row) → IsRowOf owner rows other row → (stamp : ℕ) → row.committed ≡ Some stamp → end.entry ≤ stamp
   -- what the call keeps for it: whether one was followed; that stamps and such ends are of entries so far; and that the last end that
   -- counts isn't followed
@@ -90,11 +90,11 @@ pub record HaveFollowers (at owner : ℕ) (rows : List Row) (is_spent : Bool) (n
 abbrev pub AreFollowing : ℕ → Stepped → Type 0
 AreFollowing at s = HaveFollowers at s.call.number s.ledger.rows s.call.attempts.is_refusal_followed s.call.attempts.last
 
--- the news of one entry come in the order of their bytes, and later of their rows' places: each refusal that was told comes before this one
-abbrev pub IsTold : Stepped → LiveRow → EndNews → Type 0
-IsTold s live told =
-    is_by_peer told.cause ≡ true → (place : ℕ) (earlier : RowEnd) → IsEndedIn s.call.number s.ledger.rows place earlier → is_by_peer earlier.cause ≡ true
-    → comes_before earlier place (row_end told s.ledger.entry 0 None) live.place ≡ true
+-- the news of one entry come in the order of their bytes, and later of their rows' places: each refusal that was reported comes before this one
+abbrev pub IsReported : Stepped → LiveRow → EndNews → Type 0
+IsReported s live reported =
+    is_by_peer reported.cause ≡ true → (place : ℕ) (earlier : RowEnd) → IsEndedIn s.call.number s.ledger.rows place earlier → is_by_peer earlier.cause ≡ true
+    → comes_before earlier place (row_end reported s.ledger.entry 0 None) live.place ≡ true
 
 -- what is done to other calls leaves of each row of a call all that the law names, and makes none
 pub record WasFollower (owner : ℕ) (rows : List Row) (place : ℕ) (new : Row) : Type 0 where

@@ -56,9 +56,9 @@ FitsTokens throttle None = Unit {0}
 FitsTokens None (Some b) = ⊥
 FitsTokens (Some throttle) (Some b) = IsBucketOf throttle b
 
-abbrev pub AreOwnTokens : Option Bucket → Option Chosen → Type 0
-AreOwnTokens tokens None = Unit {0}
-AreOwnTokens tokens (Some chosen) = FitsTokens chosen.throttle tokens
+abbrev pub TokensAreOwn : Option Bucket → Option Chosen → Type 0
+TokensAreOwn tokens None = Unit {0}
+TokensAreOwn tokens (Some chosen) = FitsTokens chosen.throttle tokens
 
 -- the count of tokens after an end is one that a bucket can have (gRFC A6, "Throttling Retry Attempts and Hedged RPCs")
 pub record IsCountOf (plan : CallPlan) (throttle : Throttle) (counted : Type 0) (end : RowEnd) (tokens : ℕ) : Type 0 where
@@ -72,7 +72,7 @@ HasCount chosen owner rows place number end =
     → IsCountOf chosen.plan throttle (IsCountedAt owner rows place number end) end tokens
 
 -- each end of a call's rows has such a count; and before the configuration there is no row
-pub record AreThrottled (s : Stepped) : Type 0 where
+pub record RowsAreThrottled (s : Stepped) : Type 0 where
   pub ends : (chosen : Chosen) → s.call.chosen ≡ Some chosen → EndsKeep (HasCount chosen s.call.number) s.call.number s.ledger.rows s.ledger.rows
   pub fresh : s.call.chosen ≡ None → (place : ℕ) (row : Row) → IsRowOf s.call.number s.ledger.rows place row → ⊥
 
@@ -102,7 +102,7 @@ StopsHedging policy stopped owner rows place number end =
     EndsHedging policy owner rows place number end → (stopped ≡ true) × HedgesBy owner rows end.moment
 
 -- after such an end the call makes no further attempt, and every hedge was due by it
-pub record AreHedged (s : Stepped) : Type 0 where
+pub record RowsAreHedged (s : Stepped) : Type 0 where
   pub ends : (policy : HedgePolicy) → call_plan s.call ≡ plans.Hedge policy → EndsKeep (StopsHedging policy s.call.attempts.stopped s.call.number) s.call.number s.ledger.rows s.ledger.rows
 
 -- before the configuration there is no row

@@ -16,9 +16,9 @@ use Rattle.call_core.specs.Going.{IsGoing}
 use Rattle.call_core.specs.Laws.{IsKept}
 use Rattle.call_core.specs.Numbering.{IsNumbered}
 use Rattle.call_core.specs.Reasons.{HasReasons}
-use Rattle.call_core.specs.RowChains.{AreChained}
+use Rattle.call_core.specs.RowChains.{RowsAreChained}
 use Rattle.call_core.specs.RowFollowers.{IsEndedIn}
-use Rattle.call_core.specs.RowLaws.{AreOwnTokens, HasNoRows, IsCountedAt}
+use Rattle.call_core.specs.RowLaws.{TokensAreOwn, HasNoRows, IsCountedAt}
 use Rattle.call_core.specs.Rows.{IsApart}
 use Rattle.call_core.specs.Steps.{Stepped}
 
@@ -84,13 +84,13 @@ pub record HaveLicenses (chosen : Chosen) (owner : ℕ) (rows : List Row) : Type
 
 -- what an uncommitted call keeps for it: the end that licenses the attempt that is due, and after which one the server last asked for
 -- a delay
-pub record AreWaiting (chosen : Chosen) (owner : ℕ) (rows : List Row) (sent : ℕ) (forced : Option ℕ) (delayed : ℕ) : Type 0 where
+pub record LicensesWait (chosen : Chosen) (owner : ℕ) (rows : List Row) (sent : ℕ) (forced : Option ℕ) (delayed : ℕ) : Type 0 where
   pub pending : (due : ℕ) → forced ≡ Some due → (sent ≡ 0) ⊎ IsRetryOf chosen owner rows (sent + 1) due
   pub asked : IsLastAsked owner rows (sent + 1) delayed
 
-pub record AreLicensed (s : Stepped) : Type 0 where
+pub record RowsAreLicensed (s : Stepped) : Type 0 where
   pub ends : (chosen : Chosen) → s.call.chosen ≡ Some chosen → HaveLicenses chosen s.call.number s.ledger.rows
-  pub waiting : (chosen : Chosen) → s.call.chosen ≡ Some chosen → has_retries chosen.plan ≡ true → s.call.attempts.committed ≡ None → AreWaiting chosen s.call.number s.ledger.rows s.call.attempts.sent s.call.attempts.forced s.call.attempts.delayed
+  pub waiting : (chosen : Chosen) → s.call.chosen ≡ Some chosen → has_retries chosen.plan ≡ true → s.call.attempts.committed ≡ None → LicensesWait chosen s.call.number s.ledger.rows s.call.attempts.sent s.call.attempts.forced s.call.attempts.delayed
 
 -- what is known of the call besides
 pub record IsSound (s : Stepped) : Type 0 where
@@ -99,8 +99,8 @@ pub record IsSound (s : Stepped) : Type 0 where
   pub numbered : IsNumbered s
   pub apart : IsApart s
   pub once : IsCommittedOnce s
-  pub chained : AreChained s
+  pub chained : RowsAreChained s
   pub reasons : HasReasons s
-  pub tokens : AreOwnTokens s.tokens s.call.chosen
+  pub tokens : TokensAreOwn s.tokens s.call.chosen
   pub fresh : HasNoRows s
   pub stamped : (place : ℕ) (row : Row) → IsRowOf s.call.number s.ledger.rows place row → (stamp : ℕ) → row.committed ≡ Some stamp → stamp ≤ s.ledger.entry

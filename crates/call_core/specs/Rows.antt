@@ -29,42 +29,42 @@ pub record IsStanding (owner : ℕ) (rows : List Row) (live : LiveRow) : Type 0 
   pub ended : row.ended ≡ None
   pub placed : IsOnLink row.placed live.link
 
-abbrev pub AreStanding : ℕ → List Row → List LiveRow → Type 0
-AreStanding call rows [] = Unit {0}
-AreStanding call rows (row ∷ live) = IsStanding call rows row × AreStanding call rows live
+abbrev pub LiveRowsStand : ℕ → List Row → List LiveRow → Type 0
+LiveRowsStand call rows [] = Unit {0}
+LiveRowsStand call rows (row ∷ live) = IsStanding call rows row × LiveRowsStand call rows live
 
 -- the law of live rows
 abbrev pub IsTied : Stepped → Type 0
-IsTied s = AreStanding s.call.number s.ledger.rows s.call.live
+IsTied s = LiveRowsStand s.call.number s.ledger.rows s.call.live
 
--- the row at a place has the end that was told of it, in this entry, at this moment
-pub record HasToldEnd (told : EndNews) (at_entry at_moment : ℕ) (rows : List Row) (place : ℕ) : Type 0 where
+-- the row at a place has the end that was reported of it, in this entry, at this moment
+pub record HasReportedEnd (reported : EndNews) (at_entry at_moment : ℕ) (rows : List Row) (place : ℕ) : Type 0 where
   pub row : Row
   pub there : row_in rows place ≡ Some row
   pub end : RowEnd
   pub ended : row.ended ≡ Some end
   pub entry : end.entry ≡ at_entry
   pub moment : end.moment ≡ at_moment
-  pub code : end.code ≡ told.code
-  pub text : end.text ≡ told.text
-  pub meta : end.meta ≡ told.meta
-  pub pushback : end.pushback ≡ told.pushback
-  pub unseen : end.unseen ≡ told.unseen
-  pub seen : end.seen ≡ told.seen
-  pub cause : end.cause ≡ told.cause
+  pub code : end.code ≡ reported.code
+  pub text : end.text ≡ reported.text
+  pub meta : end.meta ≡ reported.meta
+  pub pushback : end.pushback ≡ reported.pushback
+  pub unseen : end.unseen ≡ reported.unseen
+  pub seen : end.seen ≡ reported.seen
+  pub cause : end.cause ≡ reported.cause
 
 -- no live row stands at this place; no two live rows stand at one place
 abbrev pub IsOff : ℕ → List LiveRow → Type 0
 IsOff place [] = Unit {0}
 IsOff place (row ∷ live) = (place ≡ row.place → ⊥) × IsOff place live
 
-abbrev pub AreApart : List LiveRow → Type 0
-AreApart [] = Unit {0}
-AreApart (row ∷ live) = IsOff row.place live × AreApart live
+abbrev pub LiveRowsAreApart : List LiveRow → Type 0
+LiveRowsAreApart [] = Unit {0}
+LiveRowsAreApart (row ∷ live) = IsOff row.place live × LiveRowsAreApart live
 
 pub record IsApart (s : Stepped) : Type 0 where
   pub tied : IsTied s
-  pub apart : AreApart s.call.live
+  pub apart : LiveRowsAreApart s.call.live
 
 -- the row at a place has this end
 pub record HasEnd (rows : List Row) (place : ℕ) (end : RowEnd) : Type 0 where
@@ -73,11 +73,11 @@ pub record HasEnd (rows : List Row) (place : ℕ) (end : RowEnd) : Type 0 where
   pub ended : row.ended ≡ Some end
 
 -- each of these rows that had a link, but for the one that is kept, was cut in this entry: its end has what was read of its link
-abbrev pub AreCut : Option ℕ → ℕ → ℕ → Option ℕ → List LinkSeen → List Row → List LiveRow → Type 0
-AreCut kept entry moment tokens links rows [] = Unit {0}
-AreCut kept entry moment tokens links rows (row ∷ live) =
+abbrev pub RowsAreCut : Option ℕ → ℕ → ℕ → Option ℕ → List LinkSeen → List Row → List LiveRow → Type 0
+RowsAreCut kept entry moment tokens links rows [] = Unit {0}
+RowsAreCut kept entry moment tokens links rows (row ∷ live) =
     (names row.place kept ≡ false → (link : ℕ) → row.link ≡ Some link → HasEnd rows row.place (cut_end entry moment (read_of links link) tokens))
-    × AreCut kept entry moment tokens links rows live
+    × RowsAreCut kept entry moment tokens links rows live
 
 -- what is done to other calls, and a stream that a row gets, leave of each row of a call what names it, its placing and its end
 pub record IsKeptIn (rows : List Row) (place : ℕ) (old : Row) : Type 0 where

@@ -76,16 +76,16 @@ given_up_act place (Some link) = act.Cut place
 abbrev pub cut_unless : Option ℕ → ℕ → Option ℕ → LiveRow → Ledger → Ledger
 cut_unless kept moment tokens row ledger = if names row.place kept then ledger else cut_row moment tokens row.place ledger row.link
 
-abbrev pub told_unless : Option ℕ → LiveRow → List CallAct → List CallAct
-told_unless kept row acts = if names row.place kept then acts else acts ++ given_up_act row.place row.link ∷ []
+abbrev pub reported_unless : Option ℕ → LiveRow → List CallAct → List CallAct
+reported_unless kept row acts = if names row.place kept then acts else acts ++ given_up_act row.place row.link ∷ []
 
 abbrev pub cut_all : Option ℕ → ℕ → Option ℕ → List LiveRow → Ledger → Ledger
 cut_all kept moment tokens [] ledger = ledger
 cut_all kept moment tokens (row ∷ live) ledger = cut_all kept moment tokens live (cut_unless kept moment tokens row ledger)
 
-abbrev pub told_all : Option ℕ → List LiveRow → List CallAct → List CallAct
-told_all kept [] acts = acts
-told_all kept (row ∷ live) acts = told_all kept live (told_unless kept row acts)
+abbrev pub reported_all : Option ℕ → List LiveRow → List CallAct → List CallAct
+reported_all kept [] acts = acts
+reported_all kept (row ∷ live) acts = reported_all kept live (reported_unless kept row acts)
 
 -- a commitment
 abbrev pub commit_stamped : ℕ → Ledger → Ledger
@@ -96,7 +96,7 @@ committed place moment s = record {
   call = record s.call { live = kept_alone place s.call.live; attempts = committed_attempts place s.call.attempts };
   ledger = cut_all (Some place) moment (count_of s.tokens) s.call.live (commit_stamped place s.ledger);
   tokens = s.tokens;
-  acts = told_all (Some place) s.call.live s.acts;
+  acts = reported_all (Some place) s.call.live s.acts;
 }
 
 -- the end of the call
@@ -109,7 +109,7 @@ ended_as why moment s = record {
   call = record s.call { live = []; buffer = fresh_buffer; attempts = stopped_attempts s.call.attempts; ended = Some why };
   ledger = end_stamped s.call.number why moment (cut_all None moment (count_of s.tokens) s.call.live s.ledger);
   tokens = s.tokens;
-  acts = told_all None s.call.live s.acts ++ act.End why ∷ [];
+  acts = reported_all None s.call.live s.acts ++ act.End why ∷ [];
 }
 
 abbrev pub ended_if : Bool → EndCause → ℕ → Stepped → Stepped
@@ -154,9 +154,9 @@ abbrev pub stamp_if : Bool → ℕ → Option ℕ
 stamp_if is_committed entry = if is_committed then Some entry else None
 
 abbrev pub followed : LiveRow → EndNews → ℕ → Stepped → Stepped
-followed row told moment s =
-    let t = row_ended row.place (row_end told s.ledger.entry moment (count_of s.tokens)) s in
-    with_attempts (followed_attempts row.place (next_place t.ledger) (is_refusal told.cause) s.call.attempts)
+followed row reported moment s =
+    let t = row_ended row.place (row_end reported s.ledger.entry moment (count_of s.tokens)) s in
+    with_attempts (followed_attempts row.place (next_place t.ledger) (is_refusal reported.cause) s.call.attempts)
     (row_added row.number kind.Transparent moment (stamp_if (names row.place s.call.attempts.committed) s.ledger.entry) t)
 
 -- an end that counts
@@ -175,8 +175,8 @@ counted_free row end moment word s =
     let after = judged_of row end word s.call s.tokens in closed_if after.closes row.place moment (with_judged row end after s)
 
 abbrev pub counted : LiveRow → EndNews → ℕ → ℕ → Stepped → Stepped
-counted row told moment word s =
-    let end = row_end told s.ledger.entry moment (count_of s.tokens) in
+counted row reported moment word s =
+    let end = row_end reported s.ledger.entry moment (count_of s.tokens) in
     if is_some s.call.attempts.committed then ended_as ends.Row moment (row_ended row.place end s)
     else counted_free row end moment word s
 
@@ -185,19 +185,19 @@ abbrev pub left_live : ℕ → Stepped → Stepped
 left_live place s = record s { call = record s.call { live = without place s.call.live; buffer = closed place s.call.buffer } }
 
 abbrev pub settled : EndNews → Stepped → Stepped
-settled told s = record s { tokens = settled_tokens told.code told.pushback (is_in_set (call_plan s.call) told.code) s.tokens }
+settled reported s = record s { tokens = settled_tokens reported.code reported.pushback (is_in_set (call_plan s.call) reported.code) s.tokens }
 
 abbrev pub live_ended : LiveRow → EndNews → ℕ → ℕ → Stepped → Stepped
-live_ended row told moment word s =
-    if is_followed s.call.attempts told.cause told.unseen then followed row told moment (left_live row.place s)
-    else counted row told moment word (settled told (left_live row.place s))
+live_ended row reported moment word s =
+    if is_followed s.call.attempts reported.cause reported.unseen then followed row reported moment (left_live row.place s)
+    else counted row reported moment word (settled reported (left_live row.place s))
 
 abbrev pub ended_if_live : Option LiveRow → EndNews → ℕ → ℕ → Stepped → Stepped
-ended_if_live None told moment word s = s
-ended_if_live (Some row) told moment word s = live_ended row told moment word s
+ended_if_live None reported moment word s = s
+ended_if_live (Some row) reported moment word s = live_ended row reported moment word s
 
 abbrev pub ended_at : ℕ → EndNews → ℕ → ℕ → Stepped → Stepped
-ended_at row told moment word s = ended_if_live (find_live row s.call.live) told moment word s
+ended_at row reported moment word s = ended_if_live (find_live row s.call.live) reported moment word s
 
 abbrev pub pick_failed : ℕ → ℕ → ℕ → Stepped → Stepped
 pick_failed row moment word s = ended_at row pick_end moment word s
@@ -211,30 +211,30 @@ commit_by_head row moment s =
 abbrev pub with_head : List Field → Stepped → Stepped
 with_head meta s = record s { call = record s.call { inbox = record s.call.inbox { head = Some meta } } }
 
-abbrev pub heard_head : ℕ → List Field → ℕ → Stepped → Stepped
-heard_head row meta moment s =
+abbrev pub received_head : ℕ → List Field → ℕ → Stepped → Stepped
+received_head row meta moment s =
     if is_some (find_live row s.call.live) then with_head meta (commit_by_head row moment s) else s
 
 abbrev pub is_committed_live : ℕ → CallState → Bool
 is_committed_live row call = names row call.attempts.committed && is_some (find_live row call.live)
 
-abbrev pub heard_message : ℕ → List ℕ → CallState → CallState
-heard_message row octets call =
+abbrev pub received_message : ℕ → List ℕ → CallState → CallState
+received_message row octets call =
     if is_committed_live row call
     then record call { inbox = record call.inbox { messages = call.inbox.messages ++ octets ∷ [] } }
     else call
 
-abbrev pub heard_too_large : ℕ → ℕ → Stepped → Stepped
-heard_too_large row moment s = ended_if (is_committed_live row s.call) ends.Response moment s
+abbrev pub received_too_large : ℕ → ℕ → Stepped → Stepped
+received_too_large row moment s = ended_if (is_committed_live row s.call) ends.Response moment s
 
-abbrev pub heard_news : ℕ → News → ℕ → ℕ → Stepped → Stepped
-heard_news row (news.Head tag meta seen) moment word s = heard_head row meta moment s
-heard_news row (news.Message tag octets seen) moment word s = record s { call = heard_message row octets s.call }
-heard_news row (news.TooLarge tag seen) moment word s = heard_too_large row moment s
-heard_news row (news.Ended tag end) moment word s = ended_at row end moment word s
-heard_news row news.Ready moment word s = s
-heard_news row news.Retiring moment word s = s
-heard_news row (news.Broken code) moment word s = s
+abbrev pub received_news : ℕ → News → ℕ → ℕ → Stepped → Stepped
+received_news row (news.Head tag meta seen) moment word s = received_head row meta moment s
+received_news row (news.Message tag octets seen) moment word s = record s { call = received_message row octets s.call }
+received_news row (news.TooLarge tag seen) moment word s = received_too_large row moment s
+received_news row (news.Ended tag end) moment word s = ended_at row end moment word s
+received_news row news.Ready moment word s = s
+received_news row news.Retiring moment word s = s
+received_news row (news.Broken code) moment word s = s
 
 -- the configuration
 abbrev pub with_chosen : Chosen → ℕ → Stepped → Stepped

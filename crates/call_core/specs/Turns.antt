@@ -26,11 +26,11 @@ abbrev pub lent_at : CallState → Ledger → Option Bucket → Turn → Stepped
 lent_at call ledger tokens turn = lent call ledger tokens turn.acts
 
 -- what a step leaves: of the turn its acts alone change
-abbrev pub told : List CallAct → Turn → Turn
-told acts turn = record turn { acts = acts }
+abbrev pub reported : List CallAct → Turn → Turn
+reported acts turn = record turn { acts = acts }
 
 abbrev pub goes : Stepped → Turn → Left
-goes s turn = left s.call s.ledger (told s.acts turn)
+goes s turn = left s.call s.ledger (reported s.acts turn)
 
 -- an end that the client makes itself
 abbrev pub own_end : Code → RowCause → ℕ → EndNews

@@ -3,7 +3,7 @@ ghost use Rattle.std.specs.Prelude.{◌≡◌, ◌≤◌, ◌==◌, ℕ, [], Non
 ghost use Rattle.std.specs.Option.{option_copied};
 ghost use Rattle.attempt_buffer.specs.Buffers.{left_of};
 ghost use Rattle.call_core.specs.Parts.{fed_out};
-ghost use Rattle.call_core.specs.Steps.{can_send, can_take, cancel_reply, cancelled, closed_by, configured, deadline_at, fed_row, finish_reply, finished, heard_news, lent, made_due, new_call, next_due, pick_failed, placed_at, ready_of, send_reply, sent, take_reply, taken, timed_out, waits};
+ghost use Rattle.call_core.specs.Steps.{can_send, can_take, cancel_reply, cancelled, closed_by, configured, deadline_at, fed_row, finish_reply, finished, received_news, lent, made_due, new_call, next_due, pick_failed, placed_at, ready_of, send_reply, sent, take_reply, taken, timed_out, waits};
 
 use crate::act::CallAct;
 use crate::chosen::{deadline_at, is_too_long, waits};
@@ -21,7 +21,7 @@ use std::marker::Model;
 
 /// One call: the attempts that it makes, the messages that it sends, and what came for its application.
 ///
-/// Its rows stand in the ledger that each call is lent; the call is told there by the number it began with, and
+/// Its rows stand in the ledger that each call is lent; the call is reported there by the number it began with, and
 /// keeps the places of its own rows, so that what it does costs time in these alone. Where a place or a number names nothing of
 /// this call, nothing changes. On out of memory the call and the ledger may be changed in part.
 #[derive(Drop)]
@@ -240,13 +240,13 @@ impl Call {
         word: u64,
         tokens: &mut Option<Tokens>,
     ) -> Result<Items<CallAct>, NoMemory>
-        ensures call { OnOk result (self.new ≡ (heard_news row news moment word (lent self.old ledger.old tokens.old [])).call) }
-        ensures ledger { OnOk result (ledger.new ≡ (heard_news row news moment word (lent self.old ledger.old tokens.old [])).ledger) }
-        ensures acts { IfOk result (λ acts. acts ≡ (heard_news row news moment word (lent self.old ledger.old tokens.old [])).acts) }
-        ensures tokens { OnOk result (tokens.new ≡ (heard_news row news moment word (lent self.old ledger.old tokens.old [])).tokens) }
+        ensures call { OnOk result (self.new ≡ (received_news row news moment word (lent self.old ledger.old tokens.old [])).call) }
+        ensures ledger { OnOk result (ledger.new ≡ (received_news row news moment word (lent self.old ledger.old tokens.old [])).ledger) }
+        ensures acts { IfOk result (λ acts. acts ≡ (received_news row news moment word (lent self.old ledger.old tokens.old [])).acts) }
+        ensures tokens { OnOk result (tokens.new ≡ (received_news row news moment word (lent self.old ledger.old tokens.old [])).tokens) }
     {
         let mut turn = Turn::new(self.alloc, moment, word);
-        self.state.hear(&mut turn, ledger, tokens, row, news)?;
+        self.state.receive(&mut turn, ledger, tokens, row, news)?;
         Ok(turn.acts)
     }
 

@@ -1,8 +1,8 @@
 // Commitment and the end of a call, and the rows that these give up.
 ghost use Rattle.std.specs.Prelude.{◌≡◌, OnOk};
 ghost use Rattle.call_core.specs.Parts.{count_of, read_of};
-ghost use Rattle.call_core.specs.Steps.{committed, cut_all, cut_unless, ended_as, ended_by_row, told_all, told_unless};
-ghost use Rattle.call_core.specs.Turns.{goes, left, lent_at, told};
+ghost use Rattle.call_core.specs.Steps.{committed, cut_all, cut_unless, ended_as, ended_by_row, reported_all, reported_unless};
+ghost use Rattle.call_core.specs.Turns.{goes, left, lent_at, reported};
 
 use crate::act::CallAct;
 use crate::attempts::names;
@@ -35,7 +35,7 @@ fn cut_unless(
     kept: Option<u64>,
 ) -> Result<(), NoMemory>
     ensures ledger { OnOk result (ledger.new ≡ cut_unless kept turn.old.moment (count_of tokens.now) row ledger.old) }
-    ensures turn { OnOk result (turn.new ≡ told (told_unless kept row turn.old.acts) turn.old) }
+    ensures turn { OnOk result (turn.new ≡ reported (reported_unless kept row turn.old.acts) turn.old) }
 {
     if names(row.place, kept) {
         return Ok(());
@@ -59,7 +59,7 @@ fn cut_others(
     kept: Option<u64>,
 ) -> Result<(), NoMemory>
     ensures ledger { OnOk result (ledger.new ≡ cut_all kept turn.old.moment (count_of tokens.now) live.now ledger.old) }
-    ensures turn { OnOk result (turn.new ≡ told (told_all kept live.now turn.old.acts) turn.old) }
+    ensures turn { OnOk result (turn.new ≡ reported (reported_all kept live.now turn.old.acts) turn.old) }
 {
     for row in live {
         cut_unless(turn, ledger, tokens, *row, kept)?;

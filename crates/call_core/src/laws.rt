@@ -26,8 +26,8 @@ ghost use Rattle.call_core.specs.declared.state.CallState.{CallState};
 ghost use Rattle.call_core.specs.Numbering.{IsNumbered, attempts_in};
 ghost use Rattle.call_core.specs.Parts.{count_of, find_live, followed_attempts, furthest, is_followed, is_refusal, judged};
 ghost use Rattle.call_core.specs.Laws.{IsForbidden, IsKept, IsMade, KeepsRefusal, NotDue, came, counts_end, full_of, hedged_end, licensed_retry, settled_by, waiting};
-ghost use Rattle.call_core.specs.Rows.{AreCut, HasToldEnd, IsApart, IsTied, KeepsRows};
-ghost use Rattle.call_core.specs.Steps.{Stepped, can_take, closed_by, committed, configured, ended_as, ended_at, full_with, heard_head, heard_message, heard_too_large, is_committed_live, lent, made_due, new_call, pick_failed, placed_at, heard_news, sent, take_reply, taken, timed_out};
+ghost use Rattle.call_core.specs.Rows.{RowsAreCut, HasReportedEnd, IsApart, IsTied, KeepsRows};
+ghost use Rattle.call_core.specs.Steps.{Stepped, can_take, closed_by, committed, configured, ended_as, ended_at, full_with, received_head, received_message, received_too_large, is_committed_live, lent, made_due, new_call, pick_failed, placed_at, received_news, sent, take_reply, taken, timed_out};
 
 /// A law for proofs: what a call does in an entry writes stamps of this entry alone, each once. The call does nothing.
 pub fn calls_write_their_entry()
@@ -37,7 +37,7 @@ pub fn calls_write_their_entry()
     ensures timed_out { (moment : ℕ) (s : Stepped) → Later s.ledger.entry s.ledger (timed_out moment s).ledger }
     ensures placed { (row : ℕ) (at : Placed) (s : Stepped) → at.entry ≡ s.ledger.entry → Later s.ledger.entry s.ledger (placed_at row at s).ledger }
     ensures failed { (row moment word : ℕ) (s : Stepped) → Later s.ledger.entry s.ledger (pick_failed row moment word s).ledger }
-    ensures heard { (row : ℕ) (told : News) (moment word : ℕ) (s : Stepped) → Later s.ledger.entry s.ledger (heard_news row told moment word s).ledger }
+    ensures handled { (row : ℕ) (reported : News) (moment word : ℕ) (s : Stepped) → Later s.ledger.entry s.ledger (received_news row reported moment word s).ledger }
     ensures made { (moment : ℕ) (s : Stepped) → Later s.ledger.entry s.ledger (made_due moment s).ledger }
 {}
 
@@ -50,7 +50,7 @@ pub fn calls_are_kept()
     ensures timed_out { (moment : ℕ) (s : Stepped) → IsKept s.call → IsKept (timed_out moment s).call }
     ensures placed { (row : ℕ) (at : Placed) (s : Stepped) → IsKept s.call → IsKept (placed_at row at s).call }
     ensures failed { (row moment word : ℕ) (s : Stepped) → IsKept s.call → IsKept (pick_failed row moment word s).call }
-    ensures heard { (row : ℕ) (told : News) (moment word : ℕ) (s : Stepped) → IsKept s.call → IsKept (heard_news row told moment word s).call }
+    ensures handled { (row : ℕ) (reported : News) (moment word : ℕ) (s : Stepped) → IsKept s.call → IsKept (received_news row reported moment word s).call }
     ensures made { (moment : ℕ) (s : Stepped) → IsKept s.call → IsKept (made_due moment s).call }
 {}
 
@@ -62,7 +62,7 @@ pub fn ended_calls_stay()
     ensures timed_out { (moment : ℕ) (s : Stepped) → is_some s.call.ended ≡ true → timed_out moment s ≡ s }
     ensures placed { (row : ℕ) (at : Placed) (s : Stepped) → IsKept s.call → is_some s.call.ended ≡ true → placed_at row at s ≡ s }
     ensures failed { (row moment word : ℕ) (s : Stepped) → IsKept s.call → is_some s.call.ended ≡ true → pick_failed row moment word s ≡ s }
-    ensures heard { (row : ℕ) (told : News) (moment word : ℕ) (s : Stepped) → IsKept s.call → is_some s.call.ended ≡ true → heard_news row told moment word s ≡ s }
+    ensures handled { (row : ℕ) (reported : News) (moment word : ℕ) (s : Stepped) → IsKept s.call → is_some s.call.ended ≡ true → received_news row reported moment word s ≡ s }
     ensures made { (moment : ℕ) (s : Stepped) → IsKept s.call → is_some s.call.ended ≡ true → made_due moment s ≡ s }
 {}
 
@@ -71,24 +71,24 @@ pub fn committed_calls_make_no_attempt()
     ensures { (moment : ℕ) (s : Stepped) → IsKept s.call → is_some s.call.attempts.committed ≡ true → made_due moment s ≡ s }
 {}
 
-/// A law for proofs: what came for the application is taken in order, and the end behind it; a take answers NotYet exactly where
+/// A law for proofs: what came for the application is taken in order, and the end after it; a take answers NotYet exactly where
 /// nothing waits. The call does nothing.
 pub fn items_are_taken_in_order()
     ensures taken { (ledger : Ledger) (call : CallState) → waiting ledger call ≡ items_in (take_reply ledger call) ++ waiting ledger (taken call) }
     ensures not_yet { (ledger : Ledger) (call : CallState) → can_take call ≡ false → take_reply ledger call ≡ reply.NotYet }
 {}
 
-/// A law for proofs: a message of the committed row comes behind what came before, and but for heads nothing else changes what came.
+/// A law for proofs: a message of the committed row comes after what came before, and but for heads nothing else changes what came.
 /// The call does nothing.
 pub fn messages_come_in_order()
-    ensures message { (row : ℕ) (octets : List ℕ) (call : CallState) → came (heard_message row octets call) ≡ came call ++ (if is_committed_live row call then reply.Message octets ∷ [] else []) }
+    ensures message { (row : ℕ) (octets : List ℕ) (call : CallState) → came (received_message row octets call) ≡ came call ++ (if is_committed_live row call then reply.Message octets ∷ [] else []) }
     ensures configured { (chosen : Chosen) (moment : ℕ) (s : Stepped) → (configured chosen moment s).call.inbox ≡ s.call.inbox }
     ensures sent { (message : List ℕ) (moment : ℕ) (s : Stepped) → (sent message moment s).call.inbox ≡ s.call.inbox }
     ensures closed { (why : EndCause) (moment : ℕ) (s : Stepped) → (closed_by why moment s).call.inbox ≡ s.call.inbox }
     ensures timed_out { (moment : ℕ) (s : Stepped) → (timed_out moment s).call.inbox ≡ s.call.inbox }
     ensures placed { (row : ℕ) (at : Placed) (s : Stepped) → (placed_at row at s).call.inbox ≡ s.call.inbox }
-    ensures ended { (row : ℕ) (told : EndNews) (moment word : ℕ) (s : Stepped) → (ended_at row told moment word s).call.inbox ≡ s.call.inbox }
-    ensures too_large { (row moment : ℕ) (s : Stepped) → (heard_too_large row moment s).call.inbox ≡ s.call.inbox }
+    ensures ended { (row : ℕ) (reported : EndNews) (moment word : ℕ) (s : Stepped) → (ended_at row reported moment word s).call.inbox ≡ s.call.inbox }
+    ensures too_large { (row moment : ℕ) (s : Stepped) → (received_too_large row moment s).call.inbox ≡ s.call.inbox }
     ensures made { (moment : ℕ) (s : Stepped) → (made_due moment s).call.inbox ≡ s.call.inbox }
 {}
 
@@ -103,7 +103,7 @@ pub fn attempts_are_numbered()
     ensures timed_out { (moment : ℕ) (s : Stepped) → IsNumbered s → IsNumbered (timed_out moment s) }
     ensures placed { (row : ℕ) (at : Placed) (s : Stepped) → at.entry ≡ s.ledger.entry → IsNumbered s → IsNumbered (placed_at row at s) }
     ensures failed { (row moment word : ℕ) (s : Stepped) → IsNumbered s → IsNumbered (pick_failed row moment word s) }
-    ensures heard { (row : ℕ) (told : News) (moment word : ℕ) (s : Stepped) → IsNumbered s → IsNumbered (heard_news row told moment word s) }
+    ensures handled { (row : ℕ) (reported : News) (moment word : ℕ) (s : Stepped) → IsNumbered s → IsNumbered (received_news row reported moment word s) }
     ensures made { (moment : ℕ) (s : Stepped) → IsNumbered s → IsNumbered (made_due moment s) }
 {}
 
@@ -124,7 +124,7 @@ pub fn hedges_follow_their_policy()
 {}
 
 /// A law for proofs: a message finds no room exactly where `full_of` says so. The call does nothing.
-pub fn full_tells_what_is_held()
+pub fn full_reports_what_is_held()
     ensures { (len : ℕ) (call : CallState) → full_with len call ≡ full_of (is_some call.attempts.committed) (is_some (furthest call.buffer call.live)) (held call.buffer) (5 + len) }
 {}
 
@@ -136,16 +136,16 @@ pub fn refusals_are_followed_once()
     ensures configured { (chosen : Chosen) (moment : ℕ) (s : Stepped) → most_attempts chosen.plan ≤ 4294967295 → KeepsRefusal s (configured chosen moment s) }
     ensures sent { (message : List ℕ) (moment : ℕ) (s : Stepped) → KeepsRefusal s (sent message moment s) }
     ensures placed { (row : ℕ) (at : Placed) (s : Stepped) → at.entry ≡ s.ledger.entry → KeepsRefusal s (placed_at row at s) }
-    ensures heard { (row : ℕ) (told : News) (moment word : ℕ) (s : Stepped) → KeepsRefusal s (heard_news row told moment word s) }
+    ensures handled { (row : ℕ) (reported : News) (moment word : ℕ) (s : Stepped) → KeepsRefusal s (received_news row reported moment word s) }
     ensures failed { (row moment word : ℕ) (s : Stepped) → KeepsRefusal s (pick_failed row moment word s) }
     ensures made { (moment : ℕ) (s : Stepped) → KeepsRefusal s (made_due moment s) }
 {}
 
 /// A law for proofs: an end that counts settles the tokens, and no other news does. The call does nothing.
 pub fn tokens_count_ends()
-    ensures ended { (row : ℕ) (told : EndNews) (moment word : ℕ) (s : Stepped) → (ended_at row told moment word s).tokens ≡ (if counts_end row told s.call then settled_by told s.call s.tokens else s.tokens) }
-    ensures head { (row : ℕ) (meta : List Field) (moment : ℕ) (s : Stepped) → (heard_head row meta moment s).tokens ≡ s.tokens }
-    ensures too_large { (row moment : ℕ) (s : Stepped) → (heard_too_large row moment s).tokens ≡ s.tokens }
+    ensures ended { (row : ℕ) (reported : EndNews) (moment word : ℕ) (s : Stepped) → (ended_at row reported moment word s).tokens ≡ (if counts_end row reported s.call then settled_by reported s.call s.tokens else s.tokens) }
+    ensures head { (row : ℕ) (meta : List Field) (moment : ℕ) (s : Stepped) → (received_head row meta moment s).tokens ≡ s.tokens }
+    ensures too_large { (row moment : ℕ) (s : Stepped) → (received_too_large row moment s).tokens ≡ s.tokens }
 {}
 
 /// A law for proofs: each live row of a call stands in the ledger at a place of its own, hasn't ended there, and was placed exactly
@@ -159,18 +159,18 @@ pub fn live_rows_stand()
     ensures timed_out { (moment : ℕ) (s : Stepped) → IsApart s → IsApart (timed_out moment s) }
     ensures placed { (row : ℕ) (at : Placed) (s : Stepped) → at.entry ≡ s.ledger.entry → IsApart s → IsApart (placed_at row at s) }
     ensures failed { (row moment word : ℕ) (s : Stepped) → IsApart s → IsApart (pick_failed row moment word s) }
-    ensures heard { (row : ℕ) (told : News) (moment word : ℕ) (s : Stepped) → IsApart s → IsApart (heard_news row told moment word s) }
+    ensures handled { (row : ℕ) (reported : News) (moment word : ℕ) (s : Stepped) → IsApart s → IsApart (received_news row reported moment word s) }
     ensures made { (moment : ℕ) (s : Stepped) → IsApart s → IsApart (made_due moment s) }
 {}
 
-/// A law for proofs: a live row whose end is told has that end in the ledger, in the entry in which it was told. The call does
+/// A law for proofs: a live row whose end is reported has that end in the ledger, in the entry in which it was reported. The call does
 /// nothing.
-pub fn ended_rows_are_told()
-    ensures { (row : ℕ) (live : LiveRow) (told : EndNews) (moment word : ℕ) (s : Stepped) → IsTied s → find_live row s.call.live ≡ Some live → HasToldEnd told s.ledger.entry moment (ended_at row told moment word s).ledger.rows live.place }
+pub fn ended_rows_are_reported()
+    ensures { (row : ℕ) (live : LiveRow) (reported : EndNews) (moment word : ℕ) (s : Stepped) → IsTied s → find_live row s.call.live ≡ Some live → HasReportedEnd reported s.ledger.entry moment (ended_at row reported moment word s).ledger.rows live.place }
 {}
 
 /// A law for proofs: a commitment and the end of a call cut every other outstanding row in their entry. The call does nothing.
 pub fn other_rows_are_cut()
-    ensures committed { (place moment : ℕ) (s : Stepped) → IsApart s → AreCut (Some place) s.ledger.entry moment (count_of s.tokens) s.ledger.links (committed place moment s).ledger.rows s.call.live }
-    ensures ended { (why : EndCause) (moment : ℕ) (s : Stepped) → IsApart s → AreCut None s.ledger.entry moment (count_of s.tokens) s.ledger.links (ended_as why moment s).ledger.rows s.call.live }
+    ensures committed { (place moment : ℕ) (s : Stepped) → IsApart s → RowsAreCut (Some place) s.ledger.entry moment (count_of s.tokens) s.ledger.links (committed place moment s).ledger.rows s.call.live }
+    ensures ended { (why : EndCause) (moment : ℕ) (s : Stepped) → IsApart s → RowsAreCut None s.ledger.entry moment (count_of s.tokens) s.ledger.links (ended_as why moment s).ledger.rows s.call.live }
 {}

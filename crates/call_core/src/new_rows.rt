@@ -69,7 +69,7 @@ pub fn own_end(alloc: Global, code: Code, cause: RowCause, seen: u64) -> EndNews
 }
 
 impl CallState {
-    /// Makes a row, which joins the queue, and tells its place.
+    /// Makes a row, which joins the queue, and reports its place.
     pub fn add(
         &mut self,
         turn: &mut Turn,

@@ -17,7 +17,7 @@ use grpc_base::{EndCause, NoMemory, Octets, Refusal, Reply};
 use grpc_frame::frame_message;
 use std::alloc::Global;
 
-/// The bytes in front of a message.
+/// The bytes before a message.
 const PREFIX: usize = 5;
 
 /// The bytes of the longest framed message.
@@ -39,7 +39,7 @@ fn has_room(is_committed: bool, has_outstanding: bool, held: u32, len: usize) ->
     has_outstanding || (len <= UNCOMMITTED && len + PREFIX + held as usize <= UNCOMMITTED)
 }
 
-/// Begins a row, in front of the first message, and commits the messages to it where its call is.
+/// Begins a row, before the first message, and commits the messages to it where its call is.
 pub fn open_row(buffer: &mut Buffer, row: u64, is_committed: bool) -> Result<(), NoMemory>
     ensures { OnOk result (buffer.new ≡ begun_row row is_committed buffer.old) }
 {
@@ -61,7 +61,7 @@ pub fn commit_buffer(buffer: &mut Buffer, row: u64)
     }
 }
 
-/// Appends a framed message, if there is room, and tells whether the messages overflowed.
+/// Appends a framed message, if there is room, and reports whether the messages overflowed.
 fn push_framed(
     buffer: &mut Buffer,
     framed: Octets,

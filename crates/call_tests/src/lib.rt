@@ -2,9 +2,9 @@
 #![tactic(auto)]
 
 #[cfg(test)]
-mod desk;
-#[cfg(test)]
 mod ends;
+#[cfg(test)]
+mod fixture;
 #[cfg(test)]
 mod hedging;
 #[cfg(test)]
@@ -12,10 +12,10 @@ mod news;
 #[cfg(test)]
 mod plans;
 #[cfg(test)]
+mod reported;
+#[cfg(test)]
 mod retries;
 #[cfg(test)]
 mod sending;
 #[cfg(test)]
 mod tables;
-#[cfg(test)]
-mod told;

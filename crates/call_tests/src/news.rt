@@ -1,11 +1,11 @@
-// What links tell of rows.
-use crate::desk::{number, of_len};
+// What links report of rows.
+use crate::fixture::{number, of_len};
 use attempt_ledger::{EndNews, News, RowCause};
 use grpc_base::{Code, Metadata, Pushback, Text};
 use std::alloc::Global;
 use std::test::Fail;
 
-/// What the server asks for, as a word behind a status: nothing, `stop`, or milliseconds.
+/// What the server asks for, as a word after a status: nothing, `stop`, or milliseconds.
 fn pushback_of(words: &[&str]) -> Result<Pushback, Fail> {
     match words.get(4) {
         None => Ok(Pushback::None),

@@ -1,5 +1,5 @@
 // The configurations of the tables.
-use crate::desk::number;
+use crate::fixture::number;
 use grpc_base::{
     CallPlan, Chosen, Code, CodeSet, Duration, HedgePolicy, MessageLimit, RetryPolicy, Throttle,
 };

@@ -1,4 +1,4 @@
-// What a call sends. Each message stands behind a prefix of five bytes.
+// What a call sends. Each message stands after a prefix of five bytes.
 use crate::tables::first_wrong;
 use std::test::Fail;
 

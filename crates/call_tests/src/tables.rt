@@ -1,9 +1,9 @@
-// Tables of steps. A line is a moment in nanoseconds, a step and, behind ` = `, what the call replied and asked for and, behind
+// Tables of steps. A line is a moment in nanoseconds, a step and, after ` = `, what the call replied and asked for and, after
 // ` / `, how it stands then. Done again, a table is written down as the same lines. A line that begins with `#` begins anew,
 // under a plan.
-use crate::desk::Desk;
+use crate::fixture::Fixture;
 use crate::plans::chosen_of;
-use crate::told::tell_state;
+use crate::reported::report_state;
 use attempt_ledger::{Row, RowEnd, check_rows};
 use grpc_base::NoMemory;
 use std::alloc::Global;
@@ -54,19 +54,19 @@ fn copy_row(row: &Row) -> Result<Row, NoMemory> {
 }
 
 /// Whether the rows of a call keep the laws of attempts.
-fn keeps_laws(desk: &Desk, call: u64) -> Result<bool, Fail> {
-    let mut rows = Vec::new(desk.alloc);
-    for row in desk.ledger.rows.as_slice() {
+fn keeps_laws(fixture: &Fixture, call: u64) -> Result<bool, Fail> {
+    let mut rows = Vec::new(fixture.alloc);
+    for row in fixture.ledger.rows.as_slice() {
         if u64::from(row.call) == call {
             rows.push(copy_row(row)?)?;
         }
     }
-    Ok(check_rows(&desk.chosen, rows.as_slice()).is_ok())
+    Ok(check_rows(&fixture.chosen, rows.as_slice()).is_ok())
 }
 
-fn keep_laws(desk: &Desk) -> Result<bool, Fail> {
-    for place in 0..desk.calls.len() as u64 {
-        if !keeps_laws(desk, place + 1)? {
+fn keep_laws(fixture: &Fixture) -> Result<bool, Fail> {
+    for place in 0..fixture.calls.len() as u64 {
+        if !keeps_laws(fixture, place + 1)? {
             return Ok(false);
         }
     }
@@ -74,27 +74,27 @@ fn keep_laws(desk: &Desk) -> Result<bool, Fail> {
 }
 
 /// The line that comes of a step.
-fn line_of(desk: &mut Desk, line: &str) -> Result<String, Fail> {
+fn line_of(fixture: &mut Fixture, line: &str) -> Result<String, Fail> {
     let (step, _) = line.split_once(" = ").ok_or("a line without a reply")?;
-    let words = words_of(desk.alloc, step)?;
-    let told = desk.act(words.as_slice())?;
-    if !keep_laws(desk)? {
-        return Ok(format!(in desk.alloc; "{step} breaks a law of attempts")?);
+    let words = words_of(fixture.alloc, step)?;
+    let reported = fixture.act(words.as_slice())?;
+    if !keep_laws(fixture)? {
+        return Ok(format!(in fixture.alloc; "{step} breaks a law of attempts")?);
     }
-    let state = tell_state(desk)?;
-    Ok(format!(in desk.alloc; "{step} = {told} / {state}")?)
+    let state = report_state(fixture)?;
+    Ok(format!(in fixture.alloc; "{step} = {told} / {state}")?)
 }
 
 /// The first line of a table that is not written down as it stands, with what is written down in its place; empty where there
 /// is none.
 pub fn first_wrong(alloc: Global, table: &str) -> Result<String, Fail> {
-    let mut desk = Desk::new(alloc, chosen_of(&["#", "none"])?)?;
+    let mut fixture = Fixture::new(alloc, chosen_of(&["#", "none"])?)?;
     for line in table.lines() {
         if line.starts_with("#") {
             let words = words_of(alloc, line)?;
-            desk = Desk::new(alloc, chosen_of(words.as_slice())?)?;
+            fixture = Fixture::new(alloc, chosen_of(words.as_slice())?)?;
         } else {
-            let made = line_of(&mut desk, line)?;
+            let made = line_of(&mut fixture, line)?;
             if made.as_str() != line {
                 return Ok(made);
             }

@@ -1,9 +1,9 @@
 -- An event that is answered by one action, which leaves all as it is but for the entry.
 use Rattle.std.proofs.Common.{◌≡◌, ◌&&◌, ◌∷◌, ap, refl, subst, sym, ◌∙◌, Bool, true, false, [], Option, None, Some, ℕ, if◌then◌else◌}
 use Rattle.std.specs.Option.{option_and_then}
-use Rattle.channel_actions.proofs.Settles.{IsQuiet, calm_stays, follows_by, is_with_open, reopened, restaged, with_open}
+use Rattle.channel_actions.proofs.Settles.{IsQuiet, quiescent_stays, follows_by, is_with_open, reopened, restaged, with_open}
 use Rattle.channel_actions.specs.Agrees.{Agrees}
-use Rattle.channel_actions.specs.Calm.{IsAt, IsCalm}
+use Rattle.channel_actions.specs.Quiescent.{IsAt, IsQuiescent}
 use Rattle.channel_actions.specs.Stages.{IsAnswered}
 use Rattle.channel_core.specs.States.{StateSeen}
 use Rattle.grpc_base.specs.declared.event.Event.{Event}
@@ -34,7 +34,7 @@ module _ (o : OpenEntry) (s : Seen) (at : IsAt stage.Event o s) (timely : next_d
   pub event_next : following s ≡ Some a
   event_next =
       ap (option_and_then (following_in s)) at.current
-      ∙ follows_by (of_calls o s) (of_links o s) (of_policies o s) (of_stage o s o.stage) a at.calm.calls at.calm.links at.calm.policies stage_gives
+      ∙ follows_by (of_calls o s) (of_links o s) (of_policies o s) (of_stage o s o.stage) a at.quiescent.calls at.quiescent.links at.quiescent.policies stage_gives
 
 abbrev pub replied_entry : Reply → OpenEntry → OpenEntry
 replied_entry r o = restaged stage.Replied (Some r) o
@@ -59,7 +59,7 @@ module _ (x : StateSeen) (r : Reply) (o : OpenEntry) (s : Seen) (h : Agrees x s)
       at = record {
         current = refl;
         stage_is = refl;
-        calm = calm_stays stage.Replied (Some r) o s quiet (subst (IsCalm o) (is_with_open o s at.current) at.calm);
+        quiescent = quiescent_stays stage.Replied (Some r) o s quiet (subst (IsQuiescent o) (is_with_open o s at.current) at.quiescent);
       };
       agrees = reopened x o (replied_entry r o) s refl refl refl (subst (Agrees x) (is_with_open o s at.current) h);
     };

@@ -10,14 +10,14 @@ use Rattle.channel_actions.proofs.Opening.{noted_is, stamp}
 use Rattle.channel_actions.proofs.Relinked.{agrees_relinked, owed_relinked, reader_relinked, streams_relinked}
 use Rattle.channel_actions.proofs.Stamps.{all_mapped, counted_at, map_same, map_same_some, numbered_map, stamp_form, stamp_keeps, stamp_twice}
 use Rattle.channel_actions.specs.Agrees.{Agrees}
-use Rattle.channel_actions.specs.Calm.{AreCalm, IsAt}
+use Rattle.channel_actions.specs.Quiescent.{EntriesAreQuiescent, IsAt}
 use Rattle.channel_actions.specs.Columns.{links_noted}
 use Rattle.channel_actions.proofs.KeptSessions.Beside.{kept_moved}
-use Rattle.channel_actions.specs.KeptSessions.Kept.{AreCounted}
+use Rattle.channel_actions.specs.KeptSessions.Kept.{NumbersCountUp}
 use Rattle.channel_actions.specs.Links.{HasLink, lines_in}
-use Rattle.channel_actions.specs.Points.{Rests}
+use Rattle.channel_actions.specs.Points.{AtRest}
 use Rattle.channel_actions.specs.Readers.{attempt_on}
-use Rattle.channel_actions.specs.Stages.{Closings, ClosingsAreCalm}
+use Rattle.channel_actions.specs.Stages.{Closings, ClosingsAreQuiescent}
 use Rattle.channel_core.specs.States.{StateSeen}
 use Rattle.grpc_base.specs.declared.event.Entry.{Entry}
 use Rattle.grpc_link.specs.Links.{reader_in}
@@ -124,7 +124,7 @@ module _ (x : StateSeen) (s : Seen) (h : Agrees x s) where
   agrees_noted =
       agrees_relinked s ls g w is x x.links h reads_kept
       (record { count = length-map s.links (noted_gone s) ∙ h.links.count; each = λ n l e. link_by n l (numbered s.links n) refl (sym (is n) ∙ e) })
-      (noted_is t (twice (entry s)) ∙ as_seen ∙ h.columns.links) (subst (AreCounted 1) (sym numbers_noted) h.kept.links) (dialled_noted ∙ h.kept.dialled) (queued_noted ∙ h.kept.queued)
+      (noted_is t (twice (entry s)) ∙ as_seen ∙ h.columns.links) (subst (NumbersCountUp 1) (sym numbers_noted) h.kept.links) (dialled_noted ∙ h.kept.dialled) (queued_noted ∙ h.kept.queued)
 
 -- and the entry is made
 module _ (x : StateSeen) (o : OpenEntry) (s : Seen) (h : Agrees x s) (at : IsAt stage.Settling o s) where
@@ -145,8 +145,8 @@ module _ (x : StateSeen) (o : OpenEntry) (s : Seen) (h : Agrees x s) (at : IsAt 
       ap (λ (z : Option Entry). option_map_or (λ (m : Entry). m.moment) z 0) (last_snoc s.entries (made_entry o s))
       ∙ sym (ap (λ (c : Option OpenEntry). option_map_or (λ (z : OpenEntry). z.moment) c (last_moment s)) at.current)
 
-  pub closes : AreCalm (entry_made o s) → Rests x (entry_made o s)
-  closes calm = record {
+  pub closes : EntriesAreQuiescent (entry_made o s) → AtRest x (entry_made o s)
+  closes quiescent = record {
     between = refl;
     agrees =
         agrees_moved (t x s h) made None s.answered s.wants x (agrees_noted x s h) x.book.ledger.entry x.book.moment x.word x.drawn x.resolver x.unconfigured
@@ -155,8 +155,8 @@ module _ (x : StateSeen) (o : OpenEntry) (s : Seen) (h : Agrees x s) (at : IsAt 
         (noted_is (entry_made o s) (twice x s h (length made + 0)) ∙ as_seen x s h ∙ h.columns.links)
         (kept_moved (t x s h) made None s.answered s.wants entry_same (agrees_noted x s h).kept);
     noted = twice x s h (length made + 0);
-    calm = calm;
+    quiescent = quiescent;
   }
 
-pub closings : ClosingsAreCalm → Closings
-closings calm x o s h at none = closes x o s h at (calm o s at h.kept)
+pub closings : ClosingsAreQuiescent → Closings
+closings quiescent x o s h at none = closes x o s h at (quiescent o s at h.kept)

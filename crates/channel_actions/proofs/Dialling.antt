@@ -2,9 +2,9 @@
 use Rattle.std.proofs.Common.{◌≡◌, ◌+◌, ◌||◌, ◌∷◌, inl, inr, ap, refl, subst, sym, ◌∙◌, Bool, true, false, List, [], Option, None, Some, ℕ, zero, suc, if◌then◌else◌, not, is_none, is_some, slice_get}
 use Rattle.channel_actions.proofs.Answering.{IsPlain, answered_so, event_next, plain_frame, plain_quiet, refused_so, replied_entry, replied_is}
 use Rattle.channel_actions.proofs.Moved.{agrees_moved}
-use Rattle.channel_actions.proofs.Settles.{calm_answered, calm_stays, is_with_open, with_open}
+use Rattle.channel_actions.proofs.Settles.{quiescent_answered, quiescent_stays, is_with_open, with_open}
 use Rattle.channel_actions.specs.Agrees.{Agrees}
-use Rattle.channel_actions.specs.Calm.{IsAt, IsCalm}
+use Rattle.channel_actions.specs.Quiescent.{IsAt, IsQuiescent}
 use Rattle.channel_actions.specs.Cases.{IsNoDial, IsRefusedDial, IsUnresolved}
 use Rattle.channel_actions.specs.Stages.{EventsAnswered, IsAnswered}
 use Rattle.channel_core.specs.Applying as channel
@@ -25,7 +25,7 @@ use Rattle.grpc_base.specs.declared.event.Reply.TheVariants as reply
 use Rattle.channel_actions.proofs.KeptSessions.Beside.{kept_moved}
 use Rattle.net_actions.proofs.Dialling.{dialling_same}
 use Rattle.net_actions.specs.Laws.{NoneToDial}
-use Rattle.net_actions.specs.Sees.{AreSubs}
+use Rattle.net_actions.specs.Sees.{SubchannelsAgree}
 use Rattle.service_config.specs.declared.config.Config.{Config}
 use Rattle.session_actions.specs.Actions.{after, after_if}
 use Rattle.session_actions.specs.CallEnds.{next_deadline}
@@ -86,7 +86,7 @@ no_dials none_to_dial x y r o s h at fresh timely case answers =
     (ap (λ (a : Action). Some a) (none_to_dial s x.net h.net case.none))) plain.0 plain.1
 
 -- a dial that is not under way is refused for the same reason
-dial_from : (n i : ℕ) (subs : List Subchannel) (board : List SubRecord) (links : List OwnLink) → AreSubs n subs board links
+dial_from : (n i : ℕ) (subs : List Subchannel) (board : List SubRecord) (links : List OwnLink) → SubchannelsAgree n subs board links
     → net.dial_refusal (slice_get board i) ≡ dial_refusal (slice_get subs i)
 dial_from n i [] [] links h = refl
 dial_from n zero (b ∷ subs) (r ∷ board) links h = dial_by (is_dialing r) (is_dialling b) (dialling_same b r n (link_of links n) h.0)
@@ -94,7 +94,7 @@ dial_from n (suc i) (b ∷ subs) (r ∷ board) links h = dial_from (n + 1) i sub
 dial_from n i [] (r ∷ board) links h = absurd h
 dial_from n i (b ∷ subs) [] links h = absurd h
 
-pub dial_same : (number : ℕ) (subs : List Subchannel) (board : List SubRecord) (links : List OwnLink) → AreSubs 1 subs board links
+pub dial_same : (number : ℕ) (subs : List Subchannel) (board : List SubRecord) (links : List OwnLink) → SubchannelsAgree 1 subs board links
     → net.dial_refusal (boards.numbered board number) ≡ dial_refusal (numbered subs number)
 dial_same zero subs board links h = refl
 dial_same (suc i) subs board links h = dial_from 1 i subs board links h
@@ -156,8 +156,8 @@ module _ (x y : StateSeen) (r : Reply) (o : OpenEntry) (s : Seen) (h : Agrees x 
   does_so : after action.ResolutionFailed s ≡ with_open p t
   does_so = ap (λ (c : Option OpenEntry). after_if c action.ResolutionFailed s) at.current ∙ replied_is reply.Done o t at.current
 
-  calm_open : IsCalm o (with_open o s)
-  calm_open = subst (IsCalm o) (is_with_open o s at.current) at.calm
+  quiescent_open : IsQuiescent o (with_open o s)
+  quiescent_open = subst (IsQuiescent o) (is_with_open o s at.current) at.quiescent
 
   agrees_open : Agrees x (with_open o s)
   agrees_open = subst (Agrees x) (is_with_open o s at.current) h
@@ -186,8 +186,8 @@ module _ (x y : StateSeen) (r : Reply) (o : OpenEntry) (s : Seen) (h : Agrees x 
       at = record {
         current = refl;
         stage_is = refl;
-        calm = calm_stays stage.Replied (Some reply.Done) o t (plain_quiet reply.Done o event.ResolveFailed case.event_is is_plain)
-            (calm_answered o s true false calm_open);
+        quiescent = quiescent_stays stage.Replied (Some reply.Done) o t (plain_quiet reply.Done o event.ResolveFailed case.event_is is_plain)
+            (quiescent_answered o s true false quiescent_open);
       };
       agrees = agrees_now;
     };

@@ -8,30 +8,30 @@ use Rattle.channel_actions.proofs.Settles.{Settles, begins}
 use Rattle.channel_actions.proofs.States.{states_agree}
 use Rattle.channel_actions.specs.Agrees.{Agrees}
 use Rattle.channel_actions.proofs.Calls.Few.Reached.{reached_on}
-use Rattle.channel_actions.proofs.Links.Greeted.Along.{greeted_along}
+use Rattle.channel_actions.proofs.Links.Prefaced.Along.{prefaced_along}
 use Rattle.channel_actions.proofs.Streams.Own.Along.{streams_along}
 use Rattle.channel_actions.proofs.Links.Theirs.Kept.{theirs_along}
 use Rattle.channel_actions.specs.FewCalls.Reached.{IsReached}
 use Rattle.channel_actions.specs.GoingCalls.Going.{CallsGoOn}
-use Rattle.channel_actions.specs.GreetedLinks.Greeted.{AreGreeted}
+use Rattle.channel_actions.specs.PrefacedLinks.Prefaced.{LinksArePrefaced}
 use Rattle.channel_actions.specs.KeptCalls.Early.{IsEarlyKept}
 use Rattle.channel_actions.specs.KeptCalls.Laws.{EarlyAlong}
 use Rattle.channel_actions.specs.KeptSessions.Kept.{IsKept}
 use Rattle.channel_actions.specs.Known.{IsKnown}
 use Rattle.channel_actions.specs.OwnLinks.Laws.{OwnAlong}
-use Rattle.channel_actions.specs.OwnLinks.Own.{AreOwnLinks}
-use Rattle.channel_actions.specs.OwnStreams.Own.{AreOwnStreams}
+use Rattle.channel_actions.specs.OwnLinks.Own.{LinksAreOwn}
+use Rattle.channel_actions.specs.OwnStreams.Own.{StreamsAreOwn}
 use Rattle.channel_actions.specs.SoundBuffers.Held.{BuffersAreSound}
-use Rattle.channel_actions.specs.SoundCalls.Sound.{AreSoundCalls}
+use Rattle.channel_actions.specs.SoundCalls.Sound.{CallsAreSound}
 use Rattle.channel_actions.proofs.HeldTexts.Fits.{deadlines_keep_texts, settlings_keep_texts, texts_on}
 use Rattle.channel_actions.proofs.HeldTexts.Sends.{answers_keep_texts}
 use Rattle.channel_actions.proofs.HeldTexts.Trims.{trimmed_same}
 use Rattle.channel_actions.proofs.Posted.{none_posted, posted_after}
 use Rattle.channel_actions.specs.HeldTexts.Fits.{TextsFit}
-use Rattle.channel_actions.specs.Points.{IsSameEntry, Rests}
-use Rattle.channel_actions.specs.Posted.{ArePosted, IsPosted}
+use Rattle.channel_actions.specs.Points.{IsSameEntry, AtRest}
+use Rattle.channel_actions.specs.Posted.{EventsArePosted, IsPosted}
 use Rattle.channel_actions.specs.Stages.{Closings, Deadlines, Events, IsAnswered, IsSettled, IsTimely, Openings, Settlings}
-use Rattle.channel_actions.specs.TheirLinks.Theirs.{AreTheirs}
+use Rattle.channel_actions.specs.TheirLinks.Theirs.{LinksAreTheirs}
 use Rattle.channel_core.specs.Applying.{AnswersBy, Stepped, begun_at, conn_of, refusal_of}
 use Rattle.channel_core.specs.Settling.{settled}
 use Rattle.channel_core.specs.States.{StateSeen}
@@ -64,19 +64,19 @@ entry_as moment word e r state = record { moment = moment; word = word; event = 
 -- what each step of a channel keeps, of it alone
 pub record KeepsOn (x : StateSeen) : Type 0 where
   pub going : CallsGoOn x
-  pub calls : AreSoundCalls x
+  pub calls : CallsAreSound x
   pub buffers : BuffersAreSound x
 
 -- what is known between two entries, but that the journal is below its limit
 pub record IsCarried (x : StateSeen) (s : Seen) : Type 0 where
   pub keeps : KeepsOn x
   pub early : IsEarlyKept s
-  pub own : AreOwnLinks s
-  pub theirs : AreTheirs s
-  pub greeted : AreGreeted s
-  pub streams : AreOwnStreams s
+  pub own : LinksAreOwn s
+  pub theirs : LinksAreTheirs s
+  pub prefaced : LinksArePrefaced s
+  pub streams : StreamsAreOwn s
   pub reached : IsReached s
-  pub posted : ArePosted (posted_in reached.actions)
+  pub posted : EventsArePosted (posted_in reached.actions)
   pub first : has_kind (kinds_in reached.setup.policies) kind.PickFirst ≡ true
   pub texts : TextsFit x s
 
@@ -88,13 +88,13 @@ pub record Carrying : Type 0 where
   pub early : EarlyAlong
   pub own : OwnAlong
 
--- the session goes on to the point behind an entry
+-- the session goes on to the point after an entry
 pub record Enters (y : StateSeen) (s : Seen) (e : Stamped) (r : Reply) : Type 0 where
   pub actions : List Action
   pub seen : Seen
   pub does : Does actions s seen
   pub posted : posted_in actions ≡ e ∷ []
-  pub rests : Rests y seen
+  pub rests : AtRest y seen
   pub kept_on : IsCarried y seen
   pub journal : seen.entries ≡ s.entries ++ entry_as (max e.moment (last_moment s)) e.word e.event r (conn_of y) ∷ []
   pub setup : seen.setup ≡ s.setup
@@ -109,7 +109,7 @@ same_on o s p t q u a b = record {
 }
 
 module _ (states : StatesAreSame) (openings : Openings) (deadlines : Deadlines) (events : Events) (settlings : Settlings) (closings : Closings)
-    (carrying : Carrying) (x y : StateSeen) (s : Seen) (e : Stamped) (r : Reply) (h : Rests x s) (c : IsCarried x s) (room : has_room e.event s ≡ true)
+    (carrying : Carrying) (x y : StateSeen) (s : Seen) (e : Stamped) (r : Reply) (h : AtRest x s) (c : IsCarried x s) (room : has_room e.event s ≡ true)
     (step : Stepped (length s.entries + 1) (max e.moment (last_moment s)) e.word e.event x y r) (allowed : IsPosted e.event) where
   abbrev begun : StateSeen
   begun = begun_at (length s.entries + 1) (max (last_moment s) e.moment) e.word x
@@ -130,14 +130,14 @@ module _ (states : StatesAreSame) (openings : Openings) (deadlines : Deadlines) 
   agrees_first = openings x s e.moment e.word e.event h
 
   -- what is carried, after actions from a session that is kept
-  carried_on : (actions : List Action) (w z : StateSeen) (t u : Seen) → IsKept t → IsCarried w t → Does actions t u → ArePosted (posted_in actions) → KeepsOn z → TextsFit z u → IsCarried z u
+  carried_on : (actions : List Action) (w z : StateSeen) (t u : Seen) → IsKept t → IsCarried w t → Does actions t u → EventsArePosted (posted_in actions) → KeepsOn z → TextsFit z u → IsCarried z u
   carried_on actions w z t u kept k does posts keeps texts = record {
     keeps = keeps;
     early = carrying.early actions t u kept k.early does;
     own = carrying.own actions t u kept k.own does;
-    theirs = theirs_along actions t u kept k.early k.greeted k.theirs does;
-    greeted = greeted_along actions t u kept k.greeted does;
-    streams = streams_along actions t u kept k.greeted k.streams does;
+    theirs = theirs_along actions t u kept k.early k.prefaced k.theirs does;
+    prefaced = prefaced_along actions t u kept k.prefaced does;
+    streams = streams_along actions t u kept k.prefaced k.streams does;
     reached = reached_on t u actions k.reached does;
     posted = posted_after k.reached.actions actions k.posted posts;
     first = k.first;
@@ -153,7 +153,7 @@ module _ (states : StatesAreSame) (openings : Openings) (deadlines : Deadlines) 
     early = k.early;
     own = k.own;
     theirs = k.theirs;
-    greeted = k.greeted;
+    prefaced = k.prefaced;
     streams = k.streams;
     reached = k.reached;
     few = ap (λ (l : List Entry). nat_lt (length l) 1048576) same ∙ (and_parts (nat_lt (length s.entries) 1048576) _ room).0;
@@ -173,7 +173,7 @@ module _ (states : StatesAreSame) (openings : Openings) (deadlines : Deadlines) 
 
   timely : IsTimely begun start first
   timely =
-      deadlines begun start first agrees_first (record { current = refl; stage_is = refl; calm = h.calm e.moment e.word e.event })
+      deadlines begun start first agrees_first (record { current = refl; stage_is = refl; quiescent = h.quiescent e.moment e.word e.event })
       (known_of begun first carried_first refl)
 
   carried_timely : IsCarried (overdue_ended begun) timely.reaches.seen
@@ -237,7 +237,7 @@ module _ (states : StatesAreSame) (openings : Openings) (deadlines : Deadlines) 
   agrees_last : Agrees y last_seen
   agrees_last = subst (λ (z : StateSeen). Agrees z last_seen) (sym step.settles) done.reaches.agrees
 
-  rests_last : Rests y (entry_made last_entry last_seen)
+  rests_last : AtRest y (entry_made last_entry last_seen)
   rests_last = closings y last_entry last_seen agrees_last done.reaches.at done.closes
 
   after_last : after action.EntryCloses last_seen ≡ entry_made last_entry last_seen

@@ -4,16 +4,16 @@ use Rattle.std.specs.Global.{Global}
 use Rattle.std.specs.Option.{option_or}
 use Rattle.channel_actions.specs.Agrees.{Agrees}
 use Rattle.channel_actions.specs.Calls.{deadline_of, due_of}
-use Rattle.channel_actions.specs.Calm.{AreCalm}
+use Rattle.channel_actions.specs.Quiescent.{EntriesAreQuiescent}
 use Rattle.channel_actions.specs.Laws.{NewChannelsAgree}
-use Rattle.channel_actions.specs.Points.{Rests}
-use Rattle.channel_actions.specs.Sets.{is_patient}
+use Rattle.channel_actions.specs.Points.{AtRest}
+use Rattle.channel_actions.specs.Sets.{is_ready_waiter}
 use Rattle.channel_core.specs.Applying.{new_state}
 use Rattle.channel_core.specs.States.{StateSeen}
 use Rattle.channel_actions.proofs.KeptSessions.Along.{kept_begins}
 use Rattle.lb_policy.specs.Table.{PolicySeen}
 use Rattle.net_actions.specs.Laws.{NewOnesAgree}
-use Rattle.net_actions.specs.Sees.{AreKinds}
+use Rattle.net_actions.specs.Sees.{KindsAgree}
 use Rattle.policy_rack.specs.Kinds.{are_ready}
 use Rattle.session_actions.specs.Attempts.{is_outstanding, is_queued}
 use Rattle.session_actions.specs.Calls.{is_open_call}
@@ -58,10 +58,10 @@ module _ (setup : Setup) (policies : List PolicySeen) (alloc : Global) where
   abbrev s : Seen
   s = new_session setup
 
-  calm : AreCalm s
-  calm posted word e = record { calls = refl; links = none_or_none (is_loss e); policies = refl }
+  quiescent : EntriesAreQuiescent s
+  quiescent posted word e = record { calls = refl; links = none_or_none (is_loss e); policies = refl }
 
-  pub new_agrees : NewOnesAgree → AreKinds setup.policies policies → are_ready policies ≡ true → Agrees x s
+  pub new_agrees : NewOnesAgree → KindsAgree setup.policies policies → are_ready policies ≡ true → Agrees x s
   new_agrees nets kinds ready = record {
     clock = record { entry_is = refl; moment = refl; draws = tt };
     columns = record { rows = refl; calls = refl; asks = refl; generations = refl; links = refl };
@@ -72,20 +72,20 @@ module _ (setup : Setup) (policies : List PolicySeen) (alloc : Global) where
     net = nets setup policies kinds;
     orderly = record { calls = []; policies = policies; ready = ready; is = refl };
     sets = record {
-      queue = record { rising = tt; exact = λ a b. nothing_by (λ (o : Option Attempt). holds (λ (q : Attempt). (q.row.call == a) && is_queued q s) o && not (is_patient s a)) refl b };
-      patient = record { rising = tt; exact = λ a b. nothing_by (λ (o : Option Attempt). holds (λ (q : Attempt). (q.row.call == a) && is_queued q s) o && is_patient s a) refl b };
+      queue = record { rising = tt; exact = λ a b. nothing_by (λ (o : Option Attempt). holds (λ (q : Attempt). (q.row.call == a) && is_queued q s) o && not (is_ready_waiter s a)) refl b };
+      ready_waiters = record { rising = tt; exact = λ a b. nothing_by (λ (o : Option Attempt). holds (λ (q : Attempt). (q.row.call == a) && is_queued q s) o && is_ready_waiter s a) refl b };
       dues = record { rising = tt; exact = λ a b. nothing_by (holds (λ (c : Call). is_number a (due_of s c))) refl b };
       deadlines = record { rising = tt; exact = λ a b. nothing_by (holds (λ (c : Call). is_number a (deadline_of s c))) refl b };
-      bare = record { rising = tt; exact = λ a b. and_never (a == 0) _ (sym (nothing_by (holds (λ (c : Call). is_open_call c && is_none c.config)) refl b)) };
-      impatient = record { rising = tt; exact = λ a b. and_less ((a == 0) && holds (λ (c : Call). is_open_call c && is_none c.config) (numbered [] b)) (not (is_patient s b)) (and_never (a == 0) _ (sym (nothing_by (holds (λ (c : Call). is_open_call c && is_none c.config)) refl b))) };
+      awaiting_config = record { rising = tt; exact = λ a b. and_never (a == 0) _ (sym (nothing_by (holds (λ (c : Call). is_open_call c && is_none c.config)) refl b)) };
+      fail_fast = record { rising = tt; exact = λ a b. and_less ((a == 0) && holds (λ (c : Call). is_open_call c && is_none c.config) (numbered [] b)) (not (is_ready_waiter s b)) (and_never (a == 0) _ (sym (nothing_by (holds (λ (c : Call). is_open_call c && is_none c.config)) refl b))) };
       outstanding = record { rising = tt; exact = λ a b. nothing_by (holds (λ (q : Attempt). is_outstanding q && (link_number q == a))) refl b };
       resets = refl;
     };
     kept = kept_begins setup;
   }
 
-  pub new_rests : NewOnesAgree → AreKinds setup.policies policies → are_ready policies ≡ true → Rests x s
-  new_rests nets kinds ready = record { between = refl; agrees = new_agrees nets kinds ready; noted = refl; calm = calm }
+  pub new_rests : NewOnesAgree → KindsAgree setup.policies policies → are_ready policies ≡ true → AtRest x s
+  new_rests nets kinds ready = record { between = refl; agrees = new_agrees nets kinds ready; noted = refl; quiescent = quiescent }
 
 pub new_channels_agree : NewOnesAgree → NewChannelsAgree
 new_channels_agree nets setup policies alloc kinds ready = new_rests setup policies alloc nets kinds ready

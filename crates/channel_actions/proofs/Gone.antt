@@ -9,7 +9,7 @@ use Rattle.channel_actions.proofs.Stamps.{counted_at, numbered_map, stamp_keeps}
 use Rattle.channel_actions.specs.Agrees.{Agrees}
 use Rattle.channel_actions.specs.Columns.{links_noted}
 use Rattle.channel_actions.specs.Links.{HasLink}
-use Rattle.channel_actions.specs.Sets.{AreExactly, is_in_outstanding}
+use Rattle.channel_actions.specs.Sets.{PairsAreExactly, is_in_outstanding}
 use Rattle.channel_core.specs.Books.{link_at}
 use Rattle.channel_core.specs.States.{StateSeen}
 use Rattle.channel_core.specs.Steps as channel
@@ -21,7 +21,7 @@ use Rattle.channel_net.specs.Lists.{state_at}
 use Rattle.channel_net.specs.declared.links.OwnLink.{OwnLink}
 use Rattle.grpc_base.specs.declared.event.Conn.{Conn}
 use Rattle.grpc_base.specs.declared.event.Conn.TheVariants as conn
-use Rattle.net_actions.specs.Sees.{AreSubs}
+use Rattle.net_actions.specs.Sees.{SubchannelsAgree}
 use Rattle.session_actions.specs.Closing.{noted_gone}
 use Rattle.session_actions.specs.Entries.{entry}
 use Rattle.session_actions.specs.Links.{is_retiring}
@@ -43,7 +43,7 @@ shut_same conn.Ready = refl
 shut_same conn.Failure = refl
 shut_same conn.Shutdown = refl
 
-subs_from : (n i : ℕ) (subs : List Subchannel) (board : List SubRecord) (links : List OwnLink) → AreSubs n subs board links → is_some (slice_get subs i) ≡ true
+subs_from : (n i : ℕ) (subs : List Subchannel) (board : List SubRecord) (links : List OwnLink) → SubchannelsAgree n subs board links → is_some (slice_get subs i) ≡ true
     → is_shut_state (option_map (λ (r : SubRecord). r.state) (slice_get board i)) ≡ holds (λ (b : Subchannel). is_shutdown b.state) (slice_get subs i)
 subs_from n i [] [] links h there = absurd (cc)
 subs_from n zero (b ∷ subs) (r ∷ board) links h there = shut_same r.state ∙ ap is_shutdown (sym h.0.state)
@@ -51,7 +51,7 @@ subs_from n (suc i) (b ∷ subs) (r ∷ board) links h there = subs_from (n + 1)
 subs_from n i [] (r ∷ board) links h there = absurd h
 subs_from n i (b ∷ subs) [] links h there = absurd h
 
-pub subs_at : (number : ℕ) (subs : List Subchannel) (board : List SubRecord) (links : List OwnLink) → AreSubs 1 subs board links → is_some (numbered subs number) ≡ true
+pub subs_at : (number : ℕ) (subs : List Subchannel) (board : List SubRecord) (links : List OwnLink) → SubchannelsAgree 1 subs board links → is_some (numbered subs number) ≡ true
     → is_shut_state (state_at board number) ≡ holds (λ (b : Subchannel). is_shutdown b.state) (numbered subs number)
 subs_at zero subs board links h there = absurd (cc)
 subs_at (suc i) subs board links h there = subs_from 1 i subs board links h there
@@ -68,7 +68,7 @@ all_numbered p xs (suc i) x e h = all_at p xs i x e h
 -- where these parts are the same
 module _ (x : StateSeen) (s : Seen) (number : ℕ) (l : Link) (own : l.number ≡ number) (slot : LinkSlot) (there : numbered x.links number ≡ Some slot)
     (over_is : is_some l.over ≡ slot.dead) (retiring_as : is_retiring l ≡ slot.retiring) (sub_same : sub_of (link_at x.book number) ≡ l.sub)
-    (subs_are : AreSubs 1 s.subs x.net.board x.net.links) (has_sub : is_some (numbered s.subs l.sub) ≡ true) (out : AreExactly x.outstanding (is_in_outstanding s)) where
+    (subs_are : SubchannelsAgree 1 s.subs x.net.board x.net.links) (has_sub : is_some (numbered s.subs l.sub) ≡ true) (out : PairsAreExactly x.outstanding (is_in_outstanding s)) where
   shut_is : is_of_shut_sub number x ≡ is_shutdown_sub s l.sub
   shut_is =
       ap (λ (n : ℕ). is_shut_state (state_at x.net.board n)) sub_same ∙ subs_at l.sub s.subs x.net.board x.net.links subs_are has_sub

@@ -3,14 +3,14 @@ use Rattle.std.proofs.Common.{◌≡◌, ◌+◌, ◌∷◌, ap, arith, refl, su
 use Rattle.std.specs.List.{AllByRecursion}
 use Rattle.std.specs.Option.{option_map_or}
 use Rattle.std.specs.Prelude.{map}
-use Rattle.channel_actions.specs.KeptSessions.Kept.{AreCounted}
+use Rattle.channel_actions.specs.KeptSessions.Kept.{NumbersCountUp}
 use Rattle.channel_actions.specs.Links.{line_of, lines_in, no_line}
 use Rattle.grpc_base.specs.declared.event.Entry.{Entry}
 use Rattle.h2_link.specs.Feeds.{Line}
 use Rattle.h2_link.specs.Wire.{Wire}
 use Rattle.h2_link.specs.declared.live.LiveStream.{LiveStream}
 use Rattle.link_actions.proofs.Opened.{put_all}
-use Rattle.link_actions.specs.Sees.{AreFed, AreLive, IsFed, SeesLink, WaitFed, by_stream}
+use Rattle.link_actions.specs.Sees.{StreamsAreFed, StreamsAreLive, IsFed, SeesLink, WaitFed, by_stream}
 use Rattle.session_actions.specs.Attempts.{call_of}
 use Rattle.session_actions.specs.Words.{numbered}
 use Rattle.session_actions.specs.Writing.{streaming_on, waiting_on}
@@ -19,13 +19,13 @@ use Rattle.session_actions.specs.declared.call.Call.{Call}
 use Rattle.session_actions.specs.declared.entry.OpenEntry.{OpenEntry}
 use Rattle.session_actions.specs.declared.link.Link.{Link}
 use Rattle.session_actions.specs.declared.seen.Seen.{Seen}
-use Rattle.link_actions.specs.StreamActions.Sees.{AreHeard, SeesStreams}
+use Rattle.link_actions.specs.StreamActions.Sees.{ResponsesAreReceived, SeesStreams}
 
 -- each attempt stands at its place
 abbrev pub AtPlace : List Attempt → Attempt → Type 0
 AtPlace all a = numbered all a.place ≡ Some a
 
-pub at_places : (all xs : List Attempt) (n : ℕ) → ((i : ℕ) → slice_get xs i ≡ slice_get all (n + i)) → AreCounted (suc n) (map (λ (a : Attempt). a.place) xs)
+pub at_places : (all xs : List Attempt) (n : ℕ) → ((i : ℕ) → slice_get xs i ≡ slice_get all (n + i)) → NumbersCountUp (suc n) (map (λ (a : Attempt). a.place) xs)
     → AllByRecursion (AtPlace all) xs
 at_places all [] n h p = tt
 at_places all (a ∷ xs) n h p =
@@ -33,7 +33,7 @@ at_places all (a ∷ xs) n h p =
     let on : (i : ℕ) → slice_get xs i ≡ slice_get all (suc n + i) = λ i. h (suc i) ∙ ap (slice_get all) (let e : n + suc i ≡ suc n + i = omega arith in e) in
     (ap (numbered all) p.0 ∙ ap (slice_get all) start ∙ sym (h zero), at_places all xs (suc n) on p.1)
 
-pub all_at_places : (all : List Attempt) → AreCounted 1 (map (λ (a : Attempt). a.place) all) → AllByRecursion (AtPlace all) all
+pub all_at_places : (all : List Attempt) → NumbersCountUp 1 (map (λ (a : Attempt). a.place) all) → AllByRecursion (AtPlace all) all
 all_at_places all p = at_places all all 0 (λ i. ap (slice_get all) (let e : i ≡ 0 + i = omega arith in e)) p
 
 all_filter_by : (P : Attempt → Type 0) (p : Attempt → Bool) (a : Attempt) (xs : List Attempt) (b : Bool) → P a → AllByRecursion P (filter p xs)
@@ -65,8 +65,8 @@ module _ (l : Link) (s : Seen) (entries : List Entry) (current : Option OpenEntr
       = record { call = h.call; call_is = h.call_is; fields = refl; written = h.written; left = refl; finished = refl } in
       subst (IsFed l t a) (sym (line_at a h.call row e at h.call_is)) own
 
-  fed_all : (g : ℕ → Line) (xs : List LiveStream) (as_ : List Attempt) → AreLive l xs as_ → AllByRecursion (AtPlace s.attempts) as_ → AreFed l s g xs as_
-      → AreFed l t (lines_in l t) xs as_
+  fed_all : (g : ℕ → Line) (xs : List LiveStream) (as_ : List Attempt) → StreamsAreLive l xs as_ → AllByRecursion (AtPlace s.attempts) as_ → StreamsAreFed l s g xs as_
+      → StreamsAreFed l t (lines_in l t) xs as_
   fed_all g [] [] live at fed = tt
   fed_all g (x ∷ xs) (a ∷ as_) live at fed = (fed_one a x.tag (g x.tag) live.0.tag at.0 fed.0, fed_all g xs as_ live.1 at.1 fed.1)
   fed_all g [] (a ∷ as_) live at fed = absurd fed
@@ -76,13 +76,13 @@ module _ (l : Link) (s : Seen) (entries : List Entry) (current : Option OpenEntr
   wait_all g [] at fed = tt
   wait_all g (a ∷ as_) at fed = (fed_one a a.place (g a.place) refl at.0 fed.0, wait_all g as_ at.1 fed.1)
 
-  heard_all : (xs : List LiveStream) (as_ : List Attempt) → AreHeard l s xs as_ → AreHeard l t xs as_
-  heard_all [] [] h = tt
-  heard_all (x ∷ xs) (a ∷ as_) h = (record { head = h.0.head; goes = h.0.goes; small = h.0.small }, heard_all xs as_ h.1)
-  heard_all [] (a ∷ as_) h = absurd h
-  heard_all (x ∷ xs) [] h = absurd h
+  received_all : (xs : List LiveStream) (as_ : List Attempt) → ResponsesAreReceived l s xs as_ → ResponsesAreReceived l t xs as_
+  received_all [] [] h = tt
+  received_all (x ∷ xs) (a ∷ as_) h = (record { head = h.0.head; goes = h.0.goes; small = h.0.small }, received_all xs as_ h.1)
+  received_all [] (a ∷ as_) h = absurd h
+  received_all (x ∷ xs) [] h = absurd h
 
-  pub streams_moved : (w : Wire) → AreCounted 1 (map (λ (a : Attempt). a.place) s.attempts) → SeesStreams l s w (lines_in l s) → SeesStreams l t w (lines_in l t)
+  pub streams_moved : (w : Wire) → NumbersCountUp 1 (map (λ (a : Attempt). a.place) s.attempts) → SeesStreams l s w (lines_in l s) → SeesStreams l t w (lines_in l t)
   streams_moved w counted h =
       let k = h.sees in
       let at : AllByRecursion (AtPlace s.attempts) s.attempts = all_at_places s.attempts counted in
@@ -100,4 +100,4 @@ module _ (l : Link) (s : Seen) (entries : List Entry) (current : Option OpenEntr
         tags = k.tags;
         places = k.places;
       } in
-      record { sees = moved; heard = heard_all w.live (by_stream (streaming_on l s)) h.heard; unheard = h.unheard; begun = h.begun }
+      record { sees = moved; handled = received_all w.live (by_stream (streaming_on l s)) h.handled; unreceived = h.unreceived; begun = h.begun }

@@ -1,5 +1,5 @@
 pub mod Frames
-pub mod Greeted
+pub mod Prefaced
 pub mod Own
 pub mod Settings
 pub mod Theirs

@@ -1,7 +1,7 @@
 -- Channel and session still agree where only the clock goes on: another entry is open, or none, or the same at another stage.
 use Rattle.std.proofs.Common.{◌≡◌, ap, subst, sym, ◌∙◌, Bool, List, Option, None, Some, ℕ}
 use Rattle.call_actions.specs.Order.{IsInOrder, IsInTurn}
-use Rattle.call_actions.specs.Sees.{AreAttempts, AreDue, Sees}
+use Rattle.call_actions.specs.Sees.{AttemptsAgree, DuesAgree, Sees}
 use Rattle.call_core.specs.Steps.{Stepped}
 use Rattle.channel_actions.proofs.Dues.{due_same, in_dues_same, state_same}
 use Rattle.channel_actions.proofs.Lines.{streams_moved}
@@ -42,10 +42,10 @@ module _ (s : Seen) (entries : List Entry) (current : Option OpenEntry) (answere
   abbrev with_number : ℕ → Stepped → Stepped
   with_number number x = record x { ledger = record x.ledger { entry = number } }
 
-  attempts_moved : (c : Call) (x : Stepped) → AreAttempts s c x.call.attempts → AreAttempts t c x.call.attempts
+  attempts_moved : (c : Call) (x : Stepped) → AttemptsAgree s c x.call.attempts → AttemptsAgree t c x.call.attempts
   attempts_moved c x a = record {
     sent = a.sent;
-    due = subst (λ (z : DueState). AreDue z x.call.attempts) (sym (state_same s entries current answered wants s.links c)) a.due;
+    due = subst (λ (z : DueState). DuesAgree z x.call.attempts) (sym (state_same s entries current answered wants s.links c)) a.due;
     unplaced = a.unplaced;
     delayed = a.delayed;
     last = a.last;
@@ -153,11 +153,11 @@ module _ (s : Seen) (entries : List Entry) (current : Option OpenEntry) (answere
       orderly = h.orderly;
       sets = record {
         queue = h.sets.queue;
-        patient = h.sets.patient;
+        ready_waiters = h.sets.ready_waiters;
         dues = record { rising = h.sets.dues.rising; exact = λ m n. h.sets.dues.exact m n ∙ sym (in_dues_same s entries current answered wants s.links m n) };
         deadlines = h.sets.deadlines;
-        bare = h.sets.bare;
-        impatient = h.sets.impatient;
+        awaiting_config = h.sets.awaiting_config;
+        fail_fast = h.sets.fail_fast;
         outstanding = h.sets.outstanding;
         resets = h.sets.resets;
       };

@@ -6,7 +6,7 @@ use Rattle.std.specs.Prelude.{length, map, max}
 use Rattle.channel_actions.proofs.Moved.{agrees_moved}
 use Rattle.channel_actions.specs.Agrees.{Agrees}
 use Rattle.channel_actions.specs.Columns.{links_noted}
-use Rattle.channel_actions.specs.Points.{Rests}
+use Rattle.channel_actions.specs.Points.{AtRest}
 use Rattle.channel_actions.specs.Stages.{Openings}
 use Rattle.channel_core.specs.Applying.{begun_at}
 use Rattle.channel_core.specs.States.{StateSeen}
@@ -47,7 +47,7 @@ unstamped test n m (l ∷ ls) e =
 pub noted_is : (s : Seen) → map (noted_gone s) s.links ≡ s.links → links_noted s ≡ map link_seen s.links
 noted_is s e = sym (map-map link_seen (noted_gone s) s.links) ∙ ap (map link_seen) e
 
-module _ (x : StateSeen) (s : Seen) (posted word : ℕ) (e : Event) (h : Rests x s) where
+module _ (x : StateSeen) (s : Seen) (posted word : ℕ) (e : Event) (h : AtRest x s) where
   pub opens : Agrees (begun_at (length s.entries + 1) (max (last_moment s) posted) word x) (opened posted word e s)
   opens =
       agrees_moved s s.entries (Some (opened_entry posted word e s)) s.answered s.wants x h.agrees (length s.entries + 1) (max (last_moment s) posted) word 0

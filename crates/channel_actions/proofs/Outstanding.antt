@@ -6,9 +6,9 @@ use Rattle.std.specs.List.{find, list_all, list_any}
 use Rattle.std.specs.Option.{option_map_or}
 use Rattle.std.specs.Prelude.{nat_lt}
 use Rattle.attempt_ledger.specs.declared.row.Placed.{Placed}
-use Rattle.channel_actions.specs.Sets.{AreExactly, AreRising, is_in_outstanding}
+use Rattle.channel_actions.specs.Sets.{PairsAreExactly, PairsAreRising, is_in_outstanding}
 use Rattle.channel_core.specs.Steps.{is_on}
-use Rattle.picker_gate.specs.Pairs.{has, is_behind, is_same, next_behind}
+use Rattle.picker_gate.specs.Pairs.{has, comes_after, is_same, next_after}
 use Rattle.session_actions.specs.Attempts.{is_outstanding}
 use Rattle.session_actions.specs.Links.{link_number}
 use Rattle.session_actions.specs.Reading.{is_outstanding_on}
@@ -21,38 +21,38 @@ use Rattle.session_actions.specs.declared.seen.Seen.{Seen}
 abbrev pub is_of_link : ℕ → ℕ × ℕ → Bool
 is_of_link link p = (p.0 == link) && nat_lt 0 p.1
 
-behind_of : (link : ℕ) (p : ℕ × ℕ) → is_behind (link, 0) p ≡ true → (p.0 == link) ≡ is_of_link link p
-behind_of link p h = grind (arith, nat_tests)
+afterwards_of : (link : ℕ) (p : ℕ × ℕ) → comes_after (link, 0) p ≡ true → (p.0 == link) ≡ is_of_link link p
+afterwards_of link p h = grind (arith, nat_tests)
 
-before_of : (link : ℕ) (p : ℕ × ℕ) → is_behind (link, 0) p ≡ false → is_of_link link p ≡ false
+before_of : (link : ℕ) (p : ℕ × ℕ) → comes_after (link, 0) p ≡ false → is_of_link link p ≡ false
 before_of link p h = grind (arith, nat_tests)
 
-after_of : (link : ℕ) (p q : ℕ × ℕ) → is_behind (link, 0) p ≡ true → (p.0 == link) ≡ false → is_behind p q ≡ true → is_of_link link q ≡ false
+after_of : (link : ℕ) (p q : ℕ × ℕ) → comes_after (link, 0) p ≡ true → (p.0 == link) ≡ false → comes_after p q ≡ true → is_of_link link q ≡ false
 after_of link p q h e f = grind (arith, nat_tests)
 
-none_after : (link : ℕ) (p : ℕ × ℕ) (rest : List (ℕ × ℕ)) → is_behind (link, 0) p ≡ true → (p.0 == link) ≡ false → list_all (is_behind p) rest ≡ true
+none_after : (link : ℕ) (p : ℕ × ℕ) (rest : List (ℕ × ℕ)) → comes_after (link, 0) p ≡ true → (p.0 == link) ≡ false → list_all (comes_after p) rest ≡ true
     → list_any (is_of_link link) rest ≡ false
 none_after link p [] h e all = refl
 none_after link p (q ∷ rest) h e all =
-    let both = and_parts (is_behind p q) (list_all (is_behind p) rest) all in
+    let both = and_parts (comes_after p q) (list_all (comes_after p) rest) all in
     ap (λ (b : Bool). b || list_any (is_of_link link) rest) (after_of link p q h e both.0) ∙ none_after link p rest h e both.1
 
-on_by : (link : ℕ) (p : ℕ × ℕ) (rest : List (ℕ × ℕ)) (b c : Bool) → is_behind (link, 0) p ≡ b → (p.0 == link) ≡ c → AreRising (p ∷ rest)
-    → is_on link (find (is_behind (link, 0)) rest) ≡ list_any (is_of_link link) rest
-    → is_on link (find (is_behind (link, 0)) (p ∷ rest)) ≡ list_any (is_of_link link) (p ∷ rest)
+on_by : (link : ℕ) (p : ℕ × ℕ) (rest : List (ℕ × ℕ)) (b c : Bool) → comes_after (link, 0) p ≡ b → (p.0 == link) ≡ c → PairsAreRising (p ∷ rest)
+    → is_on link (find (comes_after (link, 0)) rest) ≡ list_any (is_of_link link) rest
+    → is_on link (find (comes_after (link, 0)) (p ∷ rest)) ≡ list_any (is_of_link link) (p ∷ rest)
 on_by link p rest true true e f rising more =
-    ap (λ (z : Bool). is_on link (cond z (Some p) (find (is_behind (link, 0)) rest))) e ∙ f
-    ∙ sym (ap (λ (z : Bool). z || list_any (is_of_link link) rest) (sym (behind_of link p e) ∙ f))
+    ap (λ (z : Bool). is_on link (cond z (Some p) (find (comes_after (link, 0)) rest))) e ∙ f
+    ∙ sym (ap (λ (z : Bool). z || list_any (is_of_link link) rest) (sym (afterwards_of link p e) ∙ f))
 on_by link p rest true false e f rising more =
-    ap (λ (z : Bool). is_on link (cond z (Some p) (find (is_behind (link, 0)) rest))) e ∙ f
-    ∙ sym (ap (λ (z : Bool). z || list_any (is_of_link link) rest) (sym (behind_of link p e) ∙ f) ∙ none_after link p rest e f rising.0)
+    ap (λ (z : Bool). is_on link (cond z (Some p) (find (comes_after (link, 0)) rest))) e ∙ f
+    ∙ sym (ap (λ (z : Bool). z || list_any (is_of_link link) rest) (sym (afterwards_of link p e) ∙ f) ∙ none_after link p rest e f rising.0)
 on_by link p rest false c e f rising more =
-    ap (λ (z : Bool). is_on link (cond z (Some p) (find (is_behind (link, 0)) rest))) e ∙ more
+    ap (λ (z : Bool). is_on link (cond z (Some p) (find (comes_after (link, 0)) rest))) e ∙ more
     ∙ sym (ap (λ (z : Bool). z || list_any (is_of_link link) rest) (before_of link p e))
 
-pub on_is : (link : ℕ) (pairs : List (ℕ × ℕ)) → AreRising pairs → is_on link (next_behind pairs (link, 0)) ≡ list_any (is_of_link link) pairs
+pub on_is : (link : ℕ) (pairs : List (ℕ × ℕ)) → PairsAreRising pairs → is_on link (next_after pairs (link, 0)) ≡ list_any (is_of_link link) pairs
 on_is link [] rising = refl
-on_is link (p ∷ rest) rising = on_by link p rest (is_behind (link, 0) p) (p.0 == link) refl refl rising (on_is link rest rising.1)
+on_is link (p ∷ rest) rising = on_by link p rest (comes_after (link, 0) p) (p.0 == link) refl refl rising (on_is link rest rising.1)
 
 -- one that passes a test
 pub record Passes {X : Type 0} (test : X → Bool) (xs : List X) : Type 0 where
@@ -103,7 +103,7 @@ equal_is n m h = grind (arith, nat_tests)
 is_equal : (n m : ℕ) → n ≡ m → (n == m) ≡ true
 is_equal n m h = grind (arith, nat_tests)
 
-module _ (s : Seen) (l : Link) (pairs : List (ℕ × ℕ)) (exact : AreExactly pairs (is_in_outstanding s)) where
+module _ (s : Seen) (l : Link) (pairs : List (ℕ × ℕ)) (exact : PairsAreExactly pairs (is_in_outstanding s)) where
   -- an attempt that is outstanding on a link of this number
   on_placed : (a : Attempt) (o : Option Placed) → (is_some o && is_none a.row.ended) ≡ true → option_map_or (λ (at : Placed). at.link) o 0 ≡ l.number
       → holds (λ (at : Placed). at.link == l.number) o ≡ true
@@ -145,7 +145,7 @@ module _ (s : Seen) (l : Link) (pairs : List (ℕ × ℕ)) (exact : AreExactly p
       let q = some_passes (is_same (l.number, suc p.index)) pairs (exact.exact l.number (suc p.index) ∙ in_test) in
       any_of (is_of_link l.number) pairs q.index q.one q.there (same_link l.number p.index q.one q.passes)
 
-  pub outstanding_same : is_on l.number (next_behind pairs (l.number, 0)) ≡ list_any (is_outstanding_on l) s.attempts
+  pub outstanding_same : is_on l.number (next_after pairs (l.number, 0)) ≡ list_any (is_outstanding_on l) s.attempts
   outstanding_same =
       on_is l.number pairs exact.rising
       ∙ alike (list_any (is_of_link l.number) pairs) (list_any (is_outstanding_on l) s.attempts) to_attempts to_pairs

@@ -13,11 +13,11 @@ use Rattle.channel_actions.proofs.Relinked.{agrees_relinked, reader_relinked, st
 use Rattle.channel_actions.proofs.Settles.{is_with_open, reopened, with_open}
 use Rattle.channel_actions.proofs.Stamps.{counted_at}
 use Rattle.channel_actions.specs.Agrees.{Agrees}
-use Rattle.channel_actions.specs.Calm.{IsAt}
-use Rattle.channel_actions.specs.Cases.{IsPing, PingsStayCalm}
+use Rattle.channel_actions.specs.Quiescent.{IsAt}
+use Rattle.channel_actions.specs.Cases.{IsPing, PingsStayQuiescent}
 use Rattle.channel_actions.specs.Columns.{links_noted}
 use Rattle.channel_actions.proofs.KeptSessions.Lists as lists
-use Rattle.channel_actions.specs.KeptSessions.Kept.{AreCounted}
+use Rattle.channel_actions.specs.KeptSessions.Kept.{NumbersCountUp}
 use Rattle.channel_actions.specs.Links.{HasLink, IsGoing, lines_in}
 use Rattle.channel_actions.specs.Readers.{attempt_on}
 use Rattle.channel_actions.specs.Stages.{EventsAnswered, IsAnswered}
@@ -218,11 +218,11 @@ module _ (pings : PingsKeep) (x : StateSeen) (s : Seen) (h : Agrees x s) (link w
         count = long ∙ h.links.count ∙ sym (changed_length (with_link (pinged_link word)) x.links link);
         each = λ k l e. link_by k l (numbered s.links k) refl (sym (is k) ∙ e);
       })
-      noted (subst (AreCounted 1) (sym (map_changed (λ (l : Link). l.number) f (λ l. refl) link s.links)) h.kept.links)
+      noted (subst (NumbersCountUp 1) (sym (map_changed (λ (l : Link). l.number) f (λ l. refl) link s.links)) h.kept.links)
       (all_changed (λ (l : Link). is_some (numbered s.subs l.sub)) f (λ l. refl) link s.links ∙ h.kept.dialled)
       (lists.all_changed (λ (l : Link). list_all is_control l.owed) f link s.links h.kept.queued (λ l got ok. lists.all_more is_control l.owed frames ok refl))
 
-module _ (pings : PingsKeep) (calm : PingsStayCalm) (x : StateSeen) (r : Reply) (o : OpenEntry) (s : Seen) (h : Agrees x s) (at : IsAt stage.Event o s) (fresh : o.turn ≡ None)
+module _ (pings : PingsKeep) (quiescent : PingsStayQuiescent) (x : StateSeen) (r : Reply) (o : OpenEntry) (s : Seen) (h : Agrees x s) (at : IsAt stage.Event o s) (fresh : o.turn ≡ None)
     (timely : next_deadline s ≡ None) (link word : ℕ) (is : o.event ≡ event.Ping link word) (kept : channel.refusal_of o.event x ≡ None) where
   abbrev p : OpenEntry
   p = replied_entry reply.Done o
@@ -250,7 +250,7 @@ module _ (pings : PingsKeep) (calm : PingsStayCalm) (x : StateSeen) (r : Reply) 
       does = (event_next o s at timely (action.PingQueued link) next, sym does_so);
       posts = refl;
       same = record { moment = refl; word = refl; event = refl; entries = refl; setup = refl };
-      at = record { current = refl; stage_is = refl; calm = calm o s link word at is };
+      at = record { current = refl; stage_is = refl; quiescent = quiescent o s link word at is };
       agrees = reopened (pinged link word x) o p (owed (ping_frame word ∷ []) link s) refl refl refl
           (subst (Agrees (pinged link word x)) (is_with_open o (owed (ping_frame word ∷ []) link s) at.current) (agrees_pinged pings x s h link word));
     };
@@ -259,10 +259,10 @@ module _ (pings : PingsKeep) (calm : PingsStayCalm) (x : StateSeen) (r : Reply) 
     none = ap (λ (e : Event). frame_of_event e p (with_open p (owed (ping_frame word ∷ []) link s))) is;
   }
 
-pub pings_answered : PingsKeep → PingsStayCalm → EventsAnswered IsPing
-pings_answered pings calm x y r o s h at fresh timely case answers =
+pub pings_answered : PingsKeep → PingsStayQuiescent → EventsAnswered IsPing
+pings_answered pings quiescent x y r o s h at fresh timely case answers =
     let given : AnswersBy None (event.Ping case.link case.word) x y r
     = subst (λ (e : Event). AnswersBy None e x y r) case.event_is (subst (λ (z : Option Refusal). AnswersBy z o.event x y r) case.kept answers) in
     subst (λ (z : StateSeen). IsAnswered z r o s) (sym given.0)
     (subst (λ (z : Reply). IsAnswered (pinged case.link case.word x) z o s) (sym given.1)
-    (ping_answered pings calm x r o s h at fresh timely case.link case.word case.event_is case.kept))
+    (ping_answered pings quiescent x r o s h at fresh timely case.link case.word case.event_is case.kept))

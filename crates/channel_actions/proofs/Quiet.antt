@@ -11,25 +11,25 @@ or_parts_none (Some x) b h = absurd (cc)
 pub or_both_none : {X : Type 0} (a b : Option X) → a ≡ None → b ≡ None → option_or a b ≡ None
 or_both_none a b p q = ap (λ (o : Option _). option_or o b) p ∙ q
 
--- where no one passes a test, no one passes a narrower one
+-- where no one passes a test, no one passes a stronger one
 find_step : {X : Type 0} (p q : X → Bool) (x : X) (xs : List X) (b c : Bool) → p x ≡ b → q x ≡ c → (b ≡ true → c ≡ true)
     → (find q xs ≡ None → find p xs ≡ None) → find q (x ∷ xs) ≡ None → find p (x ∷ xs) ≡ None
-find_step p q x xs b true e f narrow rest h = absurd (let bad : Some x ≡ None = sym (ap (λ (z : Bool). cond z (Some x) (find q xs)) f) ∙ h in (cc))
-find_step p q x xs true false e f narrow rest h = absurd (let bad : false ≡ true = narrow refl in (cc))
-find_step p q x xs false false e f narrow rest h =
+find_step p q x xs b true e f restricted rest h = absurd (let bad : Some x ≡ None = sym (ap (λ (z : Bool). cond z (Some x) (find q xs)) f) ∙ h in (cc))
+find_step p q x xs true false e f restricted rest h = absurd (let bad : false ≡ true = restricted refl in (cc))
+find_step p q x xs false false e f restricted rest h =
     ap (λ (z : Bool). cond z (Some x) (find p xs)) e ∙ rest (sym (ap (λ (z : Bool). cond z (Some x) (find q xs)) f) ∙ h)
 
-pub find_narrow : {X : Type 0} (p q : X → Bool) (xs : List X) → ((x : X) → p x ≡ true → q x ≡ true) → find q xs ≡ None → find p xs ≡ None
-find_narrow p q [] narrow h = refl
-find_narrow p q (x ∷ xs) narrow h = find_step p q x xs (p x) (q x) refl refl (narrow x) (find_narrow p q xs narrow) h
+pub find_restricted : {X : Type 0} (p q : X → Bool) (xs : List X) → ((x : X) → p x ≡ true → q x ≡ true) → find q xs ≡ None → find p xs ≡ None
+find_restricted p q [] restricted h = refl
+find_restricted p q (x ∷ xs) restricted h = find_step p q x xs (p x) (q x) refl refl (restricted x) (find_restricted p q xs restricted) h
 
 map_none : {X Y : Type 0} (f : X → Y) (o : Option X) → option_map f o ≡ None → o ≡ None
 map_none f None h = refl
 map_none f (Some x) h = absurd (cc)
 
-pub mapped_narrow : {X Y : Type 0} (f g : X → Y) (p q : X → Bool) (xs : List X) → ((x : X) → p x ≡ true → q x ≡ true)
+pub mapped_restricted : {X Y : Type 0} (f g : X → Y) (p q : X → Bool) (xs : List X) → ((x : X) → p x ≡ true → q x ≡ true)
     → option_map f (find q xs) ≡ None → option_map g (find p xs) ≡ None
-mapped_narrow f g p q xs narrow h = ap (option_map g) (find_narrow p q xs narrow (map_none f (find q xs) h))
+mapped_restricted f g p q xs restricted h = ap (option_map g) (find_restricted p q xs restricted (map_none f (find q xs) h))
 
 never_step : {X : Type 0} (p : X → Bool) (x : X) (xs : List X) (b : Bool) → p x ≡ b → (p x ≡ true → ⊥) → find p xs ≡ None → find p (x ∷ xs) ≡ None
 never_step p x xs true e never_so rest = absurd (never_so e)

@@ -31,7 +31,7 @@ use Rattle.config_values.specs.declared.place.Place.{Place}
 use Rattle.config_values.specs.declared.place.Place.TheVariants as place
 use Rattle.service_config.specs.Choice.{chosen_for, empty_config, entry_for, entry_of, taken}
 use Rattle.service_config.specs.Entries.{NameSeen, added, added_from, entries_from, entries_if, entry_at, has_name, method_of, methods_in, names_in, read_entry, settings_in}
-use Rattle.service_config.specs.Reading.{config_at, config_in, config_in_tree, config_of, kind_in, told_by}
+use Rattle.service_config.specs.Reading.{config_at, config_in, config_in_tree, config_of, kind_in, reported_by}
 use Rattle.service_config.specs.declared.config.Config.{Config}
 use Rattle.service_config.specs.declared.config.Method.{Method}
 use Rattle.service_config.specs.declared.entry.Settings.{Settings}
@@ -205,12 +205,12 @@ tree_config : (kinds : KindsSeen) (v : Tree) → IfOk (config_in_tree kinds v) H
 unfolding config_in_tree
 tree_config kinds v = bound Anything HasPlans (fields_at object.Config v) _ (any (fields_at object.Config v)) (λ fields a. config_count kinds fields)
 
-told_config : (r : Result Config Fault) → IfOk r HasPlans → IfOk (told_by r) HasPlans
-told_config (Ok c) h = h
-told_config (Err f) h = tt
+reported_config : (r : Result Config Fault) → IfOk r HasPlans → IfOk (reported_by r) HasPlans
+reported_config (Ok c) h = h
+reported_config (Err f) h = tt
 
 at_config : (kinds : KindsSeen) (r : Result Tree JsonFault) → IfOk (config_at kinds r) HasPlans
-at_config kinds (Ok v) = told_config (config_in_tree kinds v) (tree_config kinds v)
+at_config kinds (Ok v) = reported_config (config_in_tree kinds v) (tree_config kinds v)
 at_config kinds (Err f) = tt
 
 pub text_config : (kinds : KindsSeen) (text : List ℕ) → IfOk (config_of kinds text) HasPlans

@@ -6,7 +6,7 @@ use Rattle.std.specs.Prelude.{map, option_and_then}
 use Rattle.attempt_buffer.specs.Buffers.{Buffered, taken_by, text_of}
 use Rattle.attempt_ledger.specs.declared.row.Placed.{Placed}
 use Rattle.call_actions.specs.Order.{IsInOrder, IsInTurn}
-use Rattle.call_actions.specs.Sees.{AreAttempts, AreDue, Sees}
+use Rattle.call_actions.specs.Sees.{AttemptsAgree, DuesAgree, Sees}
 use Rattle.call_core.specs.Laws as channel
 use Rattle.call_core.specs.Steps.{Stepped}
 use Rattle.channel_actions.proofs.Dues.{due_same, in_dues_same, state_same}
@@ -15,7 +15,7 @@ use Rattle.channel_actions.specs.Calls.{HasSlot, lent_to}
 use Rattle.channel_actions.specs.Clock.{DrawsAlike}
 use Rattle.channel_actions.specs.Columns.{links_noted}
 use Rattle.channel_actions.proofs.KeptSessions.Beside.{kept_linked}
-use Rattle.channel_actions.specs.KeptSessions.Kept.{AreCounted}
+use Rattle.channel_actions.specs.KeptSessions.Kept.{NumbersCountUp}
 use Rattle.channel_actions.specs.Links.{SeesLinks}
 use Rattle.channel_core.specs.States.{StateSeen}
 use Rattle.channel_core.specs.declared.state.links.LinkSlot.{LinkSlot}
@@ -28,7 +28,7 @@ use Rattle.h2_frame.specs.Frames.{FrameSeen}
 use Rattle.h2_link.specs.Feeds.{Line}
 use Rattle.h2_link.specs.Wire.{Wire}
 use Rattle.h2_link.specs.declared.live.LiveStream.{LiveStream}
-use Rattle.link_actions.specs.Sees.{AreFed, AreLive, IsFed, SeesLink, SeesOwed, SeesRead, by_stream}
+use Rattle.link_actions.specs.Sees.{StreamsAreFed, StreamsAreLive, IsFed, SeesLink, SeesOwed, SeesRead, by_stream}
 use Rattle.session_actions.specs.Attempts.{commitment, is_of, is_outstanding}
 use Rattle.session_actions.specs.Deliveries.{response_items}
 use Rattle.session_actions.specs.Links.{link_of, read_bytes}
@@ -45,7 +45,7 @@ use Rattle.session_actions.specs.declared.link.Link.{Link}
 use Rattle.session_actions.specs.declared.response.Response.{Response}
 use Rattle.session_actions.specs.declared.seen.Seen.{Seen}
 use Rattle.session_order.proofs.Lists.{some_map}
-use Rattle.link_actions.specs.StreamActions.Sees.{AreHeard, SeesStreams}
+use Rattle.link_actions.specs.StreamActions.Sees.{ResponsesAreReceived, SeesStreams}
 use Rattle.call_actions.specs.TakeActions.Serves as serves
 use Rattle.call_actions.specs.TakeActions.Serves.{Holds, IsAt, IsLeft, Serves, came, drained_so_far, passed}
 
@@ -102,10 +102,10 @@ module _ (s : Seen) (ls : List Link) (g : ℕ → Link → Option ℕ) (w : ℕ 
     abbrev relent : Stepped → Stepped
     relent x = record x { ledger = record x.ledger { links = map link_seen ls } }
 
-    attempts_relinked : (c : Call) (x : Stepped) → AreAttempts s c x.call.attempts → AreAttempts t c x.call.attempts
+    attempts_relinked : (c : Call) (x : Stepped) → AttemptsAgree s c x.call.attempts → AttemptsAgree t c x.call.attempts
     attempts_relinked c x a = record {
       sent = a.sent;
-      due = subst (λ (z : DueState). AreDue z x.call.attempts) (sym (state_same s s.entries s.current s.answered s.wants ls c)) a.due;
+      due = subst (λ (z : DueState). DuesAgree z x.call.attempts) (sym (state_same s s.entries s.current s.answered s.wants ls c)) a.due;
       unplaced = a.unplaced;
       delayed = a.delayed;
       last = a.last;
@@ -183,7 +183,7 @@ module _ (s : Seen) (ls : List Link) (g : ℕ → Link → Option ℕ) (w : ℕ 
 
     -- a link, and what is queued on it
     module _ (k : ℕ) (l : Link) where
-      live_relinked : (xs : List LiveStream) (as_ : List Attempt) → AreLive l xs as_ → AreLive (h k l) xs as_
+      live_relinked : (xs : List LiveStream) (as_ : List Attempt) → StreamsAreLive l xs as_ → StreamsAreLive (h k l) xs as_
       live_relinked [] [] q = tt
       live_relinked (x ∷ xs) (a ∷ as_) q =
           (record { stream = q.0.stream; some = q.0.some; tag = q.0.tag; finished = q.0.finished; credit = q.0.credit }, live_relinked xs as_ q.1)
@@ -193,17 +193,17 @@ module _ (s : Seen) (ls : List Link) (g : ℕ → Link → Option ℕ) (w : ℕ 
       fed_one : (a : Attempt) (line : Line) → IsFed l s a line → IsFed (h k l) t a line
       fed_one a line q = record { call = q.call; call_is = q.call_is; fields = q.fields; written = q.written; left = q.left; finished = q.finished }
 
-      fed_relinked : (f : ℕ → Line) (xs : List LiveStream) (as_ : List Attempt) → AreFed l s f xs as_ → AreFed (h k l) t f xs as_
+      fed_relinked : (f : ℕ → Line) (xs : List LiveStream) (as_ : List Attempt) → StreamsAreFed l s f xs as_ → StreamsAreFed (h k l) t f xs as_
       fed_relinked f [] [] q = tt
       fed_relinked f (x ∷ xs) (a ∷ as_) q = (fed_one a (f x.tag) q.0, fed_relinked f xs as_ q.1)
       fed_relinked f [] (a ∷ as_) q = absurd q
       fed_relinked f (x ∷ xs) [] q = absurd q
 
-      heard_relinked : (xs : List LiveStream) (as_ : List Attempt) → AreHeard l s xs as_ → AreHeard (h k l) t xs as_
-      heard_relinked [] [] q = tt
-      heard_relinked (x ∷ xs) (a ∷ as_) q = (record { head = q.0.head; goes = q.0.goes; small = q.0.small }, heard_relinked xs as_ q.1)
-      heard_relinked [] (a ∷ as_) q = absurd q
-      heard_relinked (x ∷ xs) [] q = absurd q
+      received_relinked : (xs : List LiveStream) (as_ : List Attempt) → ResponsesAreReceived l s xs as_ → ResponsesAreReceived (h k l) t xs as_
+      received_relinked [] [] q = tt
+      received_relinked (x ∷ xs) (a ∷ as_) q = (record { head = q.0.head; goes = q.0.goes; small = q.0.small }, received_relinked xs as_ q.1)
+      received_relinked [] (a ∷ as_) q = absurd q
+      received_relinked (x ∷ xs) [] q = absurd q
 
       -- where nothing more is queued
       pub owed_relinked : (v : Wire) → w k l ≡ l.owed → SeesOwed l v → SeesOwed (h k l) v
@@ -244,7 +244,7 @@ module _ (s : Seen) (ls : List Link) (g : ℕ → Link → Option ℕ) (w : ℕ 
             tags = old.tags;
             places = old.places;
           } in
-          record { sees = new; heard = heard_relinked v.live (by_stream (streaming_on l s)) q.heard; unheard = q.unheard; begun = q.begun }
+          record { sees = new; handled = received_relinked v.live (by_stream (streaming_on l s)) q.handled; unreceived = q.unreceived; begun = q.begun }
 
     -- the whole, where the links agree
     module _ (x : StateSeen) (slots : List LinkSlot) (agrees : Agrees x s)
@@ -270,7 +270,7 @@ module _ (s : Seen) (ls : List Link) (g : ℕ → Link → Option ℕ) (w : ℕ 
       draws_with None d = tt
       draws_with (Some o) d = (d.0, d.1)
 
-      pub agrees_relinked : SeesLinks y t → links_noted t ≡ x.book.ledger.links → AreCounted 1 (map (λ (l : Link). l.number) ls)
+      pub agrees_relinked : SeesLinks y t → links_noted t ≡ x.book.ledger.links → NumbersCountUp 1 (map (λ (l : Link). l.number) ls)
           → list_all (λ (l : Link). is_some (numbered s.subs l.sub)) ls ≡ true → list_all (λ (l : Link). list_all is_control l.owed) ls ≡ true → Agrees y t
       agrees_relinked links noted counted dialled queued = record {
         clock = record { entry_is = agrees.clock.entry_is; moment = agrees.clock.moment; draws = draws_with s.current agrees.clock.draws };
@@ -295,11 +295,11 @@ module _ (s : Seen) (ls : List Link) (g : ℕ → Link → Option ℕ) (w : ℕ 
         orderly = agrees.orderly;
         sets = record {
           queue = agrees.sets.queue;
-          patient = agrees.sets.patient;
+          ready_waiters = agrees.sets.ready_waiters;
           dues = record { rising = agrees.sets.dues.rising; exact = λ m n. agrees.sets.dues.exact m n ∙ sym (in_dues_same s s.entries s.current s.answered s.wants ls m n) };
           deadlines = agrees.sets.deadlines;
-          bare = agrees.sets.bare;
-          impatient = agrees.sets.impatient;
+          awaiting_config = agrees.sets.awaiting_config;
+          fail_fast = agrees.sets.fail_fast;
           outstanding = agrees.sets.outstanding;
           resets = agrees.sets.resets;
         };

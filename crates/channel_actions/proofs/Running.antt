@@ -14,7 +14,7 @@ use Rattle.channel_actions.proofs.Does.{does_on, posted_on}
 use Rattle.channel_actions.proofs.HeldTexts.Fits.{new_texts_fit}
 use Rattle.channel_actions.specs.HeldTexts.Fits.{TextsFit}
 use Rattle.channel_actions.proofs.Entered.{Carrying, Enters, IsCarried, KeepsOn, entered, entry_as}
-use Rattle.channel_actions.proofs.Links.Greeted.Along.{greeted_begins}
+use Rattle.channel_actions.proofs.Links.Prefaced.Along.{prefaced_begins}
 use Rattle.channel_actions.proofs.Streams.Own.Along.{streams_begin}
 use Rattle.channel_actions.proofs.Opening.{noted_is}
 use Rattle.channel_actions.proofs.Posted.{first_there}
@@ -23,8 +23,8 @@ use Rattle.channel_actions.proofs.Links.Theirs.Kept.{theirs_begin}
 use Rattle.channel_actions.specs.KeptCalls.Laws.{EarlyBegins}
 use Rattle.channel_actions.specs.OwnLinks.Laws.{OwnBegins}
 use Rattle.channel_actions.specs.Laws.{HadRoom, NewChannelsAgree, RunsAreSessions, is_room}
-use Rattle.channel_actions.specs.Points.{Rests}
-use Rattle.channel_actions.specs.Posted.{ArePosted, IsPosted}
+use Rattle.channel_actions.specs.Points.{AtRest}
+use Rattle.channel_actions.specs.Posted.{EventsArePosted, IsPosted}
 use Rattle.channel_actions.specs.Stages.{Closings, Deadlines, Events, Openings, Settlings}
 use Rattle.channel_core.specs.Applying.{Stepped, conn_of, new_state}
 use Rattle.channel_core.specs.Core.{CoreSeen, Runs, Steps, last_moment}
@@ -69,20 +69,20 @@ room_at before [] m more h = subst (λ (l : List Entry). is_room l m.event ≡ t
 room_at before (x ∷ xs) m more h =
     subst (λ (l : List Entry). is_room l m.event ≡ true) (append_assoc before (x ∷ []) xs) (room_at (before ++ x ∷ []) xs m more h.1)
 
--- the point behind a run
+-- the point after a run
 record Ran (core : CoreSeen) (s : Seen) (events : List Stamped) : Type 0 where
   actions : List Action
   seen : Seen
   does : Does actions s seen
   posted : posted_in actions ≡ events
-  rests : Rests core.state seen
+  rests : AtRest core.state seen
   kept_on : IsCarried core.state seen
   journal : seen.entries ≡ core.journal.entries
   setup : seen.setup ≡ s.setup
 
 module _ (states : StatesAreSame) (openings : Openings) (deadlines : Deadlines) (events_ : Events) (settlings : Settlings) (closings : Closings)
     (carrying : Carrying) where
-  module _ (old next core : CoreSeen) (e : Stamped) (r : Reply) (events : List Stamped) (s : Seen) (h : Rests old.state s) (c : IsCarried old.state s) (j : s.entries ≡ old.journal.entries)
+  module _ (old next core : CoreSeen) (e : Stamped) (r : Reply) (events : List Stamped) (s : Seen) (h : AtRest old.state s) (c : IsCarried old.state s) (j : s.entries ≡ old.journal.entries)
       (step : Steps old next e r) (rest : Runs next events core) (room : HadRoom [] core.journal.entries) (allowed : IsPosted e.event) where
     abbrev made : Entry
     made = entry_as (max e.moment (last_moment old.journal.entries)) e.word e.event r (conn_of next.state)
@@ -112,14 +112,14 @@ module _ (states : StatesAreSame) (openings : Openings) (deadlines : Deadlines) 
         ∙ ap (λ (m : ℕ). s.entries ++ entry_as (max e.moment m) e.word e.event r (conn_of next.state) ∷ []) (sym (last_same s old.journal.entries j))
         ∙ ap (λ (l : List Entry). l ++ made ∷ []) j ∙ sym step.journal
 
-  run : (events : List Stamped) (old core : CoreSeen) (s : Seen) → Rests old.state s → IsCarried old.state s → s.entries ≡ old.journal.entries → Runs old events core
-      → HadRoom [] core.journal.entries → ArePosted events → Ran core s events
+  run : (events : List Stamped) (old core : CoreSeen) (s : Seen) → AtRest old.state s → IsCarried old.state s → s.entries ≡ old.journal.entries → Runs old events core
+      → HadRoom [] core.journal.entries → EventsArePosted events → Ran core s events
   run [] old core s h c j r room posted = record {
     actions = [];
     seen = s;
     does = refl;
     posted = refl;
-    rests = subst (λ (c : CoreSeen). Rests c.state s) (sym r) h;
+    rests = subst (λ (c : CoreSeen). AtRest c.state s) (sym r) h;
     kept_on = subst (λ (c : CoreSeen). IsCarried c.state s) (sym r) c;
     journal = j ∙ ap (λ (c : CoreSeen). c.journal.entries) (sym r);
     setup = refl;
@@ -139,7 +139,7 @@ module _ (states : StatesAreSame) (openings : Openings) (deadlines : Deadlines) 
       }
 
 -- the ledger between two entries
-recorded : (x : StateSeen) (s : Seen) → Rests x s → ledger_of s ≡ x.book.ledger
+recorded : (x : StateSeen) (s : Seen) → AtRest x s → ledger_of s ≡ x.book.ledger
 recorded x s h =
     let l : Ledger = x.book.ledger in
     let c = h.agrees.columns in
@@ -162,13 +162,13 @@ NewOnesKeep = (alloc : Global) (authority : List ℕ) (policies : List PolicySee
 pub runs_are_sessions : StatesAreSame → NoneToDial → ClockChanges → TakeOversAreSame → WishesConnect → NewChannelsAgree → Openings → Closings → Carrying
     → NewOnesKeep → EarlyBegins → OwnBegins → RunsAreSessions
 runs_are_sessions states none_to_dial clocks overs wishes news openings closings carrying new_ones new_early new_own overdue does due setup policies alloc events new core kinds ready is_new posted runs room =
-    let begins : Rests new.state (new_session setup) = subst (λ (x : StateSeen). Rests x (new_session setup)) (sym is_new.state) (news setup policies alloc kinds ready) in
+    let begins : AtRest new.state (new_session setup) = subst (λ (x : StateSeen). AtRest x (new_session setup)) (sym is_new.state) (news setup policies alloc kinds ready) in
     let carried : IsCarried new.state (new_session setup) = record {
       keeps = subst KeepsOn (sym is_new.state) (new_ones alloc setup.authority policies);
       early = new_early setup;
       own = new_own setup;
       theirs = theirs_begin setup;
-      greeted = greeted_begins setup;
+      prefaced = prefaced_begins setup;
       streams = streams_begin setup;
       reached = record { setup = setup; actions = []; does = refl };
       posted = tt;

@@ -5,9 +5,9 @@ use Rattle.std.specs.Option.{option_map, option_or}
 use Rattle.std.specs.Prelude.{option_and_then}
 use Rattle.channel_actions.proofs.Dues.{next_final_same}
 use Rattle.channel_actions.proofs.Moved.{agrees_moved}
-use Rattle.channel_actions.proofs.Quiet.{mapped_narrow, never, or_both_none, or_parts_none}
+use Rattle.channel_actions.proofs.Quiet.{mapped_restricted, never, or_both_none, or_parts_none}
 use Rattle.channel_actions.specs.Agrees.{Agrees}
-use Rattle.channel_actions.specs.Calm.{IsAt, IsCalm}
+use Rattle.channel_actions.specs.Quiescent.{IsAt, IsQuiescent}
 use Rattle.channel_actions.specs.Points.{Reaches}
 use Rattle.channel_core.specs.States.{StateSeen}
 use Rattle.grpc_base.specs.declared.address.Address.{Address}
@@ -93,18 +93,18 @@ no_both true true c e h = absurd (cc)
 no_both true false c e h = absurd (cc)
 no_both false b c e h = absurd (cc)
 
-request_narrow : (a l b m p : Bool) → p ≡ false → (a && (l || p)) ≡ true → (a && (l || (b && m))) ≡ true
-request_narrow a l b m true e h = absurd (cc)
-request_narrow true true b m false e h = refl
-request_narrow true false b m false e h = absurd (cc)
-request_narrow false l b m false e h = absurd (cc)
+request_restricted : (a l b m p : Bool) → p ≡ false → (a && (l || p)) ≡ true → (a && (l || (b && m))) ≡ true
+request_restricted a l b m true e h = absurd (cc)
+request_restricted true true b m false e h = refl
+request_restricted true false b m false e h = absurd (cc)
+request_restricted false l b m false e h = absurd (cc)
 
-retire_narrow : (a b p v w : Bool) → v ≡ false → (a && (b || (p && v))) ≡ true → (a && (b || (p && w))) ≡ true
-retire_narrow a b p true w e h = absurd (cc)
-retire_narrow true true p false w e h = refl
-retire_narrow true false true false w e h = absurd (cc)
-retire_narrow true false false false w e h = absurd (cc)
-retire_narrow false b p false w e h = absurd (cc)
+retire_restricted : (a b p v w : Bool) → v ≡ false → (a && (b || (p && v))) ≡ true → (a && (b || (p && w))) ≡ true
+retire_restricted a b p true w e h = absurd (cc)
+retire_restricted true true p false w e h = refl
+retire_restricted true false true false w e h = absurd (cc)
+retire_restricted true false false false w e h = absurd (cc)
+retire_restricted false b p false w e h = absurd (cc)
 
 -- what stays of each line
 module _ (st : Stage) (r : Option Reply) (o : OpenEntry) (s : Seen) (quiet : IsQuiet (restaged st r o)) where
@@ -119,9 +119,9 @@ module _ (st : Stage) (r : Option Reply) (o : OpenEntry) (s : Seen) (quiet : IsQ
       = ap (option_map (λ (c : Call). action.CallEnds c.number ending.Cancelled))
       (never (is_cancelled p) s.calls (λ c e. no_and (is_open_call c) (is_after_event p) (cancels o.event c.number) (quiet.cancelled c.number) e)) in
       let request : next_ended ending.Request (has_long_request p (with_open p s)) (with_open p s) ≡ None
-      = mapped_narrow (λ (c : Call). action.CallEnds c.number ending.Request) (λ (c : Call). action.CallEnds c.number ending.Request)
+      = mapped_restricted (λ (c : Call). action.CallEnds c.number ending.Request) (λ (c : Call). action.CallEnds c.number ending.Request)
       (has_long_request p (with_open p s)) (has_long_request o (with_open o s)) s.calls
-      (λ c e. request_narrow (is_open_call c) (list_any (λ m. is_too_long m c s) c.messages) (is_after_event o) (sends_too_long o.event c (with_open o s))
+      (λ c e. request_restricted (is_open_call c) (list_any (λ m. is_too_long m c s) c.messages) (is_after_event o) (sends_too_long o.event c (with_open o s))
       (is_after_event p && sends_too_long o.event c (with_open p s)) (quiet.sent c (with_open p s)) e) n.1.1.1.1.1.1.0 in
       let after = n.1.1.1.1.1.1.1 in
       none_all (lines_of_calls p (with_open p s)) (n.0, (n.1.0, (n.1.1.0, (n.1.1.1.0, (final, (cancelled, (request, after)))))))
@@ -133,9 +133,9 @@ module _ (st : Stage) (r : Option Reply) (o : OpenEntry) (s : Seen) (quiet : IsQ
   policies_stay h =
       let n = all_none (lines_of_policies o (with_open o s)) h in
       let retired : next_retired p (with_open p s) ≡ None
-      = mapped_narrow (λ (g : PolicyUse). action.PolicyRetired g.number) (λ (g : PolicyUse). action.PolicyRetired g.number)
+      = mapped_restricted (λ (g : PolicyUse). action.PolicyRetired g.number) (λ (g : PolicyUse). action.PolicyRetired g.number)
       (is_to_retire p (with_open p s)) (is_to_retire o (with_open o s)) s.policies
-      (λ g e. retire_narrow (is_live_policy g) s.shut (is_pending g) (holds (λ (k : Kind). is_other_kind k g) (wanted_kind p (with_open p s)))
+      (λ g e. retire_restricted (is_live_policy g) s.shut (is_pending g) (holds (λ (k : Kind). is_other_kind k g) (wanted_kind p (with_open p s)))
       (holds (λ (k : Kind). is_other_kind k g) (wanted_kind o (with_open o s))) (ap (holds (λ (k : Kind). is_other_kind k g)) unwanted) e) n.1.0 in
       let begun : next_begun p (with_open p s) ≡ None = ap (option_and_then (begin_if (with_open p s))) unwanted in
       let given : next_given p (with_open p s) ≡ None
@@ -146,8 +146,8 @@ module _ (st : Stage) (r : Option Reply) (o : OpenEntry) (s : Seen) (quiet : IsQ
       let after = n.1.1.1.1 in
       none_all (lines_of_policies p (with_open p s)) (n.0, (retired, (begun, (given, after))))
 
-  pub calm_stays : IsCalm o (with_open o s) → IsCalm p (with_open p s)
-  calm_stays c = record { calls = calls_stay c.calls; links = c.links; policies = policies_stay c.policies }
+  pub quiescent_stays : IsQuiescent o (with_open o s) → IsQuiescent p (with_open p s)
+  quiescent_stays c = record { calls = calls_stay c.calls; links = c.links; policies = policies_stay c.policies }
 
 -- what the resolver answered bears on no line
 sends_same : (o : OpenEntry) (s : Seen) (answered wants : Bool) (c : Call) (e : Event)
@@ -155,15 +155,15 @@ sends_same : (o : OpenEntry) (s : Seen) (answered wants : Bool) (c : Call) (e : 
 sends_same o s answered wants c (event.Send call message) = refl
 sends_same o s answered wants c _ = refl
 
-pub calm_answered : (o : OpenEntry) (s : Seen) (answered wants : Bool) → IsCalm o (with_open o s)
-    → IsCalm o (with_open o (record s { answered = answered; wants = wants }))
-calm_answered o s answered wants c =
+pub quiescent_answered : (o : OpenEntry) (s : Seen) (answered wants : Bool) → IsQuiescent o (with_open o s)
+    → IsQuiescent o (with_open o (record s { answered = answered; wants = wants }))
+quiescent_answered o s answered wants c =
     let n = all_none (lines_of_calls o (with_open o s)) c.calls in
     let final : next_final (with_open o (record s { answered = answered; wants = wants })) ≡ None
     = next_final_same (with_open o s) s.entries (Some o) answered wants s.links ∙ n.1.1.1.1.0 in
     let request : next_ended ending.Request (has_long_request o (with_open o (record s { answered = answered; wants = wants })))
     (with_open o (record s { answered = answered; wants = wants })) ≡ None
-    = mapped_narrow (λ (c : Call). action.CallEnds c.number ending.Request) (λ (c : Call). action.CallEnds c.number ending.Request)
+    = mapped_restricted (λ (c : Call). action.CallEnds c.number ending.Request) (λ (c : Call). action.CallEnds c.number ending.Request)
     (has_long_request o (with_open o (record s { answered = answered; wants = wants }))) (has_long_request o (with_open o s)) s.calls
     (λ k e. sym (ap (λ (b : Bool). is_open_call k && (list_any (λ m. is_too_long m k s) k.messages || (is_after_event o && b))) (sends_same o s answered wants k o.event)) ∙ e)
     n.1.1.1.1.1.1.0 in
@@ -202,20 +202,20 @@ module _ (x : StateSeen) (o : OpenEntry) (s : Seen) (h : Agrees x s) (at : IsAt 
   pub after_is : after action.SettlingBegins s ≡ with_open (in_settling o) s
   after_is = ap (λ (c : Option OpenEntry). after_if c action.SettlingBegins s) at.current ∙ settling_is
 
-  calm_open : IsCalm o (with_open o s)
-  calm_open = subst (IsCalm o) (is_with_open o s at.current) at.calm
+  quiescent_open : IsQuiescent o (with_open o s)
+  quiescent_open = subst (IsQuiescent o) (is_with_open o s at.current) at.quiescent
 
   stage_gives : of_stage o s o.stage ≡ Some action.SettlingBegins
   stage_gives = ap (of_stage o s) at.stage_is ∙ ap (λ (f : Option Action). option_or f (Some action.SettlingBegins)) rest
 
   in_gives : following_in s o ≡ Some action.SettlingBegins
-  in_gives = follows_by (of_calls o s) (of_links o s) (of_policies o s) (of_stage o s o.stage) action.SettlingBegins at.calm.calls at.calm.links at.calm.policies stage_gives
+  in_gives = follows_by (of_calls o s) (of_links o s) (of_policies o s) (of_stage o s o.stage) action.SettlingBegins at.quiescent.calls at.quiescent.links at.quiescent.policies stage_gives
 
   pub follows : following s ≡ Some action.SettlingBegins
   follows = ap (option_and_then (following_in s)) at.current ∙ in_gives
 
-  pub calm_after : IsCalm (in_settling o) (with_open (in_settling o) s)
-  calm_after = calm_stays stage.Settling o.reply o s (record { cancelled = λ n. refl; sent = λ c z. refl; result = refl }) calm_open
+  pub quiescent_after : IsQuiescent (in_settling o) (with_open (in_settling o) s)
+  quiescent_after = quiescent_stays stage.Settling o.reply o s (record { cancelled = λ n. refl; sent = λ c z. refl; result = refl }) quiescent_open
 
   agrees_open : Agrees x (with_open o s)
   agrees_open = subst (Agrees x) (is_with_open o s at.current) h
@@ -229,7 +229,7 @@ module _ (x : StateSeen) (o : OpenEntry) (s : Seen) (h : Agrees x s) (at : IsAt 
       does = (follows, sym after_is);
       posts = refl;
       same = record { moment = refl; word = refl; event = refl; entries = refl; setup = refl };
-      at = record { current = refl; stage_is = refl; calm = calm_after };
+      at = record { current = refl; stage_is = refl; quiescent = quiescent_after };
       agrees = reopened x o (in_settling o) s refl refl refl agrees_open;
     };
     reply = refl;

@@ -5,7 +5,7 @@ use Rattle.channel_actions.proofs.Idleness.Settlings.{idle_settlings}
 use Rattle.channel_actions.proofs.Refusing.{refused_events, ticks}
 use Rattle.channel_actions.proofs.Timely.{in_time}
 use Rattle.channel_actions.specs.Agrees.{Agrees}
-use Rattle.channel_actions.specs.Calm.{IsAt}
+use Rattle.channel_actions.specs.Quiescent.{IsAt}
 use Rattle.channel_actions.specs.Cases.{DoesSomething, HasDue, HasOverdue, does_something, has_due}
 use Rattle.channel_actions.specs.HeldTexts.Fits.{TextsFit}
 use Rattle.channel_actions.specs.Known.{IsKnown}

@@ -5,7 +5,7 @@ use Rattle.std.specs.List.{list_all}
 use Rattle.std.specs.Option.{option_map}
 use Rattle.std.specs.Prelude.{map}
 use Rattle.channel_actions.proofs.Opening.{stamp}
-use Rattle.channel_actions.specs.KeptSessions.Kept.{AreCounted}
+use Rattle.channel_actions.specs.KeptSessions.Kept.{NumbersCountUp}
 use Rattle.session_actions.specs.Words.{numbered}
 use Rattle.session_actions.specs.declared.link.Link.{Link}
 
@@ -26,13 +26,13 @@ map_same_some f g same None = refl
 map_same_some f g same (Some x) = ap (λ (y : _). Some y) (same x)
 
 -- things that are numbered by their places
-counted_from : {X : Type 0} (f : X → ℕ) (xs : List X) (n i : ℕ) (x : X) → AreCounted (suc n) (map f xs) → slice_get xs i ≡ Some x → f x ≡ suc (n + i)
+counted_from : {X : Type 0} (f : X → ℕ) (xs : List X) (n i : ℕ) (x : X) → NumbersCountUp (suc n) (map f xs) → slice_get xs i ≡ Some x → f x ≡ suc (n + i)
 counted_from f [] n i x h e = absurd (cc)
 counted_from f (y ∷ xs) n zero x h e =
     let one : x ≡ y = (cc) in ap f one ∙ h.0 ∙ (let up : suc n ≡ suc (n + 0) = omega arith in up)
 counted_from f (y ∷ xs) n (suc i) x h e = counted_from f xs (suc n) i x h.1 e ∙ (let up : suc (suc n + i) ≡ suc (n + suc i) = omega arith in up)
 
-pub counted_at : {X : Type 0} (f : X → ℕ) (xs : List X) (n : ℕ) (x : X) → AreCounted 1 (map f xs) → numbered xs n ≡ Some x → f x ≡ n
+pub counted_at : {X : Type 0} (f : X → ℕ) (xs : List X) (n : ℕ) (x : X) → NumbersCountUp 1 (map f xs) → numbered xs n ≡ Some x → f x ≡ n
 counted_at f xs zero x h e = absurd (cc)
 counted_at f xs (suc i) x h e = counted_from f xs 0 i x h e ∙ (let up : suc (0 + i) ≡ suc i = omega arith in up)
 

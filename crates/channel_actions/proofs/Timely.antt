@@ -6,7 +6,7 @@ use Rattle.channel_actions.proofs.Idleness.Calls.{equal_moment, filter_none_at}
 use Rattle.channel_actions.proofs.Outstanding.{any_of, same_self}
 use Rattle.channel_actions.specs.Agrees.{Agrees}
 use Rattle.channel_actions.specs.Calls.{deadline_of}
-use Rattle.channel_actions.specs.Sets.{AreExactly, is_in_deadlines}
+use Rattle.channel_actions.specs.Sets.{PairsAreExactly, is_in_deadlines}
 use Rattle.channel_actions.specs.Stages.{DeadlinesOf}
 use Rattle.channel_actions.specs.Cases.{IsInTime}
 use Rattle.channel_core.proofs.Idling.{none_overdue}
@@ -43,7 +43,7 @@ module _ (x : StateSeen) (s : Seen) (h : Agrees x s) (timely : next_deadline s �
   deadline_not m n None e is = absurd (cc)
   deadline_not m n (Some c) e is = by_open c m (is_open_call c) refl is (filter_none_at (is_past_deadline s) s.calls n c none_past e)
 
-  first_not : (deadlines : List (ℕ × ℕ)) → AreExactly deadlines (is_in_deadlines s) → None ≡ first_due deadlines x.book.moment
+  first_not : (deadlines : List (ℕ × ℕ)) → PairsAreExactly deadlines (is_in_deadlines s) → None ≡ first_due deadlines x.book.moment
   first_not [] exact = refl
   first_not (t ∷ ts) exact =
       let in_set : is_in_deadlines s t.0 t.1 ≡ true = sym (exact.exact t.0 t.1) ∙ any_of (is_same t) (t ∷ ts) 0 t refl (same_self t) in

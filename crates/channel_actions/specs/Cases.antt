@@ -1,7 +1,7 @@
 -- The cases of events and of settlings for which the stages are proved one by one.
 -- Example: a Send of call 9, which is not there, is refused; a Tick is none of the refused ones.
 use Rattle.std.specs.Prelude.{Bool, None, Some, [], false, is_none, is_some, true, ℕ, ◌∷◌, ◌≡◌, ◌||◌, ◌⊎◌}
-use Rattle.channel_actions.specs.Calm.{IsAt, IsCalm}
+use Rattle.channel_actions.specs.Quiescent.{IsAt, IsQuiescent}
 use Rattle.channel_core.specs.Applying as channel
 use Rattle.channel_core.specs.States.{StateSeen}
 use Rattle.channel_net.specs.Steps.{dial_refusal}
@@ -64,10 +64,10 @@ pub record IsPing (e : Event) (x : StateSeen) (s : Seen) : Type 0 where
   pub kept : channel.refusal_of e x ≡ None
 
 -- of the session alone: nothing follows at once from a PING that was queued
-abbrev pub PingsStayCalm : Type 0
-PingsStayCalm =
+abbrev pub PingsStayQuiescent : Type 0
+PingsStayQuiescent =
     (o : OpenEntry) (s : Seen) (link word : ℕ) → IsAt stage.Event o s → o.event ≡ event.Ping link word
-    → IsCalm (answered_done o) (record (owed (ping_frame word ∷ []) link s) { current = Some (answered_done o) })
+    → IsQuiescent (answered_done o) (record (owed (ping_frame word ∷ []) link s) { current = Some (answered_done o) })
 
 -- nothing is due: no line of the settling gives anything, but that the entry closes
 pub record IsIdle (x : StateSeen) (s : Seen) : Type 0 where

@@ -4,14 +4,14 @@
 use Rattle.std.specs.Prelude.{length, nat_lt, true, ◌≡◌}
 use Rattle.channel_actions.specs.FewCalls.Reached.{IsReached}
 use Rattle.channel_actions.specs.GoingCalls.Going.{CallsGoOn}
-use Rattle.channel_actions.specs.GreetedLinks.Greeted.{AreGreeted}
+use Rattle.channel_actions.specs.PrefacedLinks.Prefaced.{LinksArePrefaced}
 use Rattle.channel_actions.specs.KeptCalls.Early.{IsEarlyKept}
-use Rattle.channel_actions.specs.OwnLinks.Own.{AreOwnLinks}
-use Rattle.channel_actions.specs.OwnStreams.Own.{AreOwnStreams}
-use Rattle.channel_actions.specs.Posted.{ArePosted}
+use Rattle.channel_actions.specs.OwnLinks.Own.{LinksAreOwn}
+use Rattle.channel_actions.specs.OwnStreams.Own.{StreamsAreOwn}
+use Rattle.channel_actions.specs.Posted.{EventsArePosted}
 use Rattle.channel_actions.specs.SoundBuffers.Held.{BuffersAreSound}
-use Rattle.channel_actions.specs.SoundCalls.Sound.{AreSoundCalls}
-use Rattle.channel_actions.specs.TheirLinks.Theirs.{AreTheirs}
+use Rattle.channel_actions.specs.SoundCalls.Sound.{CallsAreSound}
+use Rattle.channel_actions.specs.TheirLinks.Theirs.{LinksAreTheirs}
 use Rattle.channel_core.specs.States.{StateSeen}
 use Rattle.grpc_base.specs.Kinds.{has_kind}
 use Rattle.grpc_base.specs.declared.kind.Kind.TheVariants as kind
@@ -23,19 +23,19 @@ pub record IsKnown (x : StateSeen) (s : Seen) : Type 0 where
   -- of the channel alone: each call that runs goes on, and makes no more attempts than its plan allows; and what it holds of its messages has a place for each of its
   -- rows
   pub going : CallsGoOn x
-  pub calls : AreSoundCalls x
+  pub calls : CallsAreSound x
   pub buffers : BuffersAreSound x
   -- of the session alone, beside `IsKept`: calls before their first attempt, resets of streams; links of subchannels are their own, and links that take further streams
   -- are; attempts are only on links with SETTINGS, and no two of a link have one stream
   pub early : IsEarlyKept s
-  pub own : AreOwnLinks s
-  pub theirs : AreTheirs s
-  pub greeted : AreGreeted s
-  pub streams : AreOwnStreams s
+  pub own : LinksAreOwn s
+  pub theirs : LinksAreTheirs s
+  pub prefaced : LinksArePrefaced s
+  pub streams : StreamsAreOwn s
   -- it began new, and so keeps what every list of actions keeps
   pub reached : IsReached s
   -- so numbers of calls and links do not end
   pub few : nat_lt (length s.entries) 1048576 ≡ true
   -- what was posted is what the types of an event allow, and pick_first is among the policies
-  pub posted : ArePosted (posted_in reached.actions)
+  pub posted : EventsArePosted (posted_in reached.actions)
   pub first : has_kind (kinds_in reached.setup.policies) kind.PickFirst ≡ true

@@ -6,8 +6,8 @@ use Rattle.std.specs.Global.{Global}
 use Rattle.channel_actions.specs.Cases.{DoesSomething, HasDue, HasOverdue, IsIdle, IsInTime, IsNoDial, IsPing, IsRefused, IsRefusedDial, IsTick, IsUnresolved}
 use Rattle.channel_actions.specs.HeldTexts.Fits.{TextsFit}
 use Rattle.channel_actions.specs.Known.{IsKnown}
-use Rattle.channel_actions.specs.Points.{Rests}
-use Rattle.channel_actions.specs.Posted.{ArePosted, IsPosted}
+use Rattle.channel_actions.specs.Points.{AtRest}
+use Rattle.channel_actions.specs.Posted.{EventsArePosted, IsPosted}
 use Rattle.channel_actions.specs.Stages.{DeadlinesOf, EventsAnswered, SettlingsOf}
 use Rattle.channel_core.specs.Applying.{new_state}
 use Rattle.channel_core.specs.Core.{CoreSeen, IsNewBy, Runs, ledger_in}
@@ -16,7 +16,7 @@ use Rattle.grpc_base.specs.declared.event.Entry.{Entry}
 use Rattle.grpc_base.specs.declared.event.Event.{Event}
 use Rattle.grpc_base.specs.declared.event.Stamped.{Stamped}
 use Rattle.lb_policy.specs.Table.{PolicySeen}
-use Rattle.net_actions.specs.Sees.{AreKinds}
+use Rattle.net_actions.specs.Sees.{KindsAgree}
 use Rattle.policy_rack.specs.Kinds.{are_ready}
 use Rattle.session_actions.specs.Entries.{journal_bytes}
 use Rattle.session_actions.specs.Laws.{posted_in}
@@ -34,8 +34,8 @@ HadRoom before (e ∷ entries) = (is_room before e.event ≡ true) × HadRoom (b
 -- a new channel agrees with a new session of its authority and its policies
 abbrev pub NewChannelsAgree : Type 0
 NewChannelsAgree =
-    (setup : Setup) (policies : List PolicySeen) (alloc : Global) → AreKinds setup.policies policies → are_ready policies ≡ true
-    → Rests (new_state alloc setup.authority policies) (new_session setup)
+    (setup : Setup) (policies : List PolicySeen) (alloc : Global) → KindsAgree setup.policies policies → are_ready policies ≡ true
+    → AtRest (new_state alloc setup.authority policies) (new_session setup)
 
 -- its journal and its ledger are those of a session of the same events
 pub record IsSession (setup : Setup) (events : List Stamped) (core : CoreSeen) : Type 0 where
@@ -44,8 +44,8 @@ pub record IsSession (setup : Setup) (events : List Stamped) (core : CoreSeen) :
 
 abbrev pub EveryRunIsASession : Type 0
 EveryRunIsASession =
-    (setup : Setup) (policies : List PolicySeen) (alloc : Global) (events : List Stamped) (new core : CoreSeen) → AreKinds setup.policies policies → are_ready policies ≡ true
-    → IsNewBy alloc setup.authority policies new → ArePosted events → Runs new events core → HadRoom [] core.journal.entries
+    (setup : Setup) (policies : List PolicySeen) (alloc : Global) (events : List Stamped) (new core : CoreSeen) → KindsAgree setup.policies policies → are_ready policies ≡ true
+    → IsNewBy alloc setup.authority policies new → EventsArePosted events → Runs new events core → HadRoom [] core.journal.entries
     → IsSession setup events core
 
 -- (the premises are what is left of the stages, where all is known that runs keep; the rest of each is proved below)

@@ -3,7 +3,7 @@ pub mod ActsFollowed
 pub mod Agrees
 pub mod BoardActions
 pub mod Calls
-pub mod Calm
+pub mod Quiescent
 pub mod Cases
 pub mod Clock
 pub mod Columns
@@ -14,7 +14,7 @@ pub mod DrainLends
 pub mod DrainWrites
 pub mod FewCalls
 pub mod GoingCalls
-pub mod GreetedLinks
+pub mod PrefacedLinks
 pub mod HeldTexts
 pub mod KeptCalls
 pub mod KeptSessions

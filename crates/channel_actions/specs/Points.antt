@@ -3,7 +3,7 @@
 -- Done, and settles. The two agree at each of these points.
 use Rattle.std.specs.Prelude.{List, None, [], map, ◌≡◌}
 use Rattle.channel_actions.specs.Agrees.{Agrees}
-use Rattle.channel_actions.specs.Calm.{AreCalm, IsAt}
+use Rattle.channel_actions.specs.Quiescent.{EntriesAreQuiescent, IsAt}
 use Rattle.channel_core.specs.States.{StateSeen}
 use Rattle.session_actions.specs.Closing.{noted_gone}
 use Rattle.session_actions.specs.Laws.{posted_in}
@@ -33,8 +33,8 @@ pub record Reaches (stage : Stage) (x : StateSeen) (o : OpenEntry) (s : Seen) : 
   pub agrees : Agrees x seen
 
 -- between two entries they agree, and each link that is gone is stamped so
-pub record Rests (x : StateSeen) (s : Seen) : Type 0 where
+pub record AtRest (x : StateSeen) (s : Seen) : Type 0 where
   pub between : s.current ≡ None
   pub agrees : Agrees x s
   pub noted : map (noted_gone s) s.links ≡ s.links
-  pub calm : AreCalm s
+  pub quiescent : EntriesAreQuiescent s

@@ -6,7 +6,7 @@ use Rattle.std.specs.Prelude.{List, None, Option, Some, false, if◌then◌else�
 use Rattle.grpc_link.specs.Links.{reader_in}
 use Rattle.grpc_link.specs.Readers.{ReaderSeen}
 use Rattle.grpc_link.specs.declared.readers.TagReader.{TagReader}
-use Rattle.link_actions.specs.Sees.{AreDistinct}
+use Rattle.link_actions.specs.Sees.{NumbersAreDistinct}
 use Rattle.session_actions.specs.Reading.{is_outstanding_on}
 use Rattle.session_actions.specs.Responses.{limit_of_attempt, response}
 use Rattle.session_actions.specs.Words.{numbered}
@@ -35,4 +35,4 @@ attempt_on l s row = option_and_then (λ a. if is_outstanding_on l a then Some a
 -- what a link reports of responses
 pub record SeesReaders (l : Link) (s : Seen) (readers : List TagReader) : Type 0 where
   pub each : (row : ℕ) → IsReaderOf s (attempt_on l s row) (reader_in row readers)
-  pub distinct : AreDistinct (map (λ t. t.tag) readers)
+  pub distinct : NumbersAreDistinct (map (λ t. t.tag) readers)

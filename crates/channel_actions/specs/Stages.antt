@@ -4,11 +4,11 @@
 -- EventRefused with CallEnded; `Settlings` has what is due.
 use Rattle.std.specs.Prelude.{None, Some, ℕ, length, max, ◌+◌, ◌≡◌}
 use Rattle.channel_actions.specs.Agrees.{Agrees}
-use Rattle.channel_actions.specs.Calm.{AreCalm, IsAt}
+use Rattle.channel_actions.specs.Quiescent.{EntriesAreQuiescent, IsAt}
 use Rattle.channel_actions.specs.HeldTexts.Fits.{TextsFit}
 use Rattle.channel_actions.specs.KeptSessions.Kept.{IsKept}
 use Rattle.channel_actions.specs.Known.{IsKnown}
-use Rattle.channel_actions.specs.Points.{Reaches, Rests}
+use Rattle.channel_actions.specs.Points.{Reaches, AtRest}
 use Rattle.channel_actions.specs.Posted.{IsPosted}
 use Rattle.channel_core.specs.Applying.{AnswersBy, begun_at, refusal_of}
 use Rattle.channel_core.specs.Settling.{settled}
@@ -29,7 +29,7 @@ use Rattle.session_actions.specs.declared.seen.Seen.{Seen}
 -- an entry opens: at the later of its moment and that of the entry before
 abbrev pub Openings : Type 0
 Openings =
-    (x : StateSeen) (s : Seen) (posted word : ℕ) (e : Event) → Rests x s
+    (x : StateSeen) (s : Seen) (posted word : ℕ) (e : Event) → AtRest x s
     → Agrees (begun_at (length s.entries + 1) (max (last_moment s) posted) word x) (opened posted word e s)
 
 -- the calls whose deadline has come end, the earliest first, until none is left
@@ -75,9 +75,9 @@ Settlings = SettlingsOf (λ x s. TextsFit x s × IsKnown x s)
 -- the entry is made, with the links that are gone stamped
 abbrev pub Closings : Type 0
 Closings =
-    (x : StateSeen) (o : OpenEntry) (s : Seen) → Agrees x s → IsAt stage.Settling o s → following s ≡ Some action.EntryCloses → Rests x (entry_made o s)
+    (x : StateSeen) (o : OpenEntry) (s : Seen) → Agrees x s → IsAt stage.Settling o s → following s ≡ Some action.EntryCloses → AtRest x (entry_made o s)
 
 -- of the session alone: where an entry that settled closes, nothing follows at once in the next one. (What a line gives hangs on neither the clock nor
 -- the stamp of a link; a reset and the answer of a pick are of their own entry.)
-abbrev pub ClosingsAreCalm : Type 0
-ClosingsAreCalm = (o : OpenEntry) (s : Seen) → IsAt stage.Settling o s → IsKept s → AreCalm (entry_made o s)
+abbrev pub ClosingsAreQuiescent : Type 0
+ClosingsAreQuiescent = (o : OpenEntry) (s : Seen) → IsAt stage.Settling o s → IsKept s → EntriesAreQuiescent (entry_made o s)

@@ -11,7 +11,7 @@ use link_actions::pings_are_actions;
 use net_actions::{
     new_nets_are_new_sessions, policy_steps_are_actions, subchannel_steps_are_actions,
 };
-use session_order::{calm_is_exact, entries_rest, links_stir};
+use session_order::{entries_rest, links_stir, quiescence_is_exact};
 
 /// A new channel agrees with a new session.
 pub fn new_channels_are_new_sessions()
@@ -25,7 +25,7 @@ pub fn entries_open_and_close()
     ensures opens { Openings }
     ensures closes { Closings }
 {
-    calm_is_exact();
+    quiescence_is_exact();
     entries_rest();
 }
 
@@ -45,7 +45,7 @@ pub fn plain_events_are_answered()
 pub fn pings_are_queued()
     ensures { PingsAreQueued }
 {
-    calm_is_exact();
+    quiescence_is_exact();
     links_stir();
     pings_are_actions();
 }

@@ -1,5 +1,5 @@
 // The frame of links; nothing runs.
-ghost use Rattle.channel_actions.specs.LinkFrames.Laws.{ActionsAreUntold, FewerTell, LinksStay, ListsAreUntold, NothingIsTold, OthersAgree, TellingsJoin};
+ghost use Rattle.channel_actions.specs.LinkFrames.Laws.{ActionsAreUntold, FewerDistinguish, LinksStay, ListsAreUntold, NothingIsReported, OthersAgree, DistinguishingJoins};
 
 /// Links that an action does not bear on agree with the session as before, with their streams, their readers and the lines that they are fed with; so all agree
 /// again where those that it bears on do.
@@ -8,11 +8,11 @@ pub fn links_stay()
     ensures all { LinksStay }
 {}
 
-/// An action cannot be told by the links on which it does not bear, nor can a list of actions.
+/// An action cannot be distinguished by the links on which it does not bear, nor can a list of actions.
 pub fn actions_are_untold()
-    ensures nothing { NothingIsTold }
-    ensures joins { TellingsJoin }
-    ensures fewer { FewerTell }
+    ensures nothing { NothingIsReported }
+    ensures joins { DistinguishingJoins }
+    ensures fewer { FewerDistinguish }
     ensures action { ActionsAreUntold }
     ensures list { ListsAreUntold }
 {}

@@ -7,21 +7,21 @@ use Rattle.grpc_base.specs.declared.event.Entry.{Entry}
 use Rattle.grpc_base.specs.declared.event.Event.{Event}
 use Rattle.grpc_base.specs.declared.event.Event.TheVariants as event
 use Rattle.client_calls.specs.Entries.{is_step, others_in}
-use Rattle.live_channel.specs.Handles.{AreGiven, Closes, IsFresh, IsKept, IsOne, IsStarted, Keeper, Leaves, Shuts, Splits, StandInOrder, TakesIn, keepers_in, owns_of, seats_in}
+use Rattle.live_channel.specs.Handles.{DialersAreGiven, Closes, IsFresh, IsKept, IsOne, IsStarted, Keeper, Leaves, Shuts, Splits, StandInOrder, TakesIn, keepers_in, owns_of, seats_in}
 use Rattle.live_channel.specs.Keeping.{KeepsDone}
 use Rattle.live_channel.specs.Sharing.{IsOfCall, times_in}
-use Rattle.live_channel.specs.Told.{TellsTarget}
+use Rattle.live_channel.specs.Report.{ReportsTarget}
 use Rattle.live_channel.specs.declared.linkers.Linkers.{Linkers}
 use Rattle.live_channel.proofs.KeepLaws.{one_still}
 use Rattle.live_channel.proofs.OwnLaws.{each_snoc, each_unmap}
-use Rattle.live_channel.proofs.SeatLaws.{left_by, told_stays}
+use Rattle.live_channel.proofs.SeatLaws.{left_by, reported_stays}
 use Rattle.live_channel.proofs.ShareLaws.{closes_taken}
 use Rattle.live_run.specs.declared.link_job.LinkJob.{LinkJob}
 use Rattle.live_run.specs.declared.outcome.Outcome.{Outcome}
 use Rattle.resolver_core.specs.declared.any_target.Target.{Target}
 use Rattle.shared_channel.specs.Turns.{entries_of, share_of}
 use Rattle.turn_lock.specs.History.{LockId, SeatSeen, StartsWith, times}
-use Rattle.channel_client.specs.Jobs.{AreOfCalls, ClientsDone, IsClient, JobDone, LeavesClients, ShowsOwn, from_last, works_of}
+use Rattle.channel_client.specs.Jobs.{EntriesAreOfCalls, ClientsDone, IsClient, JobDone, LeavesClients, ShowsOwn, from_last, works_of}
 use Rattle.channel_client.specs.declared.clients.Clients.{Clients}
 use Rattle.channel_client.specs.declared.job.ClientJob.{ClientJob}
 
@@ -102,9 +102,9 @@ works_done : {H J : Type 0} (seat_of : H → SeatSeen Entry) (shows : J → List
 works_done seat_of shows lock [] all = tt
 works_done seat_of shows lock (job ∷ jobs) all = zip_snoc (ShowsOwn shows) (works_of jobs) (owns_back seat_of jobs) job.work (seat_of job.post).own (works_done seat_of shows lock jobs all.1) all.0.does
 
-works_calls : {H J : Type 0} (seat_of : H → SeatSeen Entry) (shows : J → List Entry → Type 0) (lock : LockId) (jobs : List (ClientJob H J)) → AllByRecursion (IsClient seat_of shows lock) jobs → AllByRecursion AreOfCalls (owns_back seat_of jobs)
+works_calls : {H J : Type 0} (seat_of : H → SeatSeen Entry) (shows : J → List Entry → Type 0) (lock : LockId) (jobs : List (ClientJob H J)) → AllByRecursion (IsClient seat_of shows lock) jobs → AllByRecursion EntriesAreOfCalls (owns_back seat_of jobs)
 works_calls seat_of shows lock [] all = tt
-works_calls seat_of shows lock (job ∷ jobs) all = each_snoc AreOfCalls (owns_back seat_of jobs) (seat_of job.post).own (works_calls seat_of shows lock jobs all.1) all.0.calls
+works_calls seat_of shows lock (job ∷ jobs) all = each_snoc EntriesAreOfCalls (owns_back seat_of jobs) (seat_of job.post).own (works_calls seat_of shows lock jobs all.1) all.0.calls
 
 -- ---- from the last one on
 
@@ -141,7 +141,7 @@ owns_long : {H J : Type 0} (seat_of : H → SeatSeen Entry) (jobs : List (Client
 owns_long seat_of [] = refl
 owns_long seat_of (job ∷ jobs) = ap suc (owns_long seat_of jobs)
 
--- the Shutdown behind the work
+-- the Shutdown after the work
 pub clients_done : {H J : Type 0} (seat_of : H → SeatSeen Entry) (shows : J → List Entry → Type 0) (before after : Clients H J) (mid : SeatSeen Entry) (did : List (ClientJob H J)) → length did ≡ length before.jobs.items
     → AllByRecursion (IsClient seat_of shows (seat_of before.closer).lock) did → (after.is_whole ≡ true → after.done.items ≡ before.done.items ++ works_of did) → TakesIn (seat_of before.closer) (owns_of (map (λ j. seat_of j.post) did)) mid
     → Shuts after.outcome mid (seat_of after.closer) → ClientsDone seat_of shows before after
@@ -190,7 +190,7 @@ kept_beside seat_of shows coming links l before after keeps clients fresh =
 
 -- what a run left of a handle of which others were split off before
 pub left_clients : {H J : Type 0} (seat_of : H → SeatSeen Entry) (shows : J → List Entry → Type 0) (lock : LockId) (held : List (Option (List (List ℕ)))) (config : Option (List ℕ)) (o : Outcome) (beside : ℕ) (keepers : List Keeper) (before after : Clients H J) (links others : List (SeatSeen Entry)) (seat mid out : SeatSeen Entry)
-    → AreGiven held config keepers seat → IsStarted lock links seat → Splits seat others mid → seat_of before.closer ≡ mid → length before.jobs.items ≡ length others → beside ≡ length links → after.is_whole ≡ true → before.done.items ≡ [] → ClientsDone seat_of shows before after
+    → DialersAreGiven held config keepers seat → IsStarted lock links seat → Splits seat others mid → seat_of before.closer ≡ mid → length before.jobs.items ≡ length others → beside ≡ length links → after.is_whole ≡ true → before.done.items ≡ [] → ClientsDone seat_of shows before after
     → out.lock ≡ (seat_of after.closer).lock → out.parts ≡ (seat_of after.closer).parts + beside
     → ((owns : List (List (ℕ × Entry))) (seen : List Entry) (own : List (ℕ × Entry)) → Closes after.outcome owns seen own (seat_of after.closer) → Leaves o keepers owns seen own out) → LeavesClients shows lock held config o after.done.items out
 left_clients seat_of shows lock held config o beside keepers before after links others seat mid out given started splits same mine all whole none clients locks parts leaves = record {
@@ -201,13 +201,13 @@ left_clients seat_of shows lock held config o beside keepers before after links 
       (let made = clients.parts in omega (arith, parts, made, mine, all)) (leaves clients.owns (seat_of before.closer).seen (seat_of before.closer).own clients.closes);
 }
 
--- the same of a run over a world, which tells what its dialers hold
-pub left_world : {J E : Type 0} {V : Type 0} (shows : J → List Entry → Type 0) (items : V → List J) (lock : LockId) (held told : List (Option (List (List ℕ)))) (config : Option (List ℕ)) (keepers : List Keeper) (seat : SeatSeen Entry) (result : Result (SeatSeen Entry × Outcome × V) E) → held ≡ told → AreGiven held config keepers seat
-    → IfOk result (λ r. (h : List (Option (List (List ℕ)))) (g : Option (List ℕ)) → AreGiven h g keepers seat → LeavesClients shows lock h g r.1 (items r.2) r.0) → IfOk result (λ r. LeavesClients shows lock told config r.1 (items r.2) r.0)
-left_world shows items lock held told config keepers seat (Ok r) same given left = subst (λ (h : List (Option (List (List ℕ)))). LeavesClients shows lock h config r.1 (items r.2) r.0) same (left held config given)
-left_world shows items lock held told config keepers seat (Err e) same given left = tt
+-- the same of a run over a world, which reports what its dialers hold
+pub left_world : {J E : Type 0} {V : Type 0} (shows : J → List Entry → Type 0) (items : V → List J) (lock : LockId) (held reported : List (Option (List (List ℕ)))) (config : Option (List ℕ)) (keepers : List Keeper) (seat : SeatSeen Entry) (result : Result (SeatSeen Entry × Outcome × V) E) → held ≡ reported → DialersAreGiven held config keepers seat
+    → IfOk result (λ r. (h : List (Option (List (List ℕ)))) (g : Option (List ℕ)) → DialersAreGiven h g keepers seat → LeavesClients shows lock h g r.1 (items r.2) r.0) → IfOk result (λ r. LeavesClients shows lock reported config r.1 (items r.2) r.0)
+left_world shows items lock held reported config keepers seat (Ok r) same given left = subst (λ (h : List (Option (List (List ℕ)))). LeavesClients shows lock h config r.1 (items r.2) r.0) same (left held config given)
+left_world shows items lock held reported config keepers seat (Err e) same given left = tt
 
--- and what was told stays so of a handle that has seen all that
-pub told_client : {X Y E : Type 0} (t : Target) (config : Option (List ℕ)) (seat : SeatSeen Entry) (result : Result (SeatSeen Entry × X × Y) E) → TellsTarget t config seat.seen → IfOk result (λ r. StartsWith r.0.seen seat.seen) → IfOk result (λ r. TellsTarget t config r.0.seen)
-told_client t config seat (Ok r) told sees = told_stays t config r.0.seen seat.seen sees told
-told_client t config seat (Err e) told sees = tt
+-- and what was reported stays so of a handle that has seen all that
+pub reported_client : {X Y E : Type 0} (t : Target) (config : Option (List ℕ)) (seat : SeatSeen Entry) (result : Result (SeatSeen Entry × X × Y) E) → ReportsTarget t config seat.seen → IfOk result (λ r. StartsWith r.0.seen seat.seen) → IfOk result (λ r. ReportsTarget t config r.0.seen)
+reported_client t config seat (Ok r) reported sees = reported_stays t config r.0.seen seat.seen sees reported
+reported_client t config seat (Err e) reported sees = tt

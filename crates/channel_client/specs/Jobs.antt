@@ -1,5 +1,5 @@
 -- Between the functions of this crate: what the work of a program did to its handles. The promises of the crate name `ShowsOwn` and
--- `AreOfCalls` alone.
+-- `EntriesAreOfCalls` alone.
 use Rattle.std.specs.Prelude.{◌≡◌, ℕ, ◌+◌, true, Option, List, [], ◌∷◌, ◌++◌, length}
 use Rattle.std.specs.List.{AllByRecursion, AllZip}
 use Rattle.grpc_base.specs.declared.event.Entry.{Entry}
@@ -13,8 +13,8 @@ use Rattle.channel_client.specs.declared.clients.Clients.{Clients}
 use Rattle.channel_client.specs.declared.job.ClientJob.{ClientJob}
 
 -- entries of applications
-abbrev pub AreOfCalls : List (ℕ × Entry) → Type 0
-AreOfCalls own = AllByRecursion (λ p. IsOfCall p.1.event) own
+abbrev pub EntriesAreOfCalls : List (ℕ × Entry) → Type 0
+EntriesAreOfCalls own = AllByRecursion (λ p. IsOfCall p.1.event) own
 
 -- what work says, when it is done, of the entries of its handle
 abbrev pub ShowsOwn : {J : Type 0} → (J → List Entry → Type 0) → J → List (ℕ × Entry) → Type 0
@@ -29,7 +29,7 @@ pub record JobDone {H J : Type 0} (made : H → List Entry) (share : H → List 
 -- work that was done, with its handle
 pub record IsClient {H J : Type 0} (seat_of : H → SeatSeen Entry) (shows : J → List Entry → Type 0) (lock : LockId) (job : ClientJob H J) : Type 0 where
   pub one : IsOne lock (seat_of job.post)
-  pub calls : AreOfCalls (seat_of job.post).own
+  pub calls : EntriesAreOfCalls (seat_of job.post).own
   pub does : ShowsOwn shows job.work (seat_of job.post).own
 
 -- a list from the last one on
@@ -47,12 +47,12 @@ pub record ClientsDone {H J : Type 0} (seat_of : H → SeatSeen Entry) (shows : 
   pub parts : (seat_of after.closer).parts ≡ (seat_of before.closer).parts + length before.jobs.items
   pub owns : List (List (ℕ × Entry))
   pub done : after.is_whole ≡ true → before.done.items ≡ [] → AllZip (ShowsOwn shows) after.done.items owns
-  pub calls : AllByRecursion AreOfCalls owns
+  pub calls : AllByRecursion EntriesAreOfCalls owns
   pub closes : Closes after.outcome owns (seat_of before.closer).seen (seat_of before.closer).own (seat_of after.closer)
 
--- the handle that a run leaves beside workers of the first of these dialers, and where addresses were told with this config; and the work that was done
+-- the handle that a run leaves beside workers of the first of these dialers, and where addresses were reported with this config; and the work that was done
 pub record LeavesClients {J : Type 0} (shows : J → List Entry → Type 0) (lock : LockId) (held : List (Option (List (List ℕ)))) (config : Option (List ℕ)) (o : Outcome) (works : List J) (seat : SeatSeen Entry) : Type 0 where
   pub owns : List (List (ℕ × Entry))
   pub done : AllZip (ShowsOwn shows) works owns
-  pub calls : AllByRecursion AreOfCalls owns
+  pub calls : AllByRecursion EntriesAreOfCalls owns
   pub left : IsLeft lock held config o owns seat

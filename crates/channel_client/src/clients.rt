@@ -1,4 +1,4 @@
-// All work of a program, and the handle through which the channel is shut down behind it.
+// All work of a program, and the handle through which the channel is shut down after it.
 ghost use Rattle.std.specs.Prelude.{◌≡◌, ◌<◌, ◌++◌, ◌∷◌, [], ℕ, length, map, slice_index_or, true};
 ghost use Rattle.std.specs.List.{AllByRecursion};
 ghost use Rattle.live_channel.specs.Handles.{IsFresh, IsOne, TakesIn, owns_of};
@@ -21,7 +21,7 @@ use std::thread::{Threads, for_each_mut};
 /// The most threads in which work is done.
 const WORKERS: usize = 1024;
 
-/// The work with its handles, the work that was done, and the handle through which the channel is shut down behind it.
+/// The work with its handles, the work that was done, and the handle through which the channel is shut down after it.
 #[derive(Drop)]
 pub struct Clients<H, J> {
     pub jobs: Vec<ClientJob<H, J>>,
@@ -39,7 +39,7 @@ impl<
     D: Draws,
     J: ClientWork + Send + Drop,
 > Clients<ChannelSeat<'_, P, R, C, D>, J> {
-    /// Does the work, takes in the handles, and shuts the channel down: behind all entries that the closer then has seen, so behind those of
+    /// Does the work, takes in the handles, and shuts the channel down: after all entries that the closer then has seen, so after those of
     /// the work.
     pub(crate) fn run(&mut self, rt: &R)
         requires fresh { AllByRecursion (IsFresh self.old.closer.seat.lock) (map (λ j. j.post.seat) self.old.jobs.items) }

@@ -21,7 +21,7 @@ pub struct ChannelOptions {
 /// How a run over a channel ended.
 #[derive(Clone, Copy, Debug, PartialEq, Eq)]
 pub enum Ended {
-    /// The work was done, and the channel was shut down behind it.
+    /// The work was done, and the channel was shut down after it.
     Shut,
     /// The session had no room for an event of the channel itself, or there was no memory for one. The calls that were open then were
     /// answered so.

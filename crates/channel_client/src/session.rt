@@ -1,12 +1,12 @@
 // One channel for all work of a program, from its opening to its report.
 ghost use Rattle.std.specs.Prelude.{◌≡◌, ◌≤◌, IfOk, length, map, true};
 ghost use Rattle.live_channel.specs.Handles.{IsFirstSeat};
-ghost use Rattle.live_channel.specs.Told.{TellsTarget};
+ghost use Rattle.live_channel.specs.Report.{ReportsTarget};
 ghost use Rattle.policy_rack.specs.Kinds.{are_ready};
 ghost use Rattle.resolver_core.specs.AnyTargets.{IsTarget};
 ghost use Rattle.session_text.specs.Writing.{WritesAll};
 ghost use Rattle.channel_client.specs.Jobs.{LeavesClients};
-ghost use Rattle.channel_client.specs.Sessions.{AreDone, IsClientReport};
+ghost use Rattle.channel_client.specs.Sessions.{WorksAreDone, IsClientReport};
 
 use crate::options::{ChannelOptions, Ended};
 use crate::run::run_beside;
@@ -16,7 +16,7 @@ use gate_io::{Sink, World};
 use grpc_base::{NoMemory, Octets, Text};
 use keepalive_core::KeepRule;
 use lb_policy::Balancer;
-use live_channel::{Bench, open_channel, ran_of, report_channel, start_links};
+use live_channel::{WorkerContext, open_channel, ran_of, report_channel, start_links};
 use live_run::Outcome;
 use resolver_core::Target;
 use script_text::ReportFault;
@@ -35,7 +35,7 @@ struct Keeping {
 }
 
 /// Opens a channel for a target over this world with these policies, does all work over it, each in a thread of its own with a handle
-/// of its own, shuts the channel down behind it, joins everything, and gives the work back. May never return.
+/// of its own, shuts the channel down after it, joins everything, and gives the work back. May never return.
 pub fn run_clients<
     R: Threads + Wait + Sync,
     P: Balancer + Send,
@@ -52,7 +52,7 @@ pub fn run_clients<
     requires ready { are_ready (map P.seen policies.items) ≡ true }
     requires target { IsTarget options.target }
     requires few { length works.items ≤ 1024 }
-    ensures done { IfOk result (λ r. AreDone J.shows r.0.items) }
+    ensures done { IfOk result (λ r. WorksAreDone J.shows r.0.items) }
 {
     let ChannelOptions {
         target,
@@ -78,7 +78,7 @@ fn ended_of(outcome: Outcome) -> Ended {
 }
 
 /// The same, and writes the report of the session, whose first line has `name` for the target; where the session had no room for an
-/// event of the channel itself, a line behind it says so.
+/// event of the channel itself, a line after it says so.
 pub fn record_clients<
     R: Threads + Wait + Sync,
     P: Balancer + Send,
@@ -98,7 +98,7 @@ pub fn record_clients<
     requires ready { are_ready (map P.seen policies.items) ≡ true }
     requires target { IsTarget options.target }
     requires few { length works.items ≤ 1024 }
-    ensures recorded { IfOk result (λ r. AreDone J.shows r.0.items × IfOk r.1 (λ ran. WritesAll (IsClientReport J.shows (map P.seen policies.items) (W.held world) ran options.target options.config name.now r.0.items) (K.taken report.old) (K.taken report.new))) }
+    ensures recorded { IfOk result (λ r. WorksAreDone J.shows r.0.items × IfOk r.1 (λ ran. WritesAll (IsClientReport J.shows (map P.seen policies.items) (W.held world) ran options.target options.config name.now r.0.items) (K.taken report.old) (K.taken report.new))) }
 {
     let ChannelOptions {
         target,
@@ -140,11 +140,11 @@ fn run_world<
     requires seat { IsFirstSeat channel.now seat }
     requires few { length works.items ≤ 1024 }
     ensures left { IfOk result (λ r. LeavesClients J.shows channel.now (W.held world) config r.1 r.2.items r.0) }
-    ensures told { IfOk result (λ r. TellsTarget target config r.0.seen) }
+    ensures reported { IfOk result (λ r. ReportsTarget target config r.0.seen) }
 {
     let lookup = world.lookup();
     let (clock, mut draws, dialers) = world.parts(keeping.seed);
-    let bench = Bench {
+    let context = WorkerContext {
         rt,
         alloc,
         channel,
@@ -152,6 +152,6 @@ fn run_world<
         nets: keeping.nets,
         keep: keeping.keep,
     };
-    let (seat, links) = start_links(&bench, seat, &mut draws, dialers, lookup, target, config)?;
-    run_beside(&bench, seat, draws, works, links)
+    let (seat, links) = start_links(&context, seat, &mut draws, dialers, lookup, target, config)?;
+    run_beside(&context, seat, draws, works, links)
 }

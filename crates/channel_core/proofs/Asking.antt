@@ -12,7 +12,7 @@ use Rattle.channel_core.specs.Arrivals.{sent_to}
 use Rattle.channel_core.specs.Books.{slot_at}
 use Rattle.channel_core.specs.CallEvents.{acted_by, all_acted_by, asks, reply_by}
 use Rattle.channel_core.specs.States.{StateSeen}
-use Rattle.channel_core.specs.Steps.{all_made, all_timed_out, all_unconfigured, closed, made_one, pick_failed, sealed, timed_out, told_to, unqueued}
+use Rattle.channel_core.specs.Steps.{all_made, all_timed_out, all_unconfigured, closed, made_one, pick_failed, sealed, timed_out, reported_to, unqueued}
 use Rattle.channel_core.specs.Tables.{cancel_reply_of, send_reply_of}
 use Rattle.channel_core.specs.Timing.{number_of}
 use Rattle.channel_core.specs.declared.state.call_event.CallEvent.{CallEvent}
@@ -32,8 +32,8 @@ all_made_by [] s = refl
 all_made_by (key ∷ calls) s = all_made_by calls (made_one (number_of key) s)
 
 -- a failed pick is the end of an attempt that found no link
-pub pick_told : (number row : ℕ) (s : StateSeen) → sealed (told_to number row (news.Ended row (own_end code.Unavailable cause.Pick 0)) (unqueued number row s)) ≡ pick_failed number row s
-pick_told number row s = refl
+pub pick_reported : (number row : ℕ) (s : StateSeen) → sealed (reported_to number row (news.Ended row (own_end code.Unavailable cause.Pick 0)) (unqueued number row s)) ≡ pick_failed number row s
+pick_reported number row s = refl
 
 -- what is answered where there is no such call, and where there is one
 pub asked_none : (e : CallEvent) (o : Option CallSlot) → o ≡ None → reply.Done ≡ reply_by e o
@@ -51,8 +51,8 @@ asked_some event.Deadline o x is = refl
 asked_some event.Due o x is = refl
 
 pub asked_reply : {T E : Type 0} (read : T → Reply) (e : CallEvent) (o : Option CallSlot) (x : CallSlot) (r : Result T E) → o ≡ Some x → IfOk r (λ v. read v ≡ asks e x.call) → IfOk r (λ v. read v ≡ reply_by e o)
-asked_reply read e o x (Ok v) is told = told ∙ asked_some e o x is
-asked_reply read e o x (Err f) is told = told
+asked_reply read e o x (Ok v) is reported = reported ∙ asked_some e o x is
+asked_reply read e o x (Err f) is reported = reported
 
 -- a message that an application sends is shared and not copied
 pub send_applied : {E : Type 0} (r : Result Reply E) (shared message : List ℕ) (number : ℕ) (s t : StateSeen) → shared ≡ message → OnOk r (t ≡ acted_by (event.Send shared) number s)

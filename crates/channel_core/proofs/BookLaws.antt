@@ -1,4 +1,4 @@
--- What the book lends links: both sizes of a header list, and the lines behind the bytes that a link takes.
+-- What the book lends links: both sizes of a header list, and the lines after the bytes that a link takes.
 use Rattle.std.proofs.Common.{◌≡◌, ◌∙◌, ◌≤◌, ℕ, zero, suc, ◌+◌, ◌==◌, Bool, true, false, nat_lt, if◌then◌else◌, List, [], ◌∷◌, length, drop, refl, sym, ap, inl, inr, subst, slice_get, slice_set, Option, Some, None, Result, Ok, Err, IfOk, OnOk, OnErr}
 use Rattle.std.specs.Option.{option_map, option_map_or}
 use Rattle.std.proofs.Math.Path.{fun_ext}
@@ -35,14 +35,14 @@ called f slot = with_call (f slot.call) slot
 abbrev fed_slot : ℕ → ℕ → CallSlot → CallSlot
 fed_slot row len = called (fed_call row len)
 
-put_behind : (f : CallState → CallState) (x : CallSlot) (calls : List CallSlot) (k : ℕ) (o : Option CallSlot) → changed_call_at f (x ∷ calls) (suc k) o ≡ x ∷ changed_call_at f calls k o
-put_behind f x calls k None = refl
-put_behind f x calls k (Some slot) = refl
+put_after : (f : CallState → CallState) (x : CallSlot) (calls : List CallSlot) (k : ℕ) (o : Option CallSlot) → changed_call_at f (x ∷ calls) (suc k) o ≡ x ∷ changed_call_at f calls k o
+put_after f x calls k None = refl
+put_after f x calls k (Some slot) = refl
 
 put_there : (f : CallState → CallState) (calls : List CallSlot) (k : ℕ) → changed_call_at f calls k (slice_get calls k) ≡ changed (called f) calls k
 put_there f [] k = refl
 put_there f (x ∷ calls) zero = refl
-put_there f (x ∷ calls) (suc k) = put_behind f x calls k (slice_get calls k) ∙ ap (λ l. x ∷ l) (put_there f calls k)
+put_there f (x ∷ calls) (suc k) = put_after f x calls k (slice_get calls k) ∙ ap (λ l. x ∷ l) (put_there f calls k)
 
 put_on : (f : CallState → CallState) (calls : List CallSlot) (o : Option ℕ) → changed_call_on f calls o ≡ option_map_or (λ i. changed (called f) calls i) o calls
 put_on f calls None = refl
@@ -51,7 +51,7 @@ put_on f calls (Some k) = put_there f calls k
 pub put_call : (f : CallState → CallState) (calls : List CallSlot) (n : ℕ) → changed_call f calls n ≡ changed_at (called f) calls n
 put_call f calls n = put_on f calls (index_at n (length calls))
 
--- the element of a number, behind a change at one
+-- the element of a number, after a change at one
 pub got_changed : {X : Type 0} (f : X → X) (xs : List X) (k : ℕ) → slice_get (changed f xs k) k ≡ option_map f (slice_get xs k)
 got_changed f [] k = refl
 got_changed f (x ∷ xs) zero = refl
@@ -121,7 +121,7 @@ head_shown : (row len call : ℕ) (b : Book) (o : Option Row) → head_of (recor
 head_shown row len call b None = refl
 head_shown row len call b (Some r) = shown (head_for b r) row len b.calls call r.call (head_fed row len b r)
 
--- what every row of a call has still to send, behind a feed of one
+-- what every row of a call has still to send, after a feed of one
 abbrev LeftAfter : ℕ → ℕ → Option CallSlot → Option CallSlot → Type 0
 LeftAfter row len old new = (t : ℕ) → left_at t new ≡ (if t == row then drop len (left_at row old) else left_at t old)
 

@@ -18,10 +18,10 @@ use Rattle.channel_core.specs.Steps as step
 use Rattle.channel_core.specs.Steps.{chosen_in, configured_by, is_gone, next_word, overdue_ended, with_ask, with_generations, with_ledger_links}
 use Rattle.channel_core.proofs.FairNews.{IsFair}
 use Rattle.channel_core.proofs.Going as going
-use Rattle.channel_core.proofs.Going.{Goes}
+use Rattle.channel_core.proofs.Going.{IsLocalActionInvariant}
 pub use Rattle.channel_core.proofs.Going.{Begins, ComesUp, Configures, Holds, changed_length, with_book}
 
-pub record Carries (R : StateSeen → StateSeen → Type 0) : Type 0 where
+pub record IsActionInvariant (R : StateSeen → StateSeen → Type 0) : Type 0 where
   pub joined : (s t u : StateSeen) → R s t → R t u → R s u
   -- what leaves the book, the config that is held and the number of links, and opens no channel that was shut
   pub beside : (s t : StateSeen) → t.book ≡ s.book → t.held ≡ s.held → length t.links ≡ length s.links → (s.shut ≡ true → t.shut ≡ true) → R s t
@@ -30,7 +30,7 @@ pub record Carries (R : StateSeen → StateSeen → Type 0) : Type 0 where
   pub closed : (why : EndCause) (number : ℕ) (s : StateSeen) → is_by_row why ≡ false → R s (with_book (book_asked (call.closed_by why s.book.moment) number s.book).book s)
   pub sent : (message : List ℕ) (number : ℕ) (s : StateSeen) → R s (with_book (book_asked (call.sent message s.book.moment) number s.book).book s)
   pub made : (number : ℕ) (s : StateSeen) → R s (with_book (book_asked (call.made_due s.book.moment) number s.book).book s)
-  pub heard : (row : ℕ) (told : News) (number : ℕ) (s : StateSeen) → IsFair told → R s (with_book (book_acted (call.heard_news row told s.book.moment (next_word s)) number s.book).book s)
+  pub handled : (row : ℕ) (reported : News) (number : ℕ) (s : StateSeen) → IsFair reported → R s (with_book (book_acted (call.received_news row reported s.book.moment (next_word s)) number s.book).book s)
   pub failed : (row number : ℕ) (s : StateSeen) → R s (with_book (book_acted (call.pick_failed row s.book.moment (next_word s)) number s.book).book s)
   pub placed : (row : ℕ) (at : Placed) (number : ℕ) (s : StateSeen) → at.entry ≡ s.book.ledger.entry → at.moment ≡ s.book.moment → R s (with_book (book_placed row at number s.book).book s)
   pub finished : (number : ℕ) (s : StateSeen) → R s (with_book (book_finished number s.book) s)
@@ -48,7 +48,7 @@ pub record Carries (R : StateSeen → StateSeen → Type 0) : Type 0 where
   pub retired : (number : ℕ) (s : StateSeen) → R s (with_generations (changed_at (retired_generation s.book.ledger.entry) s.book.ledger.generations number) s)
 
 -- a weaker relation
-pub weaken : (R Q : StateSeen → StateSeen → Type 0) → ((s t : StateSeen) → R s t → Q s t) → ((s t u : StateSeen) → Q s t → Q t u → Q s u) → Carries R → Carries Q
+pub weaken : (R Q : StateSeen → StateSeen → Type 0) → ((s t : StateSeen) → R s t → Q s t) → ((s t u : StateSeen) → Q s t → Q t u → Q s u) → IsActionInvariant R → IsActionInvariant Q
 weaken R Q less joined c = record {
   joined = joined;
   beside = λ s t book held links shut. less s t (c.beside s t book held links shut);
@@ -56,7 +56,7 @@ weaken R Q less joined c = record {
   closed = λ why number s by. less s _ (c.closed why number s by);
   sent = λ message number s. less s _ (c.sent message number s);
   made = λ number s. less s _ (c.made number s);
-  heard = λ row told number s fair. less s _ (c.heard row told number s fair);
+  handled = λ row reported number s fair. less s _ (c.handled row reported number s fair);
   failed = λ row number s. less s _ (c.failed row number s);
   placed = λ row at number s entry moment. less s _ (c.placed row at number s entry moment);
   finished = λ number s. less s _ (c.finished number s);
@@ -80,14 +80,14 @@ Carried R (event.Resolved addresses text) = Holds R text
 Carried R e = Unit {0}
 
 -- it holds without what applications send and finish and what links take
-pub goes : (R : StateSeen → StateSeen → Type 0) → Carries R → Goes R
+pub goes : (R : StateSeen → StateSeen → Type 0) → IsActionInvariant R → IsLocalActionInvariant R
 goes R c = record {
   joined = c.joined;
   beside = c.beside;
   timed_out = c.timed_out;
   closed = c.closed;
   made = c.made;
-  heard = c.heard;
+  handled = c.handled;
   failed = c.failed;
   placed = c.placed;
   taken = c.taken;
@@ -101,7 +101,7 @@ goes R c = record {
   retired = c.retired;
 }
 
-module _ (R : StateSeen → StateSeen → Type 0) (c : Carries R) where
+module _ (R : StateSeen → StateSeen → Type 0) (c : IsActionInvariant R) where
   pub same : (s : StateSeen) → R s s
   same s = going.same R (goes R c) s
 

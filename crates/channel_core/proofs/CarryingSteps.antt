@@ -16,7 +16,7 @@ use Rattle.channel_core.specs.Settling as settling
 use Rattle.channel_core.specs.Settling.{passed, rounds}
 use Rattle.channel_core.specs.States.{StateSeen}
 use Rattle.channel_core.specs.Tables.{DrainGives}
-use Rattle.channel_core.proofs.Carrying.{Carried, Carries, Configures, goes, same, with_book, changed_length}
+use Rattle.channel_core.proofs.Carrying.{Carried, IsActionInvariant, Configures, goes, same, with_book, changed_length}
 use Rattle.channel_core.proofs.Going.{Gone}
 use Rattle.channel_core.proofs.GoingSteps as going
 use Rattle.h2_link.specs.Feeds.{Line}
@@ -28,7 +28,7 @@ drained_length : (room : ℕ) (links : List LinkSlot) (link : ℕ) (lines : ℕ 
 drained_length room links link lines None after lines_after g = ap length g.1
 drained_length room links link lines (Some d) after lines_after g = ap length g.is ∙ changed_length (λ slot. g.after) links link
 
-module _ (R : StateSeen → StateSeen → Type 0) (c : Carries R) where
+module _ (R : StateSeen → StateSeen → Type 0) (c : IsActionInvariant R) where
   -- a drain
   feed_all : (feeds : List (ℕ × ℕ)) (s : StateSeen) → R s (with_book (all_fed feeds s.book) s)
   feed_all [] s = same R c s

@@ -1,5 +1,4 @@
--- What news tell of the ends of attempts: no end is a cut, one that a transparent retry may follow asks for nothing, and each has the shape of its
--- cause.
+-- What news report of the ends of attempts: no end is a cut, and one that a transparent retry may follow asks for nothing.
 use Rattle.std.proofs.Common.{◌≡◌, ℕ, ◌==◌, Bool, true, false, ◌&&◌, if◌then◌else◌, Option, Some, None, IfSome, List, [], ◌∷◌, ◌++◌, map, refl, ap, subst}
 use Rattle.std.proofs.lemmas.Bool.{eqb-true}
 use Rattle.std.specs.BTreeMap.{insert_entry}
@@ -25,27 +24,24 @@ use Rattle.grpc_meta.specs.ResponseFields.{shown_of, values_of}
 use Rattle.grpc_status.specs.StatusMaps.{http_codes, looked_up, reset_codes}
 use Rattle.h2_link.specs.Status.{http_status, is_interim}
 use Rattle.grpc_base.specs.ErrorCodes.{cancel, refused_stream}
-use Rattle.h2_link.specs.Heard.{heard}
+use Rattle.h2_link.specs.Received.{handled}
 use Rattle.h2_link.specs.Steps.{cut}
 use Rattle.h2_link.specs.declared.news.LinkNews.{LinkNews}
 use Rattle.h2_link.specs.declared.news.LinkNews.TheVariants as link
 use Rattle.grpc_link.specs.Ends.{end_with, framing_end, http_code, is_head, is_ok, reset_end, status_end, status_end_by, unseen_end, http_end}
 use Rattle.grpc_link.specs.Links as links
-use Rattle.grpc_link.specs.Links.{GrpcSeen, Told, found, told_all, told_by, told_of, with_reader}
+use Rattle.grpc_link.specs.Links.{GrpcSeen, Report, found, reported_all, reported_by, reported_of, with_reader}
 use Rattle.grpc_link.specs.Readers.{ReaderSeen, Stepped, data_by, headers_by, read_on, stepped}
 use Rattle.grpc_link.specs.Response.{comes_head, data_end, data_large, end_before_head, end_gained, headers_end, large_gained, message_news, trailers_end}
 use Rattle.call_core.specs.Parts.{is_followed}
 use Rattle.call_core.specs.declared.attempts.Attempts.{Attempts}
 use Rattle.channel_core.specs.declared.state.links.LinkSlot.{LinkSlot}
-use Rattle.channel_core.specs.EndShapes.{IsShaped}
 use Rattle.channel_core.specs.Steps.{end_kept, ends_kept, loss}
-use Rattle.channel_core.specs.Tables.{heard_at, heard_by, hears_at}
-use Rattle.channel_core.proofs.ToldEnds.{IsToldSo}
+use Rattle.channel_core.specs.Tables.{received_at, received_by, receives_at}
 
 pub record IsFairEnd (end : EndNews) : Type 0 where
   pub own : is_cut end.cause ≡ false
   pub asks : (a : Attempts) → is_followed a end.cause end.unseen ≡ true → is_stop end.pushback ≡ false
-  pub shaped : IsToldSo IsShaped end
 
 abbrev pub IsFair : News → Type 0
 IsFair (news.Ended tag end) = IsFairEnd end
@@ -54,46 +50,18 @@ IsFair _ = Unit {0}
 abbrev pub AreFair : List News → Type 0
 AreFair ns = AllByRecursion IsFair ns
 
--- no table names OK, and a stream that is refused is UNAVAILABLE
-pick_ok : (b : Bool) (x y : Code) → is_ok x ≡ false → is_ok y ≡ false → is_ok (if b then x else y) ≡ false
-pick_ok true x y first second = first
-pick_ok false x y first second = second
-
-never_ok : (rows : List (ℕ × Code)) (number : ℕ) → AllByRecursion (λ row. is_ok row.1 ≡ false) rows → is_ok (looked_up rows number) ≡ false
-never_ok [] number all = refl
-never_ok (row ∷ rows) number all = pick_ok (row.0 == number) row.1 (looked_up rows number) all.0 (never_ok rows number all.1)
-
-http_fails : (status : Option ℕ) → is_ok (option_map_or (λ s. looked_up http_codes s) status code.Unknown) ≡ false
-http_fails None = refl
-http_fails (Some status) = never_ok http_codes status (refl, (refl, (refl, (refl, (refl, (refl, (refl, (refl, tt))))))))
-
-reset_fails : (number : ℕ) → is_ok (looked_up reset_codes number) ≡ false
-reset_fails number = never_ok reset_codes number (refl, (refl, (refl, (refl, (refl, (refl, (refl, (refl, (refl, (refl, (refl, (refl, tt))))))))))))
-
-refused_by : (b other : Bool) (number : ℕ) → (number == refused_stream) ≡ b → b && other ≡ true → looked_up reset_codes number ≡ code.Unavailable
-refused_by true other number same e = ap (λ (n : ℕ). looked_up reset_codes n) (eqb-true number refused_stream same)
-refused_by false other number same e = absurd (let no : ⊥ = (cc) in no)
-
 fair_reset : (has_head : Bool) (number seen : ℕ) → IsFairEnd (reset_end has_head number seen)
-fair_reset has_head number seen = record {
-  own = refl;
-  asks = λ a e. refl;
-  shaped = λ entry moment tokens word. record {
-    bare = record { text = refl; meta = refl; pushback = refl };
-    fails = reset_fails number;
-    refused = λ e. refused_by (number == refused_stream) (if has_head then false else true) number refl e;
-  };
-}
+fair_reset has_head number seen = record { own = refl; asks = λ a e. refl }
 
 -- ends
 fair_http : (asks : Pushback) (fields : List Field) (seen : ℕ) → IsFairEnd (end_with (http_code fields) cause.Http asks fields seen)
-fair_http asks fields seen = record { own = refl; asks = λ a e. absurd (let no : ⊥ = (cc) in no); shaped = λ entry moment tokens word. (http_fails (http_status fields), refl) }
+fair_http asks fields seen = record { own = refl; asks = λ a e. absurd (let no : ⊥ = (cc) in no) }
 
 fair_status : (c : Code) (asks : Pushback) (fields : List Field) (seen : ℕ) → IsFairEnd (end_with c cause.Status asks fields seen)
-fair_status c asks fields seen = record { own = refl; asks = λ a e. absurd (let no : ⊥ = (cc) in no); shaped = λ entry moment tokens word. refl }
+fair_status c asks fields seen = record { own = refl; asks = λ a e. absurd (let no : ⊥ = (cc) in no) }
 
 fair_framing : (ends : Bool) (fields : List Field) (seen : ℕ) → IsFairEnd (framing_end ends fields seen)
-fair_framing ends fields seen = record { own = refl; asks = λ a e. absurd (let no : ⊥ = (cc) in no); shaped = λ entry moment tokens word. (refl, refl) }
+fair_framing ends fields seen = record { own = refl; asks = λ a e. absurd (let no : ⊥ = (cc) in no) }
 
 fair_values : (values : List (List ℕ)) (fields : List Field) (seen : ℕ) → IsFairEnd (status_end_by values fields seen)
 fair_values [] fields seen = fair_http _ fields seen
@@ -101,12 +69,12 @@ fair_values (v ∷ []) fields seen = fair_status _ _ fields seen
 fair_values (v ∷ w ∷ values) fields seen = fair_status _ _ fields seen
 
 fair_unseen : (opened : Bool) (seen : ℕ) → IsFairEnd (unseen_end opened seen)
-fair_unseen true seen = record { own = refl; asks = λ a e. refl; shaped = λ entry moment tokens word. record { bare = record { text = refl; meta = refl; pushback = refl }; code_is = refl; unseen_is = refl } }
-fair_unseen false seen = record { own = refl; asks = λ a e. refl; shaped = λ entry moment tokens word. record { bare = record { text = refl; meta = refl; pushback = refl }; code_is = refl; unseen_is = refl } }
+fair_unseen true seen = record { own = refl; asks = λ a e. refl }
+fair_unseen false seen = record { own = refl; asks = λ a e. refl }
 
 pub fair_loss : (was_sent : Bool) (seen : ℕ) → IsFairEnd (loss was_sent seen)
-fair_loss true seen = record { own = refl; asks = λ a e. refl; shaped = λ entry moment tokens word. record { bare = record { text = refl; meta = refl; pushback = refl }; code_is = refl; unseen_is = refl } }
-fair_loss false seen = record { own = refl; asks = λ a e. refl; shaped = λ entry moment tokens word. record { bare = record { text = refl; meta = refl; pushback = refl }; code_is = refl; unseen_is = refl } }
+fair_loss true seen = record { own = refl; asks = λ a e. refl }
+fair_loss false seen = record { own = refl; asks = λ a e. refl }
 
 if_end : (b : Bool) (x y : EndNews) → IsFairEnd x → IsFairEnd y → IsFairEnd (if b then x else y)
 if_end true x y first second = first
@@ -122,8 +90,8 @@ fair_status_end fields seen = fair_values (values_of (codes "grpc-status") field
 fair_trailers : (whole : Bool) (fields : List Field) (seen : ℕ) → IsFairEnd (trailers_end whole fields seen)
 fair_trailers whole fields seen = if_end _ (framing_end true fields seen) (status_end fields seen) (fair_framing true fields seen) (fair_status_end fields seen)
 
-fair_behind : (whole : Bool) (fields : List Field) (ends : Bool) (seen : ℕ) → IsFairEnd (if ends then trailers_end whole fields seen else framing_end ends fields seen)
-fair_behind whole fields ends seen = if_end ends (trailers_end whole fields seen) (framing_end ends fields seen) (fair_trailers whole fields seen) (fair_framing ends fields seen)
+fair_after : (whole : Bool) (fields : List Field) (ends : Bool) (seen : ℕ) → IsFairEnd (if ends then trailers_end whole fields seen else framing_end ends fields seen)
+fair_after whole fields ends seen = if_end ends (trailers_end whole fields seen) (framing_end ends fields seen) (fair_trailers whole fields seen) (fair_framing ends fields seen)
 
 fair_before : (fields : List Field) (ends : Bool) (seen : ℕ) → IfSome (end_before_head fields ends seen) IsFairEnd
 fair_before fields ends seen =
@@ -132,13 +100,13 @@ fair_before fields ends seen =
     (if_option (is_head fields) None _ tt (if_option _ (Some (framing_end ends fields seen)) (Some (http_end fields seen)) (fair_framing ends fields seen) (fair_http _ fields seen))))
 
 fair_headers : (has_head whole : Bool) (fields : List Field) (ends : Bool) (seen : ℕ) → IfSome (headers_end has_head whole fields ends seen) IsFairEnd
-fair_headers true whole fields ends seen = fair_behind whole fields ends seen
+fair_headers true whole fields ends seen = fair_after whole fields ends seen
 fair_headers false whole fields ends seen = fair_before fields ends seen
 
 fair_data : (f : Option MessageFault) (ends : Bool) (seen : ℕ) → IfSome (data_end f ends seen) IsFairEnd
-fair_data (Some fault.BadFlag) ends seen = record { own = refl; asks = λ a e. refl; shaped = λ entry moment tokens word. (refl, refl) }
+fair_data (Some fault.BadFlag) ends seen = record { own = refl; asks = λ a e. refl }
 fair_data (Some (fault.TooLarge len)) ends seen = tt
-fair_data None true seen = record { own = refl; asks = λ a e. refl; shaped = λ entry moment tokens word. (refl, refl) }
+fair_data None true seen = record { own = refl; asks = λ a e. refl }
 fair_data None false seen = tt
 
 -- lists of news
@@ -177,7 +145,7 @@ fair_read : (r : ReaderSeen) (tag : ℕ) (n : LinkNews) → AreFair (read_on r t
 fair_read r tag (link.Fields t fields ends seen) = fair_by r tag fields seen (headers_end r.head (frame.is_whole r.messages) fields ends seen) (fair_headers r.head (frame.is_whole r.messages) fields ends seen)
 fair_read r tag (link.Data t bytes ends seen) = fair_given r tag (frame.given r.messages bytes) ends seen
 fair_read r tag (link.Reset t number seen) = (fair_reset r.head number seen, tt)
-fair_read r tag (link.Fault t number seen) = (record { own = refl; asks = λ a e. refl; shaped = λ entry moment tokens word. (refl, refl) }, tt)
+fair_read r tag (link.Fault t number seen) = (record { own = refl; asks = λ a e. refl }, tt)
 fair_read r tag (link.Unseen t seen) = (fair_unseen r.opened seen, tt)
 fair_read r tag link.Ready = tt
 fair_read r tag link.Retiring = tt
@@ -187,39 +155,39 @@ fair_step : (r : ReaderSeen) (tag : ℕ) (n : LinkNews) → AreFair (stepped r t
 fair_step r tag n = news_if r.over (record { reader = r; news = [] }) (read_on r tag n) tt (fair_read r tag n)
 
 -- a link
-told_if : (b : Bool) (x y : Told) → AreFair x.news → AreFair y.news → AreFair (if b then x else y).news
-told_if true x y first second = first
-told_if false x y first second = second
+reported_if : (b : Bool) (x y : Report) → AreFair x.news → AreFair y.news → AreFair (if b then x else y).news
+reported_if true x y first second = first
+reported_if false x y first second = second
 
-fair_by_step : (g : GrpcSeen) (tag : ℕ) (s : Stepped) → AreFair s.news → AreFair (told_by g tag s).news
+fair_by_step : (g : GrpcSeen) (tag : ℕ) (s : Stepped) → AreFair s.news → AreFair (reported_by g tag s).news
 fair_by_step g tag s fair =
-    told_if s.reader.over (record { link = record g { link = record g.link { wire = cut g.link.wire tag cancel } }; news = s.news }) (record { link = record g { readers = with_reader tag s.reader g.readers }; news = s.news }) fair fair
+    reported_if s.reader.over (record { link = record g { link = record g.link { wire = cut g.link.wire tag cancel } }; news = s.news }) (record { link = record g { readers = with_reader tag s.reader g.readers }; news = s.news }) fair fair
 
-fair_of : (g : GrpcSeen) (tag : ℕ) (n : LinkNews) (o : Option (ℕ × ReaderSeen)) → AreFair (told_of g tag n o).news
+fair_of : (g : GrpcSeen) (tag : ℕ) (n : LinkNews) (o : Option (ℕ × ReaderSeen)) → AreFair (reported_of g tag n o).news
 fair_of g tag n None = tt
 fair_of g tag n (Some x) = fair_by_step (record g { readers = remove g.readers x.0 }) tag (stepped x.1 tag n) (fair_step x.1 tag n)
 
-fair_told : (g : GrpcSeen) (n : LinkNews) → AreFair (links.told g n).news
-fair_told g link.Ready = (tt, tt)
-fair_told g link.Retiring = (tt, tt)
-fair_told g (link.Broken code) = (tt, tt)
-fair_told g (link.Fields tag fields end seen) = fair_of g tag (link.Fields tag fields end seen) (found tag g.readers)
-fair_told g (link.Data tag bytes end seen) = fair_of g tag (link.Data tag bytes end seen) (found tag g.readers)
-fair_told g (link.Reset tag code seen) = fair_of g tag (link.Reset tag code seen) (found tag g.readers)
-fair_told g (link.Fault tag code seen) = fair_of g tag (link.Fault tag code seen) (found tag g.readers)
-fair_told g (link.Unseen tag seen) = fair_of g tag (link.Unseen tag seen) (found tag g.readers)
+fair_reported : (g : GrpcSeen) (n : LinkNews) → AreFair (links.reported g n).news
+fair_reported g link.Ready = (tt, tt)
+fair_reported g link.Retiring = (tt, tt)
+fair_reported g (link.Broken code) = (tt, tt)
+fair_reported g (link.Fields tag fields end seen) = fair_of g tag (link.Fields tag fields end seen) (found tag g.readers)
+fair_reported g (link.Data tag bytes end seen) = fair_of g tag (link.Data tag bytes end seen) (found tag g.readers)
+fair_reported g (link.Reset tag code seen) = fair_of g tag (link.Reset tag code seen) (found tag g.readers)
+fair_reported g (link.Fault tag code seen) = fair_of g tag (link.Fault tag code seen) (found tag g.readers)
+fair_reported g (link.Unseen tag seen) = fair_of g tag (link.Unseen tag seen) (found tag g.readers)
 
-fair_all : (g : GrpcSeen) (ns : List LinkNews) → AreFair (told_all g ns).news
+fair_all : (g : GrpcSeen) (ns : List LinkNews) → AreFair (reported_all g ns).news
 fair_all g [] = tt
-fair_all g (n ∷ ns) = fair_append (links.told g n).news (told_all (links.told g n).link ns).news (fair_told g n) (fair_all (links.told g n).link ns)
+fair_all g (n ∷ ns) = fair_append (links.reported g n).news (reported_all (links.reported g n).link ns).news (fair_reported g n) (fair_all (links.reported g n).link ns)
 
-fair_if : (hears : Bool) (slot : LinkSlot) (number : ℕ) (piece : List ℕ) (all : List LinkSlot) → IfSome (if hears then Some (heard_by slot number piece all) else None) (λ h. AreFair h.news)
-fair_if true slot number piece all = fair_all (record { link = (heard slot.link.link piece).link; readers = slot.link.readers }) (heard slot.link.link piece).news
+fair_if : (receives : Bool) (slot : LinkSlot) (number : ℕ) (piece : List ℕ) (all : List LinkSlot) → IfSome (if receives then Some (received_by slot number piece all) else None) (λ h. AreFair h.news)
+fair_if true slot number piece all = fair_all (record { link = (handled slot.link.link piece).link; readers = slot.link.readers }) (handled slot.link.link piece).news
 fair_if false slot number piece all = tt
 
-pub fair_heard : (number : ℕ) (piece : List ℕ) (all : List LinkSlot) (o : Option LinkSlot) → IfSome (heard_at o number piece all) (λ h. AreFair h.news)
-fair_heard number piece all None = tt
-fair_heard number piece all (Some slot) = fair_if (hears_at (Some slot)) slot number piece all
+pub fair_received : (number : ℕ) (piece : List ℕ) (all : List LinkSlot) (o : Option LinkSlot) → IfSome (received_at o number piece all) (λ h. AreFair h.news)
+fair_received number piece all None = tt
+fair_received number piece all (Some slot) = fair_if (receives_at (Some slot)) slot number piece all
 
 -- the ends among news, by the rows' places
 abbrev pub AreFairEnds : List (ℕ × EndNews) → Type 0
@@ -247,8 +215,8 @@ pub fair_ends : (ns : List News) (ends : List (ℕ × EndNews)) → AreFair ns �
 fair_ends [] ends fair all = all
 fair_ends (n ∷ ns) ends fair all = fair_ends ns (end_kept n ends) fair.1 (fair_kept n ends fair.0 all)
 
--- no end that is told is a cut
-pub own_ends : (told : News) → IsFair told → (tag : ℕ) (end : EndNews) → told ≡ news.Ended tag end → is_cut end.cause ≡ false
+-- no end that is reported is a cut
+pub own_ends : (reported : News) → IsFair reported → (tag : ℕ) (end : EndNews) → reported ≡ news.Ended tag end → is_cut end.cause ≡ false
 own_ends (news.Ended t x) fair tag end e = (let same : x ≡ end = (cc) in subst (λ (y : EndNews). is_cut y.cause ≡ false) same fair.own)
 own_ends news.Ready fair tag end e = absurd (let no : ⊥ = (cc) in no)
 own_ends news.Retiring fair tag end e = absurd (let no : ⊥ = (cc) in no)
@@ -258,7 +226,7 @@ own_ends (news.Message t octets seen) fair tag end e = absurd (let no : ⊥ = (c
 own_ends (news.TooLarge t seen) fair tag end e = absurd (let no : ⊥ = (cc) in no)
 
 -- an end that a transparent retry may follow forbids none
-pub asking_ends : (a : Attempts) (told : News) → IsFair told → (tag : ℕ) (end : EndNews) → told ≡ news.Ended tag end → is_followed a end.cause end.unseen ≡ true → is_stop end.pushback ≡ false
+pub asking_ends : (a : Attempts) (reported : News) → IsFair reported → (tag : ℕ) (end : EndNews) → reported ≡ news.Ended tag end → is_followed a end.cause end.unseen ≡ true → is_stop end.pushback ≡ false
 asking_ends a (news.Ended t x) fair tag end e = (let same : x ≡ end = (cc) in subst (λ (y : EndNews). is_followed a y.cause y.unseen ≡ true → is_stop y.pushback ≡ false) same (fair.asks a))
 asking_ends a news.Ready fair tag end e = absurd (let no : ⊥ = (cc) in no)
 asking_ends a news.Retiring fair tag end e = absurd (let no : ⊥ = (cc) in no)

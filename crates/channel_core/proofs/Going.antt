@@ -20,10 +20,10 @@ use Rattle.channel_core.specs.Steps.{chosen_in, configured_by, is_gone, next_wor
 use Rattle.grpc_base.specs.declared.event.Reply.{Reply}
 use Rattle.channel_core.proofs.FairNews.{IsFair}
 use Rattle.channel_core.proofs.Resting as resting
-use Rattle.channel_core.proofs.Resting.{Comes, Rests}
+use Rattle.channel_core.proofs.Resting.{Comes, IsQuietActionInvariant}
 pub use Rattle.channel_core.proofs.Resting.{Begins, ComesUp, Configures, Holds, changed_length, with_book}
 
-pub record Goes (R : StateSeen → StateSeen → Type 0) : Type 0 where
+pub record IsLocalActionInvariant (R : StateSeen → StateSeen → Type 0) : Type 0 where
   pub joined : (s t u : StateSeen) → R s t → R t u → R s u
   -- what leaves the book, the config that is held and the number of links, and opens no channel that was shut
   pub beside : (s t : StateSeen) → t.book ≡ s.book → t.held ≡ s.held → length t.links ≡ length s.links → (s.shut ≡ true → t.shut ≡ true) → R s t
@@ -31,7 +31,7 @@ pub record Goes (R : StateSeen → StateSeen → Type 0) : Type 0 where
   pub timed_out : (number : ℕ) (s : StateSeen) → R s (with_book (book_asked (call.timed_out s.book.moment) number s.book).book s)
   pub closed : (why : EndCause) (number : ℕ) (s : StateSeen) → is_by_row why ≡ false → R s (with_book (book_asked (call.closed_by why s.book.moment) number s.book).book s)
   pub made : (number : ℕ) (s : StateSeen) → R s (with_book (book_asked (call.made_due s.book.moment) number s.book).book s)
-  pub heard : (row : ℕ) (told : News) (number : ℕ) (s : StateSeen) → IsFair told → R s (with_book (book_acted (call.heard_news row told s.book.moment (next_word s)) number s.book).book s)
+  pub handled : (row : ℕ) (reported : News) (number : ℕ) (s : StateSeen) → IsFair reported → R s (with_book (book_acted (call.received_news row reported s.book.moment (next_word s)) number s.book).book s)
   pub failed : (row number : ℕ) (s : StateSeen) → R s (with_book (book_acted (call.pick_failed row s.book.moment (next_word s)) number s.book).book s)
   pub placed : (row : ℕ) (at : Placed) (number : ℕ) (s : StateSeen) → at.entry ≡ s.book.ledger.entry → at.moment ≡ s.book.moment → R s (with_book (book_placed row at number s.book).book s)
   pub taken : (number : ℕ) (s : StateSeen) → R s (with_book (book_taken number s.book) s)
@@ -56,7 +56,7 @@ Gone R (event.Drain link room) = (s t : StateSeen) (r : Reply) → DrainLeaves l
 Gone R e = Unit {0}
 
 -- without what comes on links, and that
-pub rests : (R : StateSeen → StateSeen → Type 0) → Goes R → Rests R
+pub rests : (R : StateSeen → StateSeen → Type 0) → IsLocalActionInvariant R → IsQuietActionInvariant R
 rests R c = record {
   joined = c.joined;
   beside = c.beside;
@@ -75,11 +75,11 @@ rests R c = record {
   retired = c.retired;
 }
 
-pub comes : (R : StateSeen → StateSeen → Type 0) → Goes R → Comes R
-comes R c = record { heard = c.heard; read = c.read }
+pub comes : (R : StateSeen → StateSeen → Type 0) → IsLocalActionInvariant R → Comes R
+comes R c = record { handled = c.handled; read = c.read }
 
 -- the events of both
-pub gone_with : (R : StateSeen → StateSeen → Type 0) → Goes R → (e : Event) → Gone R e → resting.Gone R e
+pub gone_with : (R : StateSeen → StateSeen → Type 0) → IsLocalActionInvariant R → (e : Event) → Gone R e → resting.Gone R e
 gone_with R c (event.Begin request) k = k
 gone_with R c (event.Send number message) k = k
 gone_with R c (event.Finish number) k = k
@@ -90,7 +90,7 @@ gone_with R c (event.Arrived link piece) k = λ s. resting.frames R (rests R c) 
 gone_with R c (event.LinkLost link) k = λ s. resting.lose R (rests R c) (comes R c) link true s
 gone_with R c e k = tt
 
-module _ (R : StateSeen → StateSeen → Type 0) (c : Goes R) where
+module _ (R : StateSeen → StateSeen → Type 0) (c : IsLocalActionInvariant R) where
   pub same : (s : StateSeen) → R s s
   same s = resting.same R (rests R c) s
 

@@ -10,10 +10,10 @@ use Rattle.channel_core.specs.Applying as applying
 use Rattle.channel_core.specs.Applying.{AnswersBy}
 use Rattle.channel_core.specs.Settling as settling
 use Rattle.channel_core.specs.States.{StateSeen}
-use Rattle.channel_core.proofs.Going.{Configures, Goes, Gone, gone_with, rests}
+use Rattle.channel_core.proofs.Going.{Configures, IsLocalActionInvariant, Gone, gone_with, rests}
 use Rattle.channel_core.proofs.RestingSteps as resting
 
-module _ (R : StateSeen → StateSeen → Type 0) (c : Goes R) where
+module _ (R : StateSeen → StateSeen → Type 0) (c : IsLocalActionInvariant R) where
   pub readdress : (kind : Option Kind) (addresses : List Address) (s : StateSeen) → R s (applying.readdressed_by kind addresses s)
   readdress kind addresses s = resting.readdress R (rests R c) kind addresses s
 

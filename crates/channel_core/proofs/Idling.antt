@@ -4,7 +4,7 @@ use Rattle.std.specs.Prelude.{if◌then◌else◌, is_some, nat_le}
 use Rattle.std.specs.Option.{option_eq}
 use Rattle.picker_gate.specs.Pairs.{first_due, next_moment}
 use Rattle.channel_core.specs.States.{StateSeen}
-use Rattle.channel_core.specs.Steps.{all_configured, all_unconfigured, bare_served, overdue_ended, round_made}
+use Rattle.channel_core.specs.Steps.{all_configured, all_unconfigured, unconfigured_served, overdue_ended, round_made}
 use Rattle.channel_core.specs.Timing.{due_keys, is_same_moment, later}
 
 -- both stand for one moment, or for none
@@ -42,18 +42,18 @@ none_of : (moment : ℕ) (timers : List (ℕ × ℕ)) → timers ≡ [] → (due
 none_of moment [] h = (refl, refl)
 none_of moment (t ∷ ts) h = absurd (cc h)
 
-served_if : (held unconfigured : Bool) (s : StateSeen) → s.bare ≡ [] → s.impatient ≡ [] →
-    (if held then all_configured (due_keys 0 s.bare) (record s { bare = later 0 s.bare; impatient = [] })
-    else if unconfigured then all_unconfigured (due_keys 0 s.impatient) (record s { impatient = later 0 s.impatient })
+served_if : (held unconfigured : Bool) (s : StateSeen) → s.awaiting_config ≡ [] → s.fail_fast ≡ [] →
+    (if held then all_configured (due_keys 0 s.awaiting_config) (record s { awaiting_config = later 0 s.awaiting_config; fail_fast = [] })
+    else if unconfigured then all_unconfigured (due_keys 0 s.fail_fast) (record s { fail_fast = later 0 s.fail_fast })
     else s) ≡ s
-served_if true unconfigured s bare impatient =
-    let none = none_of 0 s.bare bare in
-    rw (none.0, none.1) (ap (λ timers. record s { impatient = timers }) (sym impatient))
-served_if false true s bare impatient =
-    let none = none_of 0 s.impatient impatient in
+served_if true unconfigured s awaiting_config fail_fast =
+    let none = none_of 0 s.awaiting_config awaiting_config in
+    rw (none.0, none.1) (ap (λ timers. record s { fail_fast = timers }) (sym fail_fast))
+served_if false true s awaiting_config fail_fast =
+    let none = none_of 0 s.fail_fast fail_fast in
     rw (none.0, none.1) refl
-served_if false false s bare impatient = refl
+served_if false false s awaiting_config fail_fast = refl
 
-pub none_bare : (s : StateSeen) → None ≡ next_moment s.bare → None ≡ next_moment s.impatient → bare_served s ≡ s
-unfolding bare_served
-none_bare s bare impatient = served_if (is_some s.held) s.unconfigured s (no_timer s.bare bare) (no_timer s.impatient impatient)
+pub none_unconfigured : (s : StateSeen) → None ≡ next_moment s.awaiting_config → None ≡ next_moment s.fail_fast → unconfigured_served s ≡ s
+unfolding unconfigured_served
+none_unconfigured s awaiting_config fail_fast = served_if (is_some s.held) s.unconfigured s (no_timer s.awaiting_config awaiting_config) (no_timer s.fail_fast fail_fast)

@@ -53,9 +53,9 @@ asked_book f b call tokens x c l (Err e) is lends new ledger = new
 
 pub asked_acts : {T E : Type 0} (acts : T → List CallAct) (f : Stepped → Stepped) (b : Book) (call : ℕ) (tokens : Option Bucket) (x : CallSlot) (r : Result T E) → numbered b.calls call ≡ Some x
     → tokens ≡ tokens_in b.buckets x.bucket → IfOk r (λ v. acts v ≡ (f (lent x.call b.ledger tokens [])).acts) → IfOk r (λ v. acts v ≡ (book_asked f call b).acts)
-asked_acts acts f b call tokens x (Ok v) is lends told =
-    told ∙ sym (ap (λ (a : Acted). a.acts) (acted_is f b.calls call b.ledger tokens x is)) ∙ ap (λ (a : Acted). a.acts) (looked f b call tokens x is lends)
-asked_acts acts f b call tokens x (Err e) is lends told = told
+asked_acts acts f b call tokens x (Ok v) is lends reported =
+    reported ∙ sym (ap (λ (a : Acted). a.acts) (acted_is f b.calls call b.ledger tokens x is)) ∙ ap (λ (a : Acted). a.acts) (looked f b call tokens x is lends)
+asked_acts acts f b call tokens x (Err e) is lends reported = reported
 
 -- there are none
 pub configured_book : {T E : Type 0} (chosen : Chosen) (b mid : Book) (call : ℕ) (x : CallSlot) (c : CallState) (l : Ledger) (r : Result T E) → mid ≡ record b { calls = bucket_set call b } → numbered mid.calls call ≡ Some x
@@ -68,10 +68,10 @@ configured_book chosen b mid call x c l (Err e) set is new ledger = new
 
 pub configured_acts : {E : Type 0} (chosen : Chosen) (b mid : Book) (call : ℕ) (x : CallSlot) (r : Result (List CallAct) E) → mid ≡ record b { calls = bucket_set call b } → numbered mid.calls call ≡ Some x
     → IfOk r (λ v. v ≡ (configured chosen mid.moment (lent x.call mid.ledger None [])).acts) → IfOk r (λ v. v ≡ (book_configured chosen call b).acts)
-configured_acts chosen b mid call x (Ok v) set is told =
-    told ∙ sym (ap (λ (a : Acted). a.acts) (acted_is (configured chosen mid.moment) mid.calls call mid.ledger None x is))
+configured_acts chosen b mid call x (Ok v) set is reported =
+    reported ∙ sym (ap (λ (a : Acted). a.acts) (acted_is (configured chosen mid.moment) mid.calls call mid.ledger None x is))
     ∙ ap (λ (m : Book). (acted (configured chosen m.moment) m.calls call m.ledger None).acts) set
-configured_acts chosen b mid call x (Err e) set is told = told
+configured_acts chosen b mid call x (Err e) set is reported = reported
 
 -- they are taken and put back
 pub acted_book : (f : Stepped → Stepped) (b : Book) (call : ℕ) (tokens left : Option Bucket) (taken back : BucketsSeen) (x : CallSlot) (c : CallState) (l : Ledger) → numbered b.calls call ≡ Some x
@@ -92,8 +92,8 @@ acted_book f b call tokens left taken back x c l is lends takes puts new ledger 
 
 pub acted_acts : (f : Stepped → Stepped) (b : Book) (call : ℕ) (tokens : Option Bucket) (x : CallSlot) (acts : List CallAct) → numbered b.calls call ≡ Some x
     → tokens ≡ tokens_in b.buckets x.bucket → acts ≡ (f (lent x.call b.ledger tokens [])).acts → acts ≡ (book_acted f call b).acts
-acted_acts f b call tokens x acts is lends told =
-    told ∙ sym (ap (λ (a : Acted). a.acts) (acted_is f b.calls call b.ledger tokens x is)) ∙ ap (λ (a : Acted). a.acts) (looked f b call tokens x is lends)
+acted_acts f b call tokens x acts is lends reported =
+    reported ∙ sym (ap (λ (a : Acted). a.acts) (acted_is f b.calls call b.ledger tokens x is)) ∙ ap (λ (a : Acted). a.acts) (looked f b call tokens x is lends)
 
 -- a call gives bytes
 pub fed_left : {T E : Type 0} (row len number : ℕ) (calls : List CallSlot) (x : CallSlot) (c : CallState) (r : Result T E) → numbered calls number ≡ Some x

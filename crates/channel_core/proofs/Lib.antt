@@ -9,7 +9,7 @@ pub mod FairNews
 pub mod Feeds
 pub mod Going
 pub mod GoingSteps
-pub mod Hearing
+pub mod Receiving
 pub mod Idling
 pub mod Lending
 pub mod LookLaws
@@ -23,4 +23,3 @@ pub mod SettlingLaws
 pub mod Stamping
 pub mod SteppingLaws
 pub mod Timely
-pub mod ToldEnds

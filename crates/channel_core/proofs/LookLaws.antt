@@ -76,9 +76,9 @@ take_by number s None is = (
   (λ (t : (t : StateSeen) × AnswersBy (lacks_call None) (event.Take number) s t reply.NotYet). absurd (refused_waits refusal.NoSuchCall t.1.1)),
 )
 take_by number s (Some slot) is =
-    let told : within_limit (take_reply_of s.book.ledger (slot_at s.book number)) ≡ within_limit (take_reply s.book.ledger slot.call) = ap (λ (o : Option CallSlot). within_limit (take_reply_of s.book.ledger o)) is in (
-      (λ e. ((taken_by number s).state, (refl, (waits_is s.book.ledger slot.call).0 e ∙ sym told))),
-      (λ (t : (t : StateSeen) × AnswersBy (lacks_call (Some slot)) (event.Take number) s t reply.NotYet). (waits_is s.book.ledger slot.call).1 (t.1.1 ∙ told)),
+    let reported : within_limit (take_reply_of s.book.ledger (slot_at s.book number)) ≡ within_limit (take_reply s.book.ledger slot.call) = ap (λ (o : Option CallSlot). within_limit (take_reply_of s.book.ledger o)) is in (
+      (λ e. ((taken_by number s).state, (refl, (waits_is s.book.ledger slot.call).0 e ∙ sym reported))),
+      (λ (t : (t : StateSeen) × AnswersBy (lacks_call (Some slot)) (event.Take number) s t reply.NotYet). (waits_is s.book.ledger slot.call).1 (t.1.1 ∙ reported)),
     )
 
 -- a take of a call would be answered with other than NotYet
@@ -103,10 +103,10 @@ send_by number message s None is = (
   (λ (f : (held : ℕ) × ((t : StateSeen) × AnswersBy (lacks_call None) (event.Send number message) s t (reply.Full held))). absurd (refused_full f.0 refusal.NoSuchCall f.1.1.1)),
 )
 send_by number message s (Some slot) is =
-    let told : send_reply_of message (slot_at s.book number) ≡ send_reply message slot.call = ap (send_reply_of message) is in
+    let reported : send_reply_of message (slot_at s.book number) ≡ send_reply message slot.call = ap (send_reply_of message) is in
     let full = sent_by message slot.call (send_refusal slot.call) in (
-      (λ e. ((full.0 e).0, ((sent_to number message s).state, (refl, (full.0 e).1 ∙ sym told)))),
-      (λ (f : (held : ℕ) × ((t : StateSeen) × AnswersBy (lacks_call (Some slot)) (event.Send number message) s t (reply.Full held))). full.1 (f.0, f.1.1.1 ∙ told)),
+      (λ e. ((full.0 e).0, ((sent_to number message s).state, (refl, (full.0 e).1 ∙ sym reported)))),
+      (λ (f : (held : ℕ) × ((t : StateSeen) × AnswersBy (lacks_call (Some slot)) (event.Send number message) s t (reply.Full held))). full.1 (f.0, f.1.1.1 ∙ reported)),
     )
 
 shut_by : (shut : Bool) (number : ℕ) (message : List ℕ) (s : StateSeen)
@@ -123,18 +123,18 @@ pub send_waits : (number : ℕ) (message : List ℕ) (s : StateSeen) → (can_se
 send_waits number message s = shut_by s.shut number message s
 
 -- what the channel answers when it is looked at
-pub take_told : (b : Bool) (number : ℕ) (s : StateSeen) → b ≡ can_take_at (slot_at s.book number) → (b ≡ false) ↔ ((t : StateSeen) × Answers (event.Take number) s t reply.NotYet)
-take_told b number s is =
+pub take_reported : (b : Bool) (number : ℕ) (s : StateSeen) → b ≡ can_take_at (slot_at s.book number) → (b ≡ false) ↔ ((t : StateSeen) × Answers (event.Take number) s t reply.NotYet)
+take_reported b number s is =
     let P : Bool → Type 0 = λ x. (x ≡ false) ↔ ((t : StateSeen) × Answers (event.Take number) s t reply.NotYet) in
     subst P (sym is) (take_waits number s)
 
-pub send_told : (b : Bool) (len number : ℕ) (s : StateSeen) → b ≡ can_send_in len number s → (message : List ℕ) → length message ≡ len
+pub send_reported : (b : Bool) (len number : ℕ) (s : StateSeen) → b ≡ can_send_in len number s → (message : List ℕ) → length message ≡ len
     → (b ≡ false) ↔ ((held : ℕ) × ((t : StateSeen) × Answers (event.Send number message) s t (reply.Full held)))
-send_told b len number s is message long =
+send_reported b len number s is message long =
     let P : Bool → Type 0 = λ x. (x ≡ false) ↔ ((held : ℕ) × ((t : StateSeen) × Answers (event.Send number message) s t (reply.Full held))) in
     subst P (sym (is ∙ ap (λ (n : ℕ). can_send_in n number s) (sym long))) (send_waits number message s)
 
--- a drain that is not refused, of a link of which it is told that it cannot be drained, gives nothing
+-- a drain that is not refused, of a link of which it is reported that it cannot be drained, gives nothing
 octets_refused : (octets : List ℕ) (why : Refusal) → reply.Octets octets ≡ reply.Refused why → ⊥
 octets_refused octets why e = (cc)
 
@@ -153,6 +153,6 @@ drain_by true why link room s t octets cannot answers = absurd (octets_refused o
 drain_by false (Some why) link room s t octets cannot answers = absurd (octets_refused octets why answers.1)
 drain_by false None link room s t octets cannot answers = room_by (nat_lt room 16393) link room s t octets cannot answers
 
-pub drain_told : (b : Bool) (link : ℕ) (s : StateSeen) → b ≡ can_drain_in link s → b ≡ false
+pub drain_reported : (b : Bool) (link : ℕ) (s : StateSeen) → b ≡ can_drain_in link s → b ≡ false
     → (room : ℕ) (octets : List ℕ) → ((t : StateSeen) × Answers (event.Drain link room) s t (reply.Octets octets)) → octets ≡ []
-drain_told b link s is cannot room octets would = drain_by s.shut (link_refusal link s) link room s would.0 octets (sym is ∙ cannot) would.1
+drain_reported b link s is cannot room octets would = drain_by s.shut (link_refusal link s) link room s would.0 octets (sym is ∙ cannot) would.1

@@ -1,6 +1,6 @@
 -- What holds of each single thing that is done to a channel, but for what its applications send and finish, what its links take and what comes
 -- on them, holds of a whole step without these. `R` joins what was before and what is after. Here: what is done to calls; and, where it holds
--- also of what calls hear and of what is read, what comes on links.
+-- also of what calls receive and of what is read, what comes on links.
 use Rattle.std.proofs.Common.{min, length, ◌≡◌, ℕ, zero, suc, ◌-◌, if◌then◌else◌, Bool, true, false, Option, Some, None, List, [], ◌∷◌, ◌++◌, Ok, refl, IfSome, ap}
 use Rattle.grpc_base.specs.Requests.{RequestSeen}
 use Rattle.grpc_base.specs.Kinds.{KindsSeen}
@@ -29,19 +29,19 @@ use Rattle.channel_core.specs.Draining.{DrainLeaves, drained_limit}
 use Rattle.channel_core.specs.States.{StateSeen}
 use Rattle.channel_core.specs.Steps as step
 use Rattle.channel_core.specs.Steps.{chosen_in, configured_by, is_gone, next_word, overdue_ended, with_ask, with_generations, with_ledger_links}
-use Rattle.channel_core.specs.Tables.{Heard, heard_in, retired_in, buried, heard_at, heard_by, heard_link, hears_at, numbered, reset_link, retired, sealed_link, with_link}
+use Rattle.channel_core.specs.Tables.{Received, received_in, retired_in, marked_dead, received_at, received_by, received_link, receives_at, numbered, reset_link, retired, sealed_link, with_link}
 use Rattle.channel_core.specs.Timing.{due_keys, later, number_of}
 use Rattle.std.specs.Option.{option_map_or}
 use Rattle.channel_core.specs.declared.state.links.LinkSlot.{LinkSlot}
 use Rattle.channel_core.specs.Arrivals.{linked_as, next_link}
-use Rattle.channel_core.proofs.FairNews.{AreFair, AreFairEnds, IsFair, IsFairEnd, fair_ends, fair_heard, fair_loss}
+use Rattle.channel_core.proofs.FairNews.{AreFair, AreFairEnds, IsFair, IsFairEnd, fair_ends, fair_received, fair_loss}
 use Rattle.grpc_base.specs.declared.event.Reply.{Reply}
 
 -- the book alone changes
 abbrev pub with_book : Book → StateSeen → StateSeen
 with_book book s = record s { book = book }
 
-pub record Rests (R : StateSeen → StateSeen → Type 0) : Type 0 where
+pub record IsQuietActionInvariant (R : StateSeen → StateSeen → Type 0) : Type 0 where
   pub joined : (s t u : StateSeen) → R s t → R t u → R s u
   -- what leaves the book, the config that is held and the number of links, and opens no channel that was shut
   pub beside : (s t : StateSeen) → t.book ≡ s.book → t.held ≡ s.held → length t.links ≡ length s.links → (s.shut ≡ true → t.shut ≡ true) → R s t
@@ -63,7 +63,7 @@ pub record Rests (R : StateSeen → StateSeen → Type 0) : Type 0 where
 
 -- what comes on links
 pub record Comes (R : StateSeen → StateSeen → Type 0) : Type 0 where
-  pub heard : (row : ℕ) (told : News) (number : ℕ) (s : StateSeen) → IsFair told → R s (with_book (book_acted (call.heard_news row told s.book.moment (next_word s)) number s.book).book s)
+  pub handled : (row : ℕ) (reported : News) (number : ℕ) (s : StateSeen) → IsFair reported → R s (with_book (book_acted (call.received_news row reported s.book.moment (next_word s)) number s.book).book s)
   pub read : (link read : ℕ) (s : StateSeen) → R s (with_ledger_links (changed_at (read_link read) s.book.ledger.links link) s)
 
 -- as many links as before
@@ -79,13 +79,13 @@ index_length f xs (Some index) = changed_lengths f xs index
 pub changed_length : {X : Type 0} (f : X → X) (xs : List X) (place : ℕ) → length (changed_at f xs place) ≡ length xs
 changed_length f xs place = index_length f xs (index_at place (length xs))
 
-heard_if : (hears : Bool) (slot : LinkSlot) (link : ℕ) (piece : List ℕ) (links : List LinkSlot) → IfSome (if hears then Some (heard_by slot link piece links) else None) (λ x. length x.links ≡ length links)
-heard_if true slot link piece links = changed_length (with_link (heard_link piece)) links link
-heard_if false slot link piece links = tt
+received_if : (receives : Bool) (slot : LinkSlot) (link : ℕ) (piece : List ℕ) (links : List LinkSlot) → IfSome (if receives then Some (received_by slot link piece links) else None) (λ x. length x.links ≡ length links)
+received_if true slot link piece links = changed_length (with_link (received_link piece)) links link
+received_if false slot link piece links = tt
 
-heard_length : (link : ℕ) (piece : List ℕ) (links : List LinkSlot) (o : Option LinkSlot) → IfSome (heard_at o link piece links) (λ x. length x.links ≡ length links)
-heard_length link piece links None = tt
-heard_length link piece links (Some slot) = heard_if (hears_at (Some slot)) slot link piece links
+received_length : (link : ℕ) (piece : List ℕ) (links : List LinkSlot) (o : Option LinkSlot) → IfSome (received_at o link piece links) (λ x. length x.links ≡ length links)
+received_length link piece links None = tt
+received_length link piece links (Some slot) = received_if (receives_at (Some slot)) slot link piece links
 
 -- a call begins, and a link comes up: what the events of these alone do
 abbrev pub Begins : (StateSeen → StateSeen → Type 0) → RequestSeen → Type 0
@@ -113,7 +113,7 @@ Gone R (event.LinkLost link) = (s : StateSeen) → R s (arrivals.lost link true 
 Gone R (event.Drain link room) = (s t : StateSeen) (r : Reply) → DrainLeaves link (min room drained_limit) s r t → R s t
 Gone R e = Unit {0}
 
-module _ (R : StateSeen → StateSeen → Type 0) (c : Rests R) where
+module _ (R : StateSeen → StateSeen → Type 0) (c : IsQuietActionInvariant R) where
   pub same : (s : StateSeen) → R s s
   same s = c.beside s s refl refl refl (λ e. e)
 
@@ -132,7 +132,7 @@ module _ (R : StateSeen → StateSeen → Type 0) (c : Rests R) where
   -- the acts of a call
   left_one : (link row : ℕ) (s : StateSeen) → R s (step.left_on link row s)
   left_one link row s =
-      let t : StateSeen = step.left_behind link row s in
+      let t : StateSeen = step.left_after link row s in
       c.joined s t _ (c.beside s t refl refl refl (λ e. e)) (gone_one link t)
 
   cut_one : (row : ℕ) (s : StateSeen) → R s (step.cut row s)
@@ -202,29 +202,29 @@ module _ (R : StateSeen → StateSeen → Type 0) (c : Rests R) where
       let t : StateSeen = record s { deadlines = later s.book.moment s.deadlines } in
       c.joined s t _ (c.beside s t refl refl refl (λ e. e)) (time_out_all (due_keys s.book.moment s.deadlines) t)
 
-  -- what a call is told, and what it draws
-  told_after : (b : BookActs) (number row : ℕ) (s t : StateSeen) → t.held ≡ s.held → length t.links ≡ length s.links → (s.shut ≡ true → t.shut ≡ true) → R s (with_book b.book s) → R s (step.told_acts b number row t)
-  told_after b number row s t e l shut h = after_book b number s (step.drawn_if (has_drawn (row_at b.book row)) t) e l shut h
+  -- what is reported to a call, and what it draws
+  reported_after : (b : BookActs) (number row : ℕ) (s t : StateSeen) → t.held ≡ s.held → length t.links ≡ length s.links → (s.shut ≡ true → t.shut ≡ true) → R s (with_book b.book s) → R s (step.reported_acts b number row t)
+  reported_after b number row s t e l shut h = after_book b number s (step.drawn_if (has_drawn (row_at b.book row)) t) e l shut h
 
   pub fail : (number row : ℕ) (s : StateSeen) → R s (step.pick_failed number row s)
   fail number row s =
-      then_seal s _ (told_after (book_acted (call.pick_failed row s.book.moment (next_word s)) number s.book) number row s (step.unqueued number row s) refl refl (λ e. e) (c.failed row number s))
+      then_seal s _ (reported_after (book_acted (call.pick_failed row s.book.moment (next_word s)) number s.book) number row s (step.unqueued number row s) refl refl (λ e. e) (c.failed row number s))
 
   -- what comes on links
   module _ (comes : Comes R) where
-    tell_to : (number row : ℕ) (n : News) (s : StateSeen) → IsFair n → R s (step.told_to number row n s)
-    tell_to number row n s fair =
-        told_after (book_acted (call.heard_news row n s.book.moment (next_word s)) number s.book) number row s s refl refl (λ e. e) (comes.heard row n number s fair)
+    report_to : (number row : ℕ) (n : News) (s : StateSeen) → IsFair n → R s (step.reported_to number row n s)
+    report_to number row n s fair =
+        reported_after (book_acted (call.received_news row n s.book.moment (next_word s)) number s.book) number row s s refl refl (λ e. e) (comes.handled row n number s fair)
 
-    tell : (row : ℕ) (n : News) (s : StateSeen) → IsFair n → R s (step.told row n s)
-    tell row n s fair = tell_to (call_of (row_at s.book row)) row n s fair
+    report : (row : ℕ) (n : News) (s : StateSeen) → IsFair n → R s (step.reported row n s)
+    report row n s fair = report_to (call_of (row_at s.book row)) row n s fair
 
     -- the ends of attempts
     end_one : (link row : ℕ) (end : EndNews) (s : StateSeen) → IsFairEnd end → R s (arrivals.ended_on link row end s)
     end_one link row end s fair =
-        let t : StateSeen = step.left_behind link row s in
-        let u : StateSeen = step.told row (news.Ended row end) t in
-        either (has_ended (row_at s.book row)) s s _ (same s) (c.joined s t _ (c.beside s t refl refl refl (λ e. e)) (c.joined t u _ (tell row (news.Ended row end) t fair) (gone_one link u)))
+        let t : StateSeen = step.left_after link row s in
+        let u : StateSeen = step.reported row (news.Ended row end) t in
+        either (has_ended (row_at s.book row)) s s _ (same s) (c.joined s t _ (c.beside s t refl refl refl (λ e. e)) (c.joined t u _ (report row (news.Ended row end) t fair) (gone_one link u)))
 
     end_all : (link : ℕ) (ends : List (ℕ × EndNews)) (s : StateSeen) → AreFairEnds ends → R s (arrivals.all_ended_on link ends s)
     end_all link [] s fair = same s
@@ -248,9 +248,9 @@ module _ (R : StateSeen → StateSeen → Type 0) (c : Rests R) where
 
     pub lose : (link : ℕ) (each : Bool) (s : StateSeen) → R s (arrivals.lost link each s)
     lose link each s =
-        let t : StateSeen = step.buried link s in
+        let t : StateSeen = step.marked_dead link s in
         let u : StateSeen = arrivals.rows_lost arrivals.most_rows link each 0 t in
-        c.joined s t _ (c.beside s t refl refl (changed_length buried s.links link) (λ e. e)) (c.joined t u _ (lose_rows arrivals.most_rows link each 0 t) (gone_one link u))
+        c.joined s t _ (c.beside s t refl refl (changed_length marked_dead s.links link) (λ e. e)) (c.joined t u _ (lose_rows arrivals.most_rows link each 0 t) (gone_one link u))
 
     retire : (link : ℕ) (s : StateSeen) → R s (step.retired link s)
     retire link s =
@@ -258,41 +258,41 @@ module _ (R : StateSeen → StateSeen → Type 0) (c : Rests R) where
         c.joined s t _ (c.beside s t refl refl (changed_length retired s.links link) (λ e. e)) (gone_one link t)
 
     -- the news of a frame, and the frames of a piece
-    hear_one : (link : ℕ) (n : News) (s : StateSeen) → R s (arrivals.heard_one link n s)
-    hear_one link news.Ready s = c.beside s _ refl refl refl (λ e. e)
-    hear_one link news.Retiring s = retire link s
-    hear_one link (news.Broken why) s = lose link false s
-    hear_one link (news.Ended tag end) s = same s
-    hear_one link (news.Head tag meta seen) s = tell tag (news.Head tag meta seen) s tt
-    hear_one link (news.Message tag octets seen) s = tell tag (news.Message tag octets seen) s tt
-    hear_one link (news.TooLarge tag seen) s = tell tag (news.TooLarge tag seen) s tt
+    receive_one : (link : ℕ) (n : News) (s : StateSeen) → R s (arrivals.received_one link n s)
+    receive_one link news.Ready s = c.beside s _ refl refl refl (λ e. e)
+    receive_one link news.Retiring s = retire link s
+    receive_one link (news.Broken why) s = lose link false s
+    receive_one link (news.Ended tag end) s = same s
+    receive_one link (news.Head tag meta seen) s = report tag (news.Head tag meta seen) s tt
+    receive_one link (news.Message tag octets seen) s = report tag (news.Message tag octets seen) s tt
+    receive_one link (news.TooLarge tag seen) s = report tag (news.TooLarge tag seen) s tt
 
-    hear_all : (link : ℕ) (ns : List News) (s : StateSeen) → R s (arrivals.heard_all link ns s)
-    hear_all link [] s = same s
-    hear_all link (n ∷ ns) s =
-        let t : StateSeen = arrivals.heard_one link n s in
-        c.joined s t _ (hear_one link n s) (hear_all link ns t)
+    receive_all : (link : ℕ) (ns : List News) (s : StateSeen) → R s (arrivals.received_all link ns s)
+    receive_all link [] s = same s
+    receive_all link (n ∷ ns) s =
+        let t : StateSeen = arrivals.received_one link n s in
+        c.joined s t _ (receive_one link n s) (receive_all link ns t)
 
-    hear : (link : ℕ) (ns : List News) (s : StateSeen) → AreFair ns → R s (arrivals.heard link ns s)
-    hear link ns s fair =
-        let t : StateSeen = arrivals.heard_all link ns s in
+    receive : (link : ℕ) (ns : List News) (s : StateSeen) → AreFair ns → R s (arrivals.handled link ns s)
+    receive link ns s fair =
+        let t : StateSeen = arrivals.received_all link ns s in
         let u : StateSeen = arrivals.all_ended_on link (step.ends_kept ns []) t in
         let v : StateSeen = step.sealed_one link u in
-        then_seal s v (c.joined s t v (hear_all link ns s) (c.joined t u v (end_all link (step.ends_kept ns []) t (fair_ends ns [] fair tt)) (c.beside u v refl refl (changed_length (with_link sealed_link) u.links link) (λ e. e))))
+        then_seal s v (c.joined s t v (receive_all link ns s) (c.joined t u v (end_all link (step.ends_kept ns []) t (fair_ends ns [] fair tt)) (c.beside u v refl refl (changed_length (with_link sealed_link) u.links link) (λ e. e))))
 
-    pub hear_frame : (link : ℕ) (h : Heard) (s : StateSeen) → length h.links ≡ length s.links → AreFair h.news → R s (arrivals.frame_heard link h s)
-    hear_frame link h s l fair =
+    pub receive_frame : (link : ℕ) (h : Received) (s : StateSeen) → length h.links ≡ length s.links → AreFair h.news → R s (arrivals.frame_received link h s)
+    receive_frame link h s l fair =
         let t : StateSeen = record s { links = h.links } in
         let u : StateSeen = arrivals.read_to link h.read t in
-        c.joined s t _ (c.beside s t refl refl l (λ e. e)) (c.joined t u _ (comes.read link h.read t) (hear link h.news u fair))
+        c.joined s t _ (c.beside s t refl refl l (λ e. e)) (c.joined t u _ (comes.read link h.read t) (receive link h.news u fair))
 
-    frames_on : (further : ℕ → StateSeen → StateSeen) (link : ℕ) (h : Option Heard) (s : StateSeen) → IfSome h (λ x. length x.links ≡ length s.links) → IfSome h (λ x. AreFair x.news) → ((skip : ℕ) (s : StateSeen) → R s (further skip s)) → R s (arrivals.frames_from further link h s)
+    frames_on : (further : ℕ → StateSeen → StateSeen) (link : ℕ) (h : Option Received) (s : StateSeen) → IfSome h (λ x. length x.links ≡ length s.links) → IfSome h (λ x. AreFair x.news) → ((skip : ℕ) (s : StateSeen) → R s (further skip s)) → R s (arrivals.frames_from further link h s)
     frames_on further link None s l fair more = same s
     frames_on further link (Some h) s l fair more =
-        let t : StateSeen = arrivals.frame_heard link h s in
-        c.joined s t _ (hear_frame link h s l fair) (more (h.taken - 1) t)
+        let t : StateSeen = arrivals.frame_received link h s in
+        c.joined s t _ (receive_frame link h s l fair) (more (h.taken - 1) t)
 
     pub frames : (link : ℕ) (piece : List ℕ) (skip : ℕ) (s : StateSeen) → R s (arrivals.frames_after link piece skip s)
     frames link [] skip s = same s
-    frames link (b ∷ piece) zero s = frames_on (arrivals.frames_after link piece) link (heard_in link (b ∷ piece) s.links) s (heard_length link (b ∷ piece) s.links (numbered s.links link)) (fair_heard link (b ∷ piece) s.links (numbered s.links link)) (frames link piece)
+    frames link (b ∷ piece) zero s = frames_on (arrivals.frames_after link piece) link (received_in link (b ∷ piece) s.links) s (received_length link (b ∷ piece) s.links (numbered s.links link)) (fair_received link (b ∷ piece) s.links (numbered s.links link)) (frames link piece)
     frames link (b ∷ piece) (suc skip) s = frames link piece skip s

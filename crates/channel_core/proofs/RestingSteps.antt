@@ -35,10 +35,10 @@ use Rattle.channel_core.specs.Settling as settling
 use Rattle.channel_core.specs.Settling.{passed, rounds}
 use Rattle.channel_core.specs.States.{StateSeen}
 use Rattle.channel_core.specs.Steps as step
-use Rattle.channel_core.specs.Steps.{Moved, bare_served, chosen_in, clocked, net_settled, next_word, overdue_ended, with_generations}
-use Rattle.channel_core.specs.Tables.{buried_in, takes_rows, buried, pinged_link, placed_link, with_link}
+use Rattle.channel_core.specs.Steps.{Moved, unconfigured_served, chosen_in, clocked, net_settled, next_word, overdue_ended, with_generations}
+use Rattle.channel_core.specs.Tables.{marked_dead_in, takes_rows, marked_dead, pinged_link, placed_link, with_link}
 use Rattle.channel_core.specs.Timing.{due_keys, later, number_of, sorted_into}
-use Rattle.channel_core.proofs.Resting.{Begins, Gone, Rests, ComesUp, Configures, Holds, after_book, close, either, fail, gone_all, gone_one, overdue, same, then_seal, timers_of, with_book, changed_length}
+use Rattle.channel_core.proofs.Resting.{Begins, Gone, IsQuietActionInvariant, ComesUp, Configures, Holds, after_book, close, either, fail, gone_all, gone_one, overdue, same, then_seal, timers_of, with_book, changed_length}
 use Rattle.ledger_stamps.specs.Steps.{changed_at}
 use Rattle.channel_core.specs.declared.state.links.LinkSlot.{LinkSlot}
 
@@ -47,7 +47,7 @@ placed_length : (takes : Bool) (link row limit : ℕ) (links : List LinkSlot) �
 placed_length true link row limit links = changed_length (with_link (placed_link row limit)) links link
 placed_length false link row limit links = refl
 
-module _ (R : StateSeen → StateSeen → Type 0) (c : Rests R) where
+module _ (R : StateSeen → StateSeen → Type 0) (c : IsQuietActionInvariant R) where
   -- generations
   gen_activated : (s : StateSeen) (g : List Generation) (number : ℕ) → R s (with_generations g s) → R s (with_generations (stamps.activated s.book.ledger.entry number g) s)
   gen_activated s g number h = c.joined s (with_generations g s) _ h (c.activated number (with_generations g s))
@@ -155,7 +155,7 @@ module _ (R : StateSeen → StateSeen → Type 0) (c : Rests R) where
   begin request s begins =
       let number : ℕ = length s.book.ledger.calls + 1 in
       let t : StateSeen = with_book (book_begun request s.book) s in
-      let u : StateSeen = step.bare_added number (step.says_yes request.wait) t in
+      let u : StateSeen = step.unconfigured_added number (step.says_yes request.wait) t in
       c.joined s t _ (begins s) (c.joined t u _ (c.beside t u refl refl refl (λ e. e)) (timers_of R c number u))
 
   applied : (e : Event) (s t : StateSeen) (r : Reply) → Gone R e → Applies e s t r → R s t
@@ -186,9 +186,9 @@ module _ (R : StateSeen → StateSeen → Type 0) (c : Rests R) where
   pub limit_all : (links : List ℕ) (s : StateSeen) → R s (step.limits_passed links s)
   limit_all [] s = same R c s
   limit_all (link ∷ links) s =
-      let t : StateSeen = record s { links = buried_in link s.links; resolver = true } in
+      let t : StateSeen = record s { links = marked_dead_in link s.links; resolver = true } in
       let u : StateSeen = step.limit_passed link s in
-      c.joined s u _ (c.joined s t u (c.beside s t refl refl (changed_length buried s.links link) (λ e. e)) (gone_one R c link t)) (limit_all links u)
+      c.joined s u _ (c.joined s t u (c.beside s t refl refl (changed_length marked_dead s.links link) (λ e. e)) (gone_one R c link t)) (limit_all links u)
 
   pub clock : (s : StateSeen) → R s (clocked s)
   unfolding clocked
@@ -222,13 +222,13 @@ module _ (R : StateSeen → StateSeen → Type 0) (c : Rests R) where
       let t : StateSeen = step.closed ends.NoConfig (number_of key) s in
       c.joined s t _ (close R c ends.NoConfig (number_of key) s refl) (unconfigure_all calls t)
 
-  pub serve_bare : (s : StateSeen) → Configures R → R s (bare_served s)
-  unfolding bare_served
-  serve_bare s f =
-      let t : StateSeen = record s { bare = later 0 s.bare; impatient = [] } in
-      let u : StateSeen = record s { impatient = later 0 s.impatient } in
-      either R c (is_some s.held) s _ _ (c.joined s t _ (c.beside s t refl refl refl (λ e. e)) (configure_all (due_keys 0 s.bare) t f))
-      (either R c s.unconfigured s _ s (c.joined s u _ (c.beside s u refl refl refl (λ e. e)) (unconfigure_all (due_keys 0 s.impatient) u)) (same R c s))
+  pub serve_unconfigured : (s : StateSeen) → Configures R → R s (unconfigured_served s)
+  unfolding unconfigured_served
+  serve_unconfigured s f =
+      let t : StateSeen = record s { awaiting_config = later 0 s.awaiting_config; fail_fast = [] } in
+      let u : StateSeen = record s { fail_fast = later 0 s.fail_fast } in
+      either R c (is_some s.held) s _ _ (c.joined s t _ (c.beside s t refl refl refl (λ e. e)) (configure_all (due_keys 0 s.awaiting_config) t f))
+      (either R c s.unconfigured s _ s (c.joined s u _ (c.beside s u refl refl refl (λ e. e)) (unconfigure_all (due_keys 0 s.fail_fast) u)) (same R c s))
 
   -- due attempts
   pub make_all : (calls : List ℕ) (s : StateSeen) → R s (step.all_made calls s)
@@ -310,8 +310,8 @@ module _ (R : StateSeen → StateSeen → Type 0) (c : Rests R) where
   settle s f =
       let t : StateSeen = clocked s in
       let u : StateSeen = net_settled t in
-      let v : StateSeen = bare_served u in
-      c.joined s t _ (clock s) (c.joined t u _ (settle_net t) (c.joined u v _ (serve_bare u f) (all_rounds settling.most v)))
+      let v : StateSeen = unconfigured_served u in
+      c.joined s t _ (clock s) (c.joined t u _ (settle_net t) (c.joined u v _ (serve_unconfigured u f) (all_rounds settling.most v)))
 
   -- a whole step, from where it begins
   pub walked : (entry moment word : ℕ) (e : Event) (old new : StateSeen) (r : Reply) → Configures R → Gone R e → applying.Stepped entry moment word e old new r → R (applying.begun_at entry moment word old) new

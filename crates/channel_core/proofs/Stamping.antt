@@ -25,7 +25,7 @@ use Rattle.channel_core.specs.Books.{bucket_set}
 use Rattle.channel_core.specs.States.{StateSeen}
 use Rattle.channel_core.specs.Steps.{next_word}
 use Rattle.channel_core.specs.Tables.{acted, acted_at, acted_on}
-use Rattle.channel_core.proofs.Carrying.{Carried, Carries, Configures, Holds, weaken}
+use Rattle.channel_core.proofs.Carrying.{Carried, IsActionInvariant, Configures, Holds, weaken}
 use Rattle.channel_core.proofs.CarryingSteps.{carried}
 use Rattle.channel_core.proofs.Timely.{NewTimelyCall, NewTimelyRow, Quiet, Timely, TimelyCall, TimelyRow, map_changed_at, quiet_closed_by, quiet_configured, quiet_due, quiet_ended_at, quiet_news, quiet_placed, quiet_same, quiet_sent, quiet_streamed, quiet_timed_out, timely_begun, timely_same, timely_then}
 
@@ -149,7 +149,7 @@ then_writes s t u first second = record {
 joined : (s t u : StateSeen) → Keeps s t → Keeps t u → Keeps s u
 joined s t u first second = record { writes = then_writes s t u first.writes second.writes; begun = second.begun ∙ first.begun; up = second.up ∙ first.up; links = second.links ∙ first.links }
 
-pub keeps : Carries Keeps
+pub keeps : IsActionInvariant Keeps
 keeps = record {
   joined = joined;
   beside = λ s t book held links shut. leaves s t links (ap (λ (b : Book). b.moment) book) (ap (λ (b : Book). b.ledger) book);
@@ -157,7 +157,7 @@ keeps = record {
   closed = λ why number s by. does (call.closed_by why s.book.moment) number _ s _ refl refl refl (λ x e. quiet_closed_by why s.book.moment x);
   sent = λ message number s. does (call.sent message s.book.moment) number _ s _ refl refl refl (λ x e. quiet_sent message s.book.moment x);
   made = λ number s. does (call.made_due s.book.moment) number _ s _ refl refl refl (λ x e. quiet_due s.book.moment x);
-  heard = λ row told number s fair. does (call.heard_news row told s.book.moment (next_word s)) number _ s _ refl refl refl (λ x e. quiet_news row told s.book.moment (next_word s) x);
+  handled = λ row reported number s fair. does (call.received_news row reported s.book.moment (next_word s)) number _ s _ refl refl refl (λ x e. quiet_news row reported s.book.moment (next_word s) x);
   failed = λ row number s. does (call.pick_failed row s.book.moment (next_word s)) number _ s _ refl refl refl (λ x e. quiet_ended_at row pick_end s.book.moment (next_word s) x);
   placed = λ row at number s entry moment. does (call.placed_at row at) number _ s _ refl refl refl (λ x e. quiet_placed row at s.book.moment x (entry ∙ sym (ap (λ (l : Ledger). l.entry) e)) moment);
   finished = λ number s. leaves s _ refl refl refl;
@@ -182,7 +182,7 @@ pub keeps_held : (text : Option (List ℕ)) → Holds Keeps text
 keeps_held text = λ config kinds s is. leaves s _ refl refl refl
 
 -- so that each writes
-pub writes : Carries Writes
+pub writes : IsActionInvariant Writes
 writes = weaken Keeps Writes (λ s t k. k.writes) then_writes keeps
 
 pub writes_configured : Configures Writes

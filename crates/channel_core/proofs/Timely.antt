@@ -221,9 +221,9 @@ stamp_now false n = tt
 end_row : (m place : ℕ) (end : RowEnd) (s : Stepped) → end.entry ≡ s.ledger.entry → end.moment ≡ m → Quiet m s.ledger (step.row_ended place end s).ledger
 end_row m place end s n e = row_at m s.ledger (ended_row end) place (row_ended s.ledger.entry s.ledger.rows place end n) (end_write m end e)
 
-follow : (row : LiveRow) (told : EndNews) (m : ℕ) (s : Stepped) → Quiet m s.ledger (step.followed row told m s).ledger
-follow row told m s =
-    let end : RowEnd = row_end told s.ledger.entry m (count_of s.tokens) in
+follow : (row : LiveRow) (reported : EndNews) (m : ℕ) (s : Stepped) → Quiet m s.ledger (step.followed row reported m s).ledger
+follow row reported m s =
+    let end : RowEnd = row_end reported s.ledger.entry m (count_of s.tokens) in
     let x : Stepped = step.row_ended row.place end s in
     quiet_then m s.ledger x.ledger _ (end_row m row.place end s refl refl)
     (add_row m row.number kind.Transparent m (stamp_if (names row.place s.call.attempts.committed) s.ledger.entry) x (stamp_now (names row.place s.call.attempts.committed) s.ledger.entry))
@@ -237,31 +237,31 @@ judge row end after m s n e =
     let x : Stepped = with_judged row end after s in
     quiet_then m s.ledger x.ledger _ (end_row m row.place (record end { word = after.word }) s n e) (close_if after.closes row.place m x)
 
-count : (row : LiveRow) (told : EndNews) (m word : ℕ) (s : Stepped) → Quiet m s.ledger (step.counted row told m word s).ledger
-count row told m word s =
-    let end : RowEnd = row_end told s.ledger.entry m (count_of s.tokens) in
+count : (row : LiveRow) (reported : EndNews) (m word : ℕ) (s : Stepped) → Quiet m s.ledger (step.counted row reported m word s).ledger
+count row reported m word s =
+    let end : RowEnd = row_end reported s.ledger.entry m (count_of s.tokens) in
     let x : Stepped = step.row_ended row.place end s in
     either m s.ledger (is_some s.call.attempts.committed) (step.ended_as ends.Row m x) (step.counted_free row end m word s)
     (quiet_then m s.ledger x.ledger _ (end_row m row.place end s refl refl) (end_call ends.Row m x))
     (judge row end (judged_of row end word s.call s.tokens) m s refl refl)
 
-end_found : (found : Option LiveRow) (told : EndNews) (m word : ℕ) (s : Stepped) → Quiet m s.ledger (step.ended_if_live found told m word s).ledger
-end_found None told m word s = quiet_same m s.ledger
-end_found (Some row) told m word s =
-    either m s.ledger (is_followed s.call.attempts told.cause told.unseen) (step.followed row told m (left_live row.place s)) (step.counted row told m word (settled told (left_live row.place s)))
-    (follow row told m (left_live row.place s)) (count row told m word (settled told (left_live row.place s)))
+end_found : (found : Option LiveRow) (reported : EndNews) (m word : ℕ) (s : Stepped) → Quiet m s.ledger (step.ended_if_live found reported m word s).ledger
+end_found None reported m word s = quiet_same m s.ledger
+end_found (Some row) reported m word s =
+    either m s.ledger (is_followed s.call.attempts reported.cause reported.unseen) (step.followed row reported m (left_live row.place s)) (step.counted row reported m word (settled reported (left_live row.place s)))
+    (follow row reported m (left_live row.place s)) (count row reported m word (settled reported (left_live row.place s)))
 
-pub quiet_ended_at : (row : ℕ) (told : EndNews) (m word : ℕ) (s : Stepped) → Quiet m s.ledger (step.ended_at row told m word s).ledger
-quiet_ended_at row told m word s = end_found (find_live row s.call.live) told m word s
+pub quiet_ended_at : (row : ℕ) (reported : EndNews) (m word : ℕ) (s : Stepped) → Quiet m s.ledger (step.ended_at row reported m word s).ledger
+quiet_ended_at row reported m word s = end_found (find_live row s.call.live) reported m word s
 
 -- news
-head : (row : ℕ) (meta : List Field) (m : ℕ) (s : Stepped) → Quiet m s.ledger (step.heard_head row meta m s).ledger
+head : (row : ℕ) (meta : List Field) (m : ℕ) (s : Stepped) → Quiet m s.ledger (step.received_head row meta m s).ledger
 head row meta m s =
     let c : Stepped = record s { call = record s.call { buffer = committed_buffer row s.call.buffer } } in
     either m s.ledger (is_some (find_live row s.call.live)) (step.with_head meta (step.commit_by_head row m s)) s
     (either m s.ledger (is_some s.call.attempts.committed) s (step.committed row m c) (quiet_same m s.ledger) (commit row m c)) (quiet_same m s.ledger)
 
-pub quiet_news : (row : ℕ) (told : News) (m word : ℕ) (s : Stepped) → Quiet m s.ledger (step.heard_news row told m word s).ledger
+pub quiet_news : (row : ℕ) (reported : News) (m word : ℕ) (s : Stepped) → Quiet m s.ledger (step.received_news row reported m word s).ledger
 quiet_news row (news.Head tag meta seen) m word s = head row meta m s
 quiet_news row (news.Message tag octets seen) m word s = quiet_same m s.ledger
 quiet_news row (news.TooLarge tag seen) m word s = end_if (is_committed_live row s.call) ends.Response m s

@@ -48,11 +48,11 @@ new_state alloc authority policies = record {
   links = [];
   outstanding = [];
   queue = [];
-  patient = [];
+  ready_waiters = [];
   dues = [];
   deadlines = [];
-  bare = [];
-  impatient = [];
+  awaiting_config = [];
+  fail_fast = [];
   resets = [];
 }
 
@@ -115,7 +115,7 @@ shut_off s = net_closed (all_closed (record s { shut = true }))
 abbrev pub shut_down : StateSeen → StateSeen
 shut_down s = if s.shut then s else shut_off s
 
--- refusals, of which the first that stands is told
+-- refusals, of which the first that stands is reported
 abbrev pub link_refusal : ℕ → StateSeen → Option Refusal
 link_refusal link s = if not (has_link s.links link) then Some refusal.NoSuchLink else if is_gone link s then Some refusal.LinkGone else None
 

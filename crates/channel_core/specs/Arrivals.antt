@@ -1,4 +1,4 @@
--- Nobody has to believe these steps: what comes on links, and what applications and dialers tell, one definition for each function.
+-- Nobody has to believe these steps: what comes on links, and what applications and dialers report, one definition for each function.
 use Rattle.std.specs.Prelude.{ℕ, zero, suc, ◌+◌, ◌-◌, Bool, true, false, nat_lt, min, if◌then◌else◌, Option, Some, None, List, [], ◌∷◌, ◌++◌, length}
 use Rattle.grpc_base.specs.Limits.{message_limit}
 use Rattle.grpc_base.specs.Requests.{RequestSeen}
@@ -18,14 +18,14 @@ use Rattle.call_core.specs.Steps as call
 use Rattle.channel_core.specs.Books.{book_finished, book_taken, has_ended, row_at, slot_at}
 use Rattle.channel_core.specs.Draining.{DrainLeaves, pinged}
 use Rattle.channel_core.specs.States.{Answered, StateSeen}
-use Rattle.channel_core.specs.Steps.{begun, buried, call_asked, dial_taken, ends_kept, greeted, left_behind, loss_of, next_on, next_word, retired, sealed, sealed_one, stamped_gone, told, unresolved, with_ledger_links}
-use Rattle.channel_core.specs.Tables.{Heard, cancel_reply_of, finish_reply_of, fresh_link, heard_in, new_slot, send_reply_of, take_reply_of}
+use Rattle.channel_core.specs.Steps.{begun, marked_dead, call_asked, dial_taken, ends_kept, prefaced, left_after, loss_of, next_on, next_word, retired, sealed, sealed_one, stamped_gone, reported, unresolved, with_ledger_links}
+use Rattle.channel_core.specs.Tables.{Received, cancel_reply_of, finish_reply_of, fresh_link, received_in, new_slot, send_reply_of, take_reply_of}
 
 -- an attempt on a link ended, unless it was cut meanwhile
 abbrev pub ended_on : ℕ → ℕ → EndNews → StateSeen → StateSeen
 ended_on link row end s =
     if has_ended (row_at s.book row) then s
-    else stamped_gone link (told row (news.Ended row end) (left_behind link row s))
+    else stamped_gone link (reported row (news.Ended row end) (left_after link row s))
 
 -- the ends of one frame, by the rows' places
 abbrev pub all_ended_on : ℕ → List (ℕ × EndNews) → StateSeen → StateSeen
@@ -53,44 +53,44 @@ unfoldable pub most_rows : ℕ
 most_rows = 18446744073709551615
 
 abbrev pub lost : ℕ → Bool → StateSeen → StateSeen
-lost link each s = stamped_gone link (rows_lost most_rows link each 0 (buried link s))
+lost link each s = stamped_gone link (rows_lost most_rows link each 0 (marked_dead link s))
 
 -- the news of one frame
-abbrev pub heard_one : ℕ → News → StateSeen → StateSeen
-heard_one link news.Ready s = greeted link s
-heard_one link news.Retiring s = retired link s
-heard_one link (news.Broken why) s = lost link false s
-heard_one link (news.Ended tag end) s = s
-heard_one link (news.Head tag meta seen) s = told tag (news.Head tag meta seen) s
-heard_one link (news.Message tag octets seen) s = told tag (news.Message tag octets seen) s
-heard_one link (news.TooLarge tag seen) s = told tag (news.TooLarge tag seen) s
+abbrev pub received_one : ℕ → News → StateSeen → StateSeen
+received_one link news.Ready s = prefaced link s
+received_one link news.Retiring s = retired link s
+received_one link (news.Broken why) s = lost link false s
+received_one link (news.Ended tag end) s = s
+received_one link (news.Head tag meta seen) s = reported tag (news.Head tag meta seen) s
+received_one link (news.Message tag octets seen) s = reported tag (news.Message tag octets seen) s
+received_one link (news.TooLarge tag seen) s = reported tag (news.TooLarge tag seen) s
 
-abbrev pub heard_all : ℕ → List News → StateSeen → StateSeen
-heard_all link [] s = s
-heard_all link (n ∷ ns) s = heard_all link ns (heard_one link n s)
+abbrev pub received_all : ℕ → List News → StateSeen → StateSeen
+received_all link [] s = s
+received_all link (n ∷ ns) s = received_all link ns (received_one link n s)
 
-abbrev pub heard : ℕ → List News → StateSeen → StateSeen
-heard link ns s = sealed (sealed_one link (all_ended_on link (ends_kept ns []) (heard_all link ns s)))
+abbrev pub handled : ℕ → List News → StateSeen → StateSeen
+handled link ns s = sealed (sealed_one link (all_ended_on link (ends_kept ns []) (received_all link ns s)))
 
--- a frame is read: the ledger says so before its news are heard
+-- a frame is read: the ledger says so before its news are handled
 abbrev pub read_to : ℕ → ℕ → StateSeen → StateSeen
 read_to link read s = with_ledger_links (changed_at (read_link read) s.book.ledger.links link) s
 
-abbrev pub frame_heard : ℕ → Heard → StateSeen → StateSeen
-frame_heard link h s = heard link h.news (read_to link h.read (record s { links = h.links }))
+abbrev pub frame_received : ℕ → Received → StateSeen → StateSeen
+frame_received link h s = handled link h.news (read_to link h.read (record s { links = h.links }))
 
-abbrev pub frame_heard_if : ℕ → Option Heard → StateSeen → StateSeen
-frame_heard_if link None s = s
-frame_heard_if link (Some h) s = frame_heard link h s
+abbrev pub frame_received_if : ℕ → Option Received → StateSeen → StateSeen
+frame_received_if link None s = s
+frame_received_if link (Some h) s = frame_received link h s
 
 -- the frames of a piece after so many of its bytes, one by one, until the link is dead; each takes at least one byte
-abbrev pub frames_from : (ℕ → StateSeen → StateSeen) → ℕ → Option Heard → StateSeen → StateSeen
+abbrev pub frames_from : (ℕ → StateSeen → StateSeen) → ℕ → Option Received → StateSeen → StateSeen
 frames_from further link None s = s
-frames_from further link (Some h) s = further (h.taken - 1) (frame_heard link h s)
+frames_from further link (Some h) s = further (h.taken - 1) (frame_received link h s)
 
 abbrev pub frames_after : ℕ → List ℕ → ℕ → StateSeen → StateSeen
 frames_after link [] skip s = s
-frames_after link (b ∷ piece) zero s = frames_from (frames_after link piece) link (heard_in link (b ∷ piece) s.links) s
+frames_after link (b ∷ piece) zero s = frames_from (frames_after link piece) link (received_in link (b ∷ piece) s.links) s
 frames_after link (b ∷ piece) (suc skip) s = frames_after link piece skip s
 
 abbrev pub piece_arrived : ℕ → List ℕ → StateSeen → StateSeen

@@ -27,7 +27,7 @@ pub record CoreSeen : Type 0 where
 abbrev pub ledger_in : CoreSeen → Ledger
 ledger_in core = core.state.book.ledger
 
--- a journal, and for how many entries there is room behind its last one
+-- a journal, and for how many entries there is room after its last one
 pub record KeptSeen : Type 0 where
   pub entries : List Entry
   pub room : ℕ
@@ -71,12 +71,12 @@ IsFull core event entries bytes =
     (core.spent ≡ false) × HasNoRoom entries bytes event
     × (entries ≡ length core.journal.entries) × (bytes ≡ counted (journal_bytes core.journal.entries))
 
--- a channel was given these events, one behind another
+-- a channel was given these events, one after another
 abbrev pub Runs : CoreSeen → List Stamped → CoreSeen → Type 0
 Runs old [] new = new ≡ old
 Runs old (s ∷ events) new = (next : CoreSeen) × (reply : Reply) × Steps old next s reply × Runs next events new
 
--- what a look at a channel tells: its state after the last step, and what it waits for
+-- what a look at a channel reports: its state after the last step, and what it waits for
 abbrev pub view_of : CoreSeen → View
 view_of core = record {
   state = last_state core.journal.entries;

@@ -4,7 +4,6 @@ pub mod Books
 pub mod CallEvents
 pub mod Core
 pub mod Draining
-pub mod EndShapes
 pub mod Feeding
 pub mod Lending
 pub mod Settling

@@ -10,7 +10,7 @@ use Rattle.channel_net.specs.Lists as net_lists
 use Rattle.channel_net.specs.Steps as net
 use Rattle.channel_core.specs.Books.{book_placed, limit_at, slot_at}
 use Rattle.channel_core.specs.States.{StateSeen}
-use Rattle.channel_core.specs.Steps.{Moved, asked_by, bare_served, clocked, net_settled, next_served, pick_failed, round_made, unqueued, with_book}
+use Rattle.channel_core.specs.Steps.{Moved, asked_by, unconfigured_served, clocked, net_settled, next_served, pick_failed, round_made, unqueued, with_book}
 use Rattle.channel_core.specs.Tables.{placed_in, takes_rows}
 
 abbrev pub stays : StateSeen → Moved
@@ -98,7 +98,7 @@ rounds (suc left) s = rounds_on (rounds left) (round s)
 
 -- before them: the dial limits and backoffs that are over, what the policies wish, and the calls without a configuration
 abbrev pub prepared : StateSeen → StateSeen
-prepared s = bare_served (net_settled (clocked s))
+prepared s = unconfigured_served (net_settled (clocked s))
 
 abbrev pub settled : StateSeen → StateSeen
 settled s = rounds most (prepared s)

@@ -22,13 +22,13 @@ pub record StateSeen : Type 0 where
   -- the outstanding attempts by link and row; those that wait for a pick, by call and row
   pub outstanding : List (ℕ × ℕ)
   pub queue : List (ℕ × ℕ)
-  pub patient : List (ℕ × ℕ)
+  pub ready_waiters : List (ℕ × ℕ)
   -- due moments and deadlines with their calls
   pub dues : List (ℕ × ℕ)
   pub deadlines : List (ℕ × ℕ)
   -- the calls without a configuration, and of these those that do not wait for ready
-  pub bare : List (ℕ × ℕ)
-  pub impatient : List (ℕ × ℕ)
+  pub awaiting_config : List (ℕ × ℕ)
+  pub fail_fast : List (ℕ × ℕ)
   -- links with resets that are not sealed
   pub resets : List ℕ
 

@@ -20,7 +20,7 @@ use Rattle.attempt_ledger.specs.declared.news.EndNews.{EndNews}
 use Rattle.attempt_ledger.specs.declared.news.News.{News}
 use Rattle.attempt_ledger.specs.declared.news.News.TheVariants as news
 use Rattle.attempt_ledger.specs.declared.row.RowCause.TheVariants as cause
-use Rattle.picker_gate.specs.Pairs.{is_same, next_behind, pair_cmp}
+use Rattle.picker_gate.specs.Pairs.{is_same, next_after, pair_cmp}
 use Rattle.service_config.specs.declared.config.Config.{Config}
 use Rattle.service_config.specs.Choice.{chosen_for}
 use Rattle.channel_net.specs.declared.replies.Asked.{Asked}
@@ -36,7 +36,7 @@ use Rattle.channel_core.specs.declared.state.slots.CallSlot.{CallSlot}
 use Rattle.channel_core.specs.Books.{BookActs, book_acted, book_asked, book_begun, book_configured, book_followed, call_of, deadline_of, deadline_set, due_at, due_forgotten, due_set, has_drawn, has_stream, link_at, link_of, row_at, slot_at, timers_set, waits_at}
 use Rattle.channel_core.specs.States.{StateSeen}
 use Rattle.channel_core.specs.Timing.{due_keys, first_pair, later, number_of, sorted_into, timer_moved}
-use Rattle.channel_core.specs.Tables.{buried_in, is_dead, is_retiring, reset_in, retired_in, sealed_in}
+use Rattle.channel_core.specs.Tables.{marked_dead_in, is_dead, is_retiring, reset_in, retired_in, sealed_in}
 
 -- the list of the ledger's links changes
 abbrev pub with_ledger_links : List LinkSeen → StateSeen → StateSeen
@@ -66,7 +66,7 @@ is_on link None = false
 is_on link (Some pair) = pair.0 == link
 
 abbrev pub has_outstanding : ℕ → StateSeen → Bool
-has_outstanding link s = is_on link (next_behind s.outstanding (link, 0))
+has_outstanding link s = is_on link (next_after s.outstanding (link, 0))
 
 abbrev pub is_gone : ℕ → StateSeen → Bool
 is_gone link s = is_dead s.links link || ((is_retiring s.links link || is_of_shut_sub link s) && not (has_outstanding link s))
@@ -94,22 +94,22 @@ abbrev pub cut : ℕ → StateSeen → StateSeen
 cut row s = cut_on (link_of (row_at s.book row)) row s
 
 abbrev pub unqueued : ℕ → ℕ → StateSeen → StateSeen
-unqueued call row s = record s { queue = remove_key (is_same (call, row)) s.queue; patient = remove_key (is_same (call, row)) s.patient }
+unqueued call row s = record s { queue = remove_key (is_same (call, row)) s.queue; ready_waiters = remove_key (is_same (call, row)) s.ready_waiters }
 
 abbrev pub queued : ℕ → ℕ → StateSeen → StateSeen
 queued call row s = record s {
-  patient = if waits_at (slot_at s.book call) then insert_key pair_cmp s.patient (call, row) else s.patient;
+  ready_waiters = if waits_at (slot_at s.book call) then insert_key pair_cmp s.ready_waiters (call, row) else s.ready_waiters;
   queue = if waits_at (slot_at s.book call) then s.queue else insert_key pair_cmp s.queue (call, row);
 }
 
-abbrev pub clothed : ℕ → StateSeen → StateSeen
-clothed call s = record s { bare = remove_key (is_same (0, call)) s.bare; impatient = remove_key (is_same (0, call)) s.impatient }
+abbrev pub given_config : ℕ → StateSeen → StateSeen
+given_config call s = record s { awaiting_config = remove_key (is_same (0, call)) s.awaiting_config; fail_fast = remove_key (is_same (0, call)) s.fail_fast }
 
 abbrev pub act_done : ℕ → CallAct → StateSeen → StateSeen
 act_done call (act.Cut row) s = cut row s
 act_done call (act.Drop row) s = unqueued call row s
 act_done call (act.Queue row) s = queued call row s
-act_done call (act.End why) s = clothed call s
+act_done call (act.End why) s = given_config call s
 
 abbrev pub acts_done : ℕ → List CallAct → StateSeen → StateSeen
 acts_done call [] s = s
@@ -171,10 +171,10 @@ abbrev pub drawn_if : Bool → StateSeen → StateSeen
 drawn_if drew s = record s { drawn = if drew then (s.drawn + 1) % 2 ^ 64 else s.drawn }
 
 -- the applications
-abbrev pub bare_added : ℕ → Bool → StateSeen → StateSeen
-bare_added number waits s = record s {
-  bare = insert_key pair_cmp s.bare (0, number);
-  impatient = if waits then s.impatient else insert_key pair_cmp s.impatient (0, number);
+abbrev pub unconfigured_added : ℕ → Bool → StateSeen → StateSeen
+unconfigured_added number waits s = record s {
+  awaiting_config = insert_key pair_cmp s.awaiting_config (0, number);
+  fail_fast = if waits then s.fail_fast else insert_key pair_cmp s.fail_fast (0, number);
 }
 
 abbrev pub says_yes : Option Bool → Bool
@@ -182,7 +182,7 @@ says_yes None = false
 says_yes (Some says) = says
 
 abbrev pub begun_as : ℕ → RequestSeen → StateSeen → StateSeen
-begun_as number request s = timers_moved number (bare_added number (says_yes request.wait) (record s { book = book_begun request s.book }))
+begun_as number request s = timers_moved number (unconfigured_added number (says_yes request.wait) (record s { book = book_begun request s.book }))
 
 abbrev pub begun : RequestSeen → StateSeen → StateSeen
 begun request s = begun_as (length s.book.ledger.calls + 1) request s
@@ -206,40 +206,40 @@ loss was_sent seen = record {
 abbrev pub loss_of : ℕ → ℕ → StateSeen → EndNews
 loss_of link row s = loss (has_stream (row_at s.book row)) (read_of (link_at s.book link))
 
--- a call is told what came for one of its rows; a draw is counted
-abbrev pub told_acts : BookActs → ℕ → ℕ → StateSeen → StateSeen
-told_acts b number row s = with_book b number (drawn_if (has_drawn (row_at b.book row)) s)
+-- a call is notified of what came for one of its rows; a draw is counted
+abbrev pub reported_acts : BookActs → ℕ → ℕ → StateSeen → StateSeen
+reported_acts b number row s = with_book b number (drawn_if (has_drawn (row_at b.book row)) s)
 
-abbrev pub told_to : ℕ → ℕ → News → StateSeen → StateSeen
-told_to number row n s = told_acts (book_acted (call.heard_news row n s.book.moment (next_word s)) number s.book) number row s
+abbrev pub reported_to : ℕ → ℕ → News → StateSeen → StateSeen
+reported_to number row n s = reported_acts (book_acted (call.received_news row n s.book.moment (next_word s)) number s.book) number row s
 
-abbrev pub told : ℕ → News → StateSeen → StateSeen
-told row n s = told_to (call_of (row_at s.book row)) row n s
+abbrev pub reported : ℕ → News → StateSeen → StateSeen
+reported row n s = reported_to (call_of (row_at s.book row)) row n s
 
-abbrev pub left_behind : ℕ → ℕ → StateSeen → StateSeen
-left_behind link row s = record s { outstanding = remove_key (is_same (link, row)) s.outstanding }
+abbrev pub left_after : ℕ → ℕ → StateSeen → StateSeen
+left_after link row s = record s { outstanding = remove_key (is_same (link, row)) s.outstanding }
 
 -- a link of a subchannel goes down
 abbrev pub downed : ℕ → StateSeen → StateSeen
 downed link s = record s { net = net.net_down (sub_of (link_at s.book link)) link s.net }
 
-abbrev pub buried : ℕ → StateSeen → StateSeen
-buried link s = record (downed link s) { links = buried_in link s.links; resolver = true }
+abbrev pub marked_dead : ℕ → StateSeen → StateSeen
+marked_dead link s = record (downed link s) { links = marked_dead_in link s.links; resolver = true }
 
 abbrev pub retired : ℕ → StateSeen → StateSeen
 retired link s = stamped_gone link (record (downed link s) { links = retired_in link s.links })
 
--- the first outstanding row of a link behind another
+-- the first outstanding row of a link after another
 abbrev pub row_on : ℕ → Option (ℕ × ℕ) → Option ℕ
 row_on link None = None
 row_on link (Some pair) = if pair.0 == link then Some pair.1 else None
 
 abbrev pub next_on : ℕ → ℕ → StateSeen → Option ℕ
-next_on link row s = row_on link (next_behind s.outstanding (link, row))
+next_on link row s = row_on link (next_after s.outstanding (link, row))
 
 -- the server's first SETTINGS
-abbrev pub greeted : ℕ → StateSeen → StateSeen
-greeted link s = record s { net = net.net_ready (sub_of (link_at s.book link)) link s.net }
+abbrev pub prefaced : ℕ → StateSeen → StateSeen
+prefaced link s = record s { net = net.net_ready (sub_of (link_at s.book link)) link s.net }
 
 -- the ends among them, by the rows' places
 abbrev pub end_kept : News → List (ℕ × EndNews) → List (ℕ × EndNews)
@@ -255,7 +255,7 @@ abbrev pub ends_kept : List News → List (ℕ × EndNews) → List (ℕ × EndN
 ends_kept [] ends = ends
 ends_kept (n ∷ ns) ends = ends_kept ns (end_kept n ends)
 
--- what the resolver and the dialers tell
+-- what the resolver and the dialers report
 abbrev pub links_left : NetLeft → StateSeen → StateSeen
 links_left l s = all_stamped_gone l.gone (record s { net = l.net })
 
@@ -277,7 +277,7 @@ dial_taken s = dial_draw (net.dial_answer s.book.moment (next_word s) s.net) (di
 
 -- rule 4: the channel settles
 abbrev pub limit_passed : ℕ → StateSeen → StateSeen
-limit_passed link s = stamped_gone link (record s { links = buried_in link s.links; resolver = true })
+limit_passed link s = stamped_gone link (record s { links = marked_dead_in link s.links; resolver = true })
 
 abbrev pub limits_passed : List ℕ → StateSeen → StateSeen
 limits_passed [] s = s
@@ -313,10 +313,10 @@ abbrev pub all_unconfigured : List ℕ → StateSeen → StateSeen
 all_unconfigured [] s = s
 all_unconfigured (key ∷ calls) s = all_unconfigured calls (closed ends.NoConfig (number_of key) s)
 
-unfoldable pub bare_served : StateSeen → StateSeen
-bare_served s =
-    if is_some s.held then all_configured (due_keys 0 s.bare) (record s { bare = later 0 s.bare; impatient = [] })
-    else if s.unconfigured then all_unconfigured (due_keys 0 s.impatient) (record s { impatient = later 0 s.impatient })
+unfoldable pub unconfigured_served : StateSeen → StateSeen
+unconfigured_served s =
+    if is_some s.held then all_configured (due_keys 0 s.awaiting_config) (record s { awaiting_config = later 0 s.awaiting_config; fail_fast = [] })
+    else if s.unconfigured then all_unconfigured (due_keys 0 s.fail_fast) (record s { fail_fast = later 0 s.fail_fast })
     else s
 
 -- due attempts, by the calls' numbers
@@ -343,8 +343,8 @@ abbrev pub served_in : Option Conn → ℕ × ℕ → StateSeen → Option (ℕ 
 served_in None last s = None
 served_in (Some conn.Idle) last s = None
 served_in (Some conn.Connecting) last s = None
-served_in (Some conn.Ready) last s = first_pair (next_behind s.queue last) (next_behind s.patient last)
-served_in (Some conn.Failure) last s = next_behind s.queue last
+served_in (Some conn.Ready) last s = first_pair (next_after s.queue last) (next_after s.ready_waiters last)
+served_in (Some conn.Failure) last s = next_after s.queue last
 served_in (Some conn.Shutdown) last s = None
 
 abbrev pub next_served : ℕ × ℕ → StateSeen → Option (ℕ × ℕ)
@@ -364,7 +364,7 @@ pub record Moved : Type 0 where
 
 abbrev pub pick_failed : ℕ → ℕ → StateSeen → StateSeen
 pick_failed number row s =
-    sealed (told_acts (book_acted (call.pick_failed row s.book.moment (next_word s)) number s.book) number row (unqueued number row s))
+    sealed (reported_acts (book_acted (call.pick_failed row s.book.moment (next_word s)) number s.book) number row (unqueued number row s))
 
 -- a round: due attempts, then the queue
 abbrev pub dues_made : List (ℕ × ℕ) → StateSeen → Moved

@@ -16,11 +16,11 @@ use Rattle.call_core.specs.Steps.{Stepped, cancel_reply, finish_reply, lent, sen
 use Rattle.ledger_stamps.specs.Steps.{changed_at, index_at}
 use Rattle.h2_link.specs.Drains.{Drains, next, opened_between}
 use Rattle.h2_link.specs.Feeds.{Line}
-use Rattle.h2_link.specs.Heard.{heard}
+use Rattle.h2_link.specs.Received.{handled}
 use Rattle.h2_link.specs.Steps.{cut, pinged, placed, sealed_wire}
 use Rattle.h2_link.specs.Wire.{Wire, fresh_wire}
 use Rattle.h2_link.specs.declared.news.Drained.{Drained}
-use Rattle.grpc_link.specs.Links.{GrpcSeen, link_heard, opened_all, placed_reader, without}
+use Rattle.grpc_link.specs.Links.{GrpcSeen, link_received, opened_all, placed_reader, without}
 use Rattle.grpc_link.specs.declared.link.GrpcArrival.{GrpcArrival}
 use Rattle.grpc_link.specs.declared.readers.TagReader.{TagReader}
 use Rattle.channel_core.specs.declared.state.slots.CallSlot.{CallSlot}
@@ -119,7 +119,7 @@ without_due slot = record slot { due = None }
 abbrev pub with_bucket : ℕ → CallSlot → CallSlot
 with_bucket bucket slot = record slot { bucket = if is_some slot.call.chosen then slot.bucket else bucket }
 
--- the buckets, one for each run of configs with equal throttling, behind that of calls without a configuration
+-- the buckets, one for each run of configs with equal throttling, after that of calls without a configuration
 pub record BucketsSeen : Type 0 where
   pub runs : List (Option Bucket)
   pub throttle : Option Throttle
@@ -157,8 +157,8 @@ fresh_link = record { link = record { wire = fresh_wire; rest = [] }; readers = 
 abbrev pub new_slot : GrpcSeen → LinkSlot
 new_slot link = record { link = link; dead = false; retiring = false }
 
-abbrev pub buried : LinkSlot → LinkSlot
-buried slot = record slot { dead = true }
+abbrev pub marked_dead : LinkSlot → LinkSlot
+marked_dead slot = record slot { dead = true }
 
 abbrev pub retired : LinkSlot → LinkSlot
 retired slot = record slot { retiring = true }
@@ -205,8 +205,8 @@ sealed_in link links = changed_at (with_link sealed_link) links link
 abbrev pub pinged_in : ℕ → ℕ → List LinkSlot → List LinkSlot
 pinged_in link word links = changed_at (with_link (pinged_link word)) links link
 
-abbrev pub buried_in : ℕ → List LinkSlot → List LinkSlot
-buried_in link links = changed_at buried links link
+abbrev pub marked_dead_in : ℕ → List LinkSlot → List LinkSlot
+marked_dead_in link links = changed_at marked_dead links link
 
 abbrev pub retired_in : ℕ → List LinkSlot → List LinkSlot
 retired_in link links = changed_at retired links link
@@ -222,52 +222,52 @@ takes_rows link links = takes_rows_at (numbered links link)
 abbrev pub placed_in : ℕ → ℕ → ℕ → List LinkSlot → List LinkSlot
 placed_in link row limit links = if takes_rows link links then changed_at (with_link (placed_link row limit)) links link else links
 
--- what a link hears of the next bytes; None where there is no such link, or it is dead
-pub record Heard : Type 0 where
+-- what a link is notified of the next bytes; None where there is no such link, or it is dead
+pub record Received : Type 0 where
   pub links : List LinkSlot
   pub taken : ℕ
   pub read : ℕ
   pub news : List News
 
-abbrev pub heard_link : List ℕ → GrpcSeen → GrpcSeen
-heard_link piece g = (link_heard g piece).link
+abbrev pub received_link : List ℕ → GrpcSeen → GrpcSeen
+received_link piece g = (link_received g piece).link
 
-abbrev pub heard_by : LinkSlot → ℕ → List ℕ → List LinkSlot → Heard
-heard_by slot link piece links = record {
-  links = changed_at (with_link (heard_link piece)) links link;
-  taken = (heard slot.link.link piece).taken;
-  read = (heard slot.link.link piece).link.wire.read;
-  news = (link_heard slot.link piece).news;
+abbrev pub received_by : LinkSlot → ℕ → List ℕ → List LinkSlot → Received
+received_by slot link piece links = record {
+  links = changed_at (with_link (received_link piece)) links link;
+  taken = (handled slot.link.link piece).taken;
+  read = (handled slot.link.link piece).link.wire.read;
+  news = (link_received slot.link piece).news;
 }
 
-abbrev pub hears_at : Option LinkSlot → Bool
-hears_at None = false
-hears_at (Some slot) = not (slot.dead || is_some slot.link.link.wire.broken)
+abbrev pub receives_at : Option LinkSlot → Bool
+receives_at None = false
+receives_at (Some slot) = not (slot.dead || is_some slot.link.link.wire.broken)
 
-abbrev pub heard_at : Option LinkSlot → ℕ → List ℕ → List LinkSlot → Option Heard
-heard_at None link piece links = None
-heard_at (Some slot) link piece links = if hears_at (Some slot) then Some (heard_by slot link piece links) else None
+abbrev pub received_at : Option LinkSlot → ℕ → List ℕ → List LinkSlot → Option Received
+received_at None link piece links = None
+received_at (Some slot) link piece links = if receives_at (Some slot) then Some (received_by slot link piece links) else None
 
-abbrev pub heard_in : ℕ → List ℕ → List LinkSlot → Option Heard
-heard_in link piece links = heard_at (numbered links link) link piece links
+abbrev pub received_in : ℕ → List ℕ → List LinkSlot → Option Received
+received_in link piece links = received_at (numbered links link) link piece links
 
 -- what the call answers of it
-abbrev pub arrival_of : Heard → GrpcArrival
+abbrev pub arrival_of : Received → GrpcArrival
 arrival_of h = record { taken = h.taken; read = h.read; news = h.news }
 
 abbrev pub arrival_by : List ℕ → LinkSlot → GrpcArrival
 arrival_by piece slot = record {
-  taken = (heard slot.link.link piece).taken;
-  read = (heard slot.link.link piece).link.wire.read;
-  news = (link_heard slot.link piece).news;
+  taken = (handled slot.link.link piece).taken;
+  read = (handled slot.link.link piece).link.wire.read;
+  news = (link_received slot.link piece).news;
 }
 
 abbrev pub arrival_at : List ℕ → Option LinkSlot → Option GrpcArrival
 arrival_at piece None = None
-arrival_at piece (Some slot) = if hears_at (Some slot) then Some (arrival_by piece slot) else None
+arrival_at piece (Some slot) = if receives_at (Some slot) then Some (arrival_by piece slot) else None
 
-abbrev pub links_heard : List LinkSlot → Option Heard → List LinkSlot
-links_heard links h = option_map_or (λ h. h.links) h links
+abbrev pub links_received : List LinkSlot → Option Received → List LinkSlot
+links_received links h = option_map_or (λ h. h.links) h links
 
 -- a drain: whole frames, as many as fit, and the streams that they opened; nothing where the link is broken, there is none, or the
 -- room is too small

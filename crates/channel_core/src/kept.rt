@@ -9,7 +9,7 @@ use std::alloc::Global;
 use std::marker::Model;
 use std::mem;
 
-/// A journal, and for how many entries there is room behind its last one.
+/// A journal, and for how many entries there is room after its last one.
 #[derive(Debug, Drop)]
 pub struct Kept {
     alloc: Global,

@@ -57,13 +57,13 @@ pub struct State<P: Balancer> {
     outstanding: Gate,
     /// The attempts that wait for a pick: those of calls that do not wait for ready, and those of calls that do.
     queue: Gate,
-    patient: Gate,
+    ready_waiters: Gate,
     /// The due moments and the deadlines of calls.
     dues: Timers,
     deadlines: Timers,
     /// The calls without a configuration; and of these, those whose application does not wait for ready.
-    bare: Timers,
-    impatient: Timers,
+    awaiting_config: Timers,
+    fail_fast: Timers,
     /// The links with resets that are still to be sealed.
     resets: Items<u32>,
 }
@@ -85,11 +85,11 @@ impl<P: Balancer> Model for State<P> {
       links = s.links;
       outstanding = s.outstanding;
       queue = s.queue;
-      patient = s.patient;
+      ready_waiters = s.ready_waiters;
       dues = s.dues;
       deadlines = s.deadlines;
-      bare = s.bare;
-      impatient = s.impatient;
+      awaiting_config = s.awaiting_config;
+      fail_fast = s.fail_fast;
       resets = s.resets;
     } };
 }
@@ -115,11 +115,11 @@ impl<P: Balancer> State<P> {
             links: LinkTable::new(alloc),
             outstanding: Gate::new(alloc),
             queue: Gate::new(alloc),
-            patient: Gate::new(alloc),
+            ready_waiters: Gate::new(alloc),
             dues: Timers::new(alloc),
             deadlines: Timers::new(alloc),
-            bare: Timers::new(alloc),
-            impatient: Timers::new(alloc),
+            awaiting_config: Timers::new(alloc),
+            fail_fast: Timers::new(alloc),
             resets: Items::new(alloc),
         })
     }
@@ -182,7 +182,7 @@ impl<P: Balancer> State<P> {
         }
     }
 
-    /// The first refusal that stands, of those that the channel itself tells.
+    /// The first refusal that stands, of those that the channel itself reports.
     fn refused(&self, event: &Event) -> Option<Refusal>
         ensures { result ≡ applying.refusal_of event.now self.now }
     {
@@ -258,7 +258,7 @@ impl<P: Balancer> State<P> {
         &self.book.ledger
     }
 
-    /// What a look at the channel tells, with its state after the last step and whether it is spent.
+    /// What a look at the channel reports, with its state after the last step and whether it is spent.
     pub fn view(&self, state: Conn, spent: bool) -> View
         ensures { result ≡ record { state = state; wants_resolution = self.now.resolver; next = applying.next_of self.now; dialable = applying.is_dialable_in self.now; spent = spent } }
     {

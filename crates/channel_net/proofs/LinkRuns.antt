@@ -12,7 +12,7 @@ use Rattle.grpc_base.specs.declared.event.Refusal.TheVariants as refusal
 use Rattle.grpc_base.specs.declared.kind.Kind.{Kind}
 use Rattle.grpc_base.specs.Addresses.{has_address}
 use Rattle.grpc_base.specs.Kinds.{has_kind}
-use Rattle.subchannel.specs.Records.{SubRecord, next_dials, again_after, until_after, is_live, is_ready, is_idle, is_failure, is_connecting, is_dialable, is_dialing, is_greeting, is_due, backing_off, wished, dialed, linked_up, failed, greeted, lost, clocked, new_sub, shut_down}
+use Rattle.subchannel.specs.Records.{SubRecord, next_dials, again_after, until_after, is_live, is_ready, is_idle, is_failure, is_connecting, is_dialable, is_dialing, awaits_preface, is_due, backing_off, wished, dialed, linked_up, failed, prefaced, lost, clocked, new_sub, shut_down}
 use Rattle.subchannel.specs.Boards.{changed, changed_at, clocked_at, first_clocked, first_number, kept, kept_or_shut, numbered, passes, passes_test}
 use Rattle.policy_rack.specs.Kinds.{kinds_of}
 use Rattle.policy_rack.specs.Steps.{may_take_over}
@@ -79,14 +79,14 @@ failed-by a conn.Ready d again until linked h = h
 failed-by a conn.Failure d again until linked h = h
 failed-by a conn.Shutdown d again until linked h = h
 
-greeted-by : (a : Address) (c : Conn) (d : ℕ) (again until : Option ℕ) (linked : Bool) → IsShaped c until linked → Shaped (greeted (sub_of a c d again until linked))
-greeted-by a conn.Idle d again until linked h = h
-greeted-by a conn.Connecting d again None linked h = h
-greeted-by a conn.Connecting d again (Some t) true h = (refl, refl)
-greeted-by a conn.Connecting d again (Some t) false h = tt
-greeted-by a conn.Ready d again until linked h = h
-greeted-by a conn.Failure d again until linked h = h
-greeted-by a conn.Shutdown d again until linked h = h
+prefaced-by : (a : Address) (c : Conn) (d : ℕ) (again until : Option ℕ) (linked : Bool) → IsShaped c until linked → Shaped (prefaced (sub_of a c d again until linked))
+prefaced-by a conn.Idle d again until linked h = h
+prefaced-by a conn.Connecting d again None linked h = h
+prefaced-by a conn.Connecting d again (Some t) true h = (refl, refl)
+prefaced-by a conn.Connecting d again (Some t) false h = tt
+prefaced-by a conn.Ready d again until linked h = h
+prefaced-by a conn.Failure d again until linked h = h
+prefaced-by a conn.Shutdown d again until linked h = h
 
 -- a lost link is no link
 lost-by : (a : Address) (c : Conn) (d : ℕ) (again until : Option ℕ) (linked : Bool) → IsShaped c until linked → Shaped (lost (sub_of a c d again until linked)) × ((lost (sub_of a c d again until linked)).linked ≡ false)
@@ -122,8 +122,8 @@ keeps-up s h = up-by s.address s.state s.dials s.again s.until s.linked h
 keeps-failed : KeepsShape failed
 keeps-failed s h = failed-by s.address s.state s.dials s.again s.until s.linked h
 
-keeps-greeted : KeepsShape greeted
-keeps-greeted s h = greeted-by s.address s.state s.dials s.again s.until s.linked h
+keeps-prefaced : KeepsShape prefaced
+keeps-prefaced s h = prefaced-by s.address s.state s.dials s.again s.until s.linked h
 
 keeps-lost : KeepsShape lost
 keeps-lost s h = (lost-by s.address s.state s.dials s.again s.until s.linked h).0
@@ -344,8 +344,8 @@ dialed-linked : (moment word : ℕ) (s : SubRecord) → (dialed moment word s).l
 dialed-linked moment word s =
     same-by (is_dialable s) s (record s { dials = next_dials s; again = Some (again_after s moment word); until = Some (until_after s moment word) }) refl
 
-greeted-linked : (s : SubRecord) → (greeted s).linked ≡ s.linked
-greeted-linked s = same-by (is_greeting s) s (record s { state = conn.Ready; dials = 0; again = None; until = None }) refl
+prefaced-linked : (s : SubRecord) → (prefaced s).linked ≡ s.linked
+prefaced-linked s = same-by (awaits_preface s) s (record s { state = conn.Ready; dials = 0; again = None; until = None }) refl
 
 -- a dial that is a link
 up-here : (s : SubRecord) → is_dialing s ≡ true → (linked_up s).linked ≡ true
@@ -454,7 +454,7 @@ tied-call (Dial moment word) n x = tied-dial moment word n (first_number is_dial
 tied-call (Up sub link) n x = tied-up-by (is_some (dial_refusal (numbered n.board sub))) sub link n refl x
 tied-call (DialFailed sub) n x = tied-failed-by (is_some (dial_refusal (numbered n.board sub))) sub n x
 tied-call (Ready sub link) n x =
-    tied-if (steps.owns sub link n) n (steps.board_told greeted sub n) x (tied-same greeted keeps-greeted greeted-linked n.board n.links sub x)
+    tied-if (steps.owns sub link n) n (steps.board_reported prefaced sub n) x (tied-same prefaced keeps-prefaced prefaced-linked n.board n.links sub x)
 tied-call (Down sub link) n x = tied-if (steps.owns sub link n) n (steps.net_lost sub n) x (tied-lost sub n x)
 tied-call (Clock moment) n x = tied-rounds moment (steps.clocks_left n.board) (steps.left_of n) x
 tied-call Settle n x = tied-settled n x
@@ -465,8 +465,8 @@ tied-calls : (calls : List NetCall) (n : NetSeen) → TiedNet n → TiedNet (aft
 tied-calls [] n x = x
 tied-calls (call ∷ calls) n x = tied-calls calls (after_call call n) (tied-call call n x)
 
--- what a link tells of the state
-shape-link : (a : Address) (c : Conn) (d : ℕ) (again until : Option ℕ) (linked : Bool) → IsShaped c until linked → linked ≡ (is_ready c || is_greeting (sub_of a c d again until linked))
+-- what a link reports of the state
+shape-link : (a : Address) (c : Conn) (d : ℕ) (again until : Option ℕ) (linked : Bool) → IsShaped c until linked → linked ≡ (is_ready c || awaits_preface (sub_of a c d again until linked))
 shape-link a conn.Idle d again until linked h = h.1
 shape-link a conn.Connecting d again None linked h = h
 shape-link a conn.Connecting d again (Some t) linked h = refl

@@ -48,8 +48,8 @@ pub address-is : (a : Address) (s : SubRecord) → is_live_at a s ≡ true → s
 address-is a s e =
     let all : ((is_live s && (s.address.ip == a.ip)) ≡ true) × ((s.address.port == a.port) ≡ true) =
     both_true (is_live s && (s.address.ip == a.ip)) (s.address.port == a.port) e in
-    let front : (is_live s ≡ true) × ((s.address.ip == a.ip) ≡ true) = both_true (is_live s) (s.address.ip == a.ip) all.0 in
-    let ip : s.address.ip ≡ a.ip = eqb-true s.address.ip a.ip front.1 in
+    let prefix : (is_live s ≡ true) × ((s.address.ip == a.ip) ≡ true) = both_true (is_live s) (s.address.ip == a.ip) all.0 in
+    let ip : s.address.ip ≡ a.ip = eqb-true s.address.ip a.ip prefix.1 in
     let port : s.address.port ≡ a.port = eqb-true s.address.port a.port all.1 in
     ap (λ (i : ℕ). address_by i s.address.port) ip ∙ ap (λ (p : ℕ). address_by a.ip p) port
 
@@ -79,14 +79,14 @@ one-address board a b t u x y e =
     let right : x.s.address ≡ a = address-is a x.s x.live in
     sym left ∙ ap (λ (r : SubRecord). r.address) same ∙ right
 
-front-has : (b : Address) (rest : List Address) (a : Address) → b ≡ a → Contains (b ∷ rest) a
-front-has b rest a e =
+prefix-has : (b : Address) (rest : List Address) (a : Address) → b ≡ a → Contains (b ∷ rest) a
+prefix-has b rest a e =
     subst (λ (y : Address). Contains (b ∷ rest) y) e (Contains-get_or (b ∷ rest) 0 b (omega arith))
 
-behind-has : (b : Address) (rest : List Address) (a : Address) → Contains rest a → Contains (b ∷ rest) a
-behind-has b rest a c = Contains-append_right (b ∷ []) rest a c
+afterwards-has : (b : Address) (rest : List Address) (a : Address) → Contains rest a → Contains (b ∷ rest) a
+afterwards-has b rest a c = Contains-append_right (b ∷ []) rest a c
 
--- no address behind is seen as the same subchannel
+-- no address after is seen as the same subchannel
 is-other : (b : Bool) (m n : ℕ) → (m == n) ≡ b → (m ≡ n → ⊥) → (m == n) ≡ false
 is-other true m n e never = absurd (never (eqb-true m n e))
 is-other false m n e never = e
@@ -95,13 +95,13 @@ not-among-step : (board : List SubRecord) (b : Address) (rest : List Address) (a
 not-among-step board b rest a t None e x new next = next
 not-among-step board b rest a t (Some u) e x new next =
     let y : Sees board b u = sees board b u e in
-    let here : (u.sub == t.sub) ≡ false = is-other (u.sub == t.sub) u.sub t.sub refl (λ same. new (front-has b rest a (one-address board a b t u x y same))) in
+    let here : (u.sub == t.sub) ≡ false = is-other (u.sub == t.sub) u.sub t.sub refl (λ same. new (prefix-has b rest a (one-address board a b t u x y same))) in
     ap (λ (h : Bool). h || list_any (λ (v : SubSeen). v.sub == t.sub) (view_of board rest)) here ∙ next
 
 not-among : (board : List SubRecord) (rest : List Address) (a : Address) (t : SubSeen) → Sees board a t → (Contains rest a → ⊥) → list_any (λ (u : SubSeen). u.sub == t.sub) (view_of board rest) ≡ false
 not-among board [] a t x new = refl
 not-among board (b ∷ rest) a t x new =
-    not-among-step board b rest a t (seen_at board b) refl x new (not-among board rest a t x (λ c. new (behind-has b rest a c)))
+    not-among-step board b rest a t (seen_at board b) refl x new (not-among board rest a t x (λ c. new (afterwards-has b rest a c)))
 
 view-step : (board : List SubRecord) (a : Address) (rest : List Address) (o : Option SubSeen) → seen_at board a ≡ o → (Contains rest a → ⊥) → table.IsWithoutRepeats (view_of board rest) → table.IsWithoutRepeats (option_to_list o ++ view_of board rest)
 view-step board a rest None e new next = next

@@ -9,12 +9,12 @@ use Rattle.grpc_base.specs.Addresses.{IsWithoutRepeats, has_address, with_addres
 use Rattle.grpc_base.specs.Kinds.{has_kind}
 use Rattle.lb_policy.specs.declared.seen.SubSeen.{SubSeen}
 use Rattle.lb_policy.specs.Table.{PolicySeen}
-use Rattle.subchannel.specs.Records.{SubRecord, is_live, is_due, is_dialable, wished, dialed, linked_up, failed, greeted, lost, clocked}
+use Rattle.subchannel.specs.Records.{SubRecord, is_live, is_due, is_dialable, wished, dialed, linked_up, failed, prefaced, lost, clocked}
 use Rattle.subchannel.specs.Boards.{changed, changed_at, clocked_at, first_number, is_live_at, kept}
 use Rattle.subchannel.specs.Runs as board
 use Rattle.subchannel.specs.Runs.{BoardCall, live_count}
 use Rattle.subchannel.proofs.KeepLaws.{KeepsLive}
-use Rattle.subchannel.proofs.StepLaws.{keeps_live-wished, keeps_live-dialed, keeps_live-linked_up, keeps_live-failed, keeps_live-greeted, keeps_live-lost, keeps_live-clocked}
+use Rattle.subchannel.proofs.StepLaws.{keeps_live-wished, keeps_live-dialed, keeps_live-linked_up, keeps_live-failed, keeps_live-prefaced, keeps_live-lost, keeps_live-clocked}
 use Rattle.subchannel.proofs.RunLaws.{address-step}
 use Rattle.subchannel.proofs.OnceLaws.{count-kept}
 use Rattle.policy_rack.specs.Kinds.{first_place, kinds_of}
@@ -22,7 +22,7 @@ use Rattle.policy_rack.specs.Runs as rack
 use Rattle.policy_rack.specs.Runs.{RackCall}
 use Rattle.policy_rack.specs.Steps.{RackSeen, adopted, may_take_over}
 use Rattle.channel_net.specs.declared.links.OwnLink.{OwnLink}
-use Rattle.channel_net.specs.Askers.{AskerSeen, told, asker_taken_over, asker_retired}
+use Rattle.channel_net.specs.Askers.{AskerSeen, reported, asker_taken_over, asker_retired}
 use Rattle.channel_net.specs.Lists.{each_once, with_addresses, state_at}
 use Rattle.channel_net.specs.Steps as steps
 use Rattle.channel_net.specs.Steps.{NetSeen, NetLeft, listed, net_kept, net_adopted, net_taken, net_resolved, is_for_current, adopted_view, cleared, moved_over}
@@ -61,9 +61,9 @@ reaches-then r s t a b = record {
   are = b.are ∙ ap (rack.after_calls b.calls) a.are ∙ sym (rack-append a.calls b.calls r);
 }
 
-reaches-told : (o : Option Conn) (sub : ℕ) (a : AskerSeen) → Reaches a.rack (told o sub a).rack
-reaches-told None sub a = stays a.rack
-reaches-told (Some state) sub a = record { calls = rack.Note sub state ∷ []; quiet = tt; are = refl }
+reaches-reported : (o : Option Conn) (sub : ℕ) (a : AskerSeen) → Reaches a.rack (reported o sub a).rack
+reaches-reported None sub a = stays a.rack
+reaches-reported (Some state) sub a = record { calls = rack.Note sub state ∷ []; quiet = tt; are = refl }
 
 reaches-adopted : (view : List SubSeen) (o : Option ℕ) (r : RackSeen) → Reaches r (adopted view o r)
 reaches-adopted view None r = stays r
@@ -120,7 +120,7 @@ count-call (board.Wished n) a subs quiet = count-at wished a subs n keeps_live-w
 count-call (board.Dial n moment word) a subs quiet = count-at (dialed moment word) a subs n (keeps_live-dialed moment word) (address-step (board.Dial n moment word))
 count-call (board.Up n) a subs quiet = count-at linked_up a subs n keeps_live-linked_up (address-step (board.Up n))
 count-call (board.Failed n) a subs quiet = count-at failed a subs n keeps_live-failed (address-step (board.Failed n))
-count-call (board.Ready n) a subs quiet = count-at greeted a subs n keeps_live-greeted (address-step (board.Ready n))
+count-call (board.Ready n) a subs quiet = count-at prefaced a subs n keeps_live-prefaced (address-step (board.Ready n))
 count-call (board.Lost n) a subs quiet = count-at lost a subs n keeps_live-lost (address-step (board.Lost n))
 count-call (board.Clock moment) a subs quiet = count-clocked moment a subs (first_number (is_due moment) subs)
 
@@ -161,7 +161,7 @@ moves-if : (b : Bool) (n s t : NetSeen) → Moves n s → Moves n t → Moves n 
 moves-if true n s t x y = x
 moves-if false n s t x y = y
 
--- a call of the board that keeps no lists, with what it tells the rack
+-- a call of the board that keeps no lists, with what it reports to the rack
 moves-by : (n : NetSeen) (call : BoardCall) (a : AskerSeen) (links : List OwnLink) → NoKeep call → Orderly n → Reaches n.asker.rack a.rack → Moves n (record { asker = a; board = board.after_call call n.board; current = n.current; pending = n.pending; links = links })
 moves-by n call a links quiet o r = record {
   rack = r;
@@ -241,21 +241,21 @@ moves-up sub link n o = moves-by n (board.Up sub) n.asker (n.links ++ record { s
 
 pub moves-failed : (sub : ℕ) (n : NetSeen) → Orderly n → Moves n (steps.net_dial_failed sub n)
 moves-failed sub n o =
-    moves-by n (board.Failed sub) (told (state_at (changed_at failed n.board sub) sub) sub n.asker) n.links tt o (reaches-told (state_at (changed_at failed n.board sub) sub) sub n.asker)
+    moves-by n (board.Failed sub) (reported (state_at (changed_at failed n.board sub) sub) sub n.asker) n.links tt o (reaches-reported (state_at (changed_at failed n.board sub) sub) sub n.asker)
 
 pub moves-ready : (sub link : ℕ) (n : NetSeen) → Orderly n → Moves n (steps.net_ready sub link n)
 moves-ready sub link n o =
-    moves-if (steps.owns sub link n) n (steps.board_told greeted sub n) n (moves-by n (board.Ready sub) (told (state_at (changed_at greeted n.board sub) sub) sub n.asker) n.links tt o (reaches-told (state_at (changed_at greeted n.board sub) sub) sub n.asker)) (moves-not n o)
+    moves-if (steps.owns sub link n) n (steps.board_reported prefaced sub n) n (moves-by n (board.Ready sub) (reported (state_at (changed_at prefaced n.board sub) sub) sub n.asker) n.links tt o (reaches-reported (state_at (changed_at prefaced n.board sub) sub) sub n.asker)) (moves-not n o)
 
 pub moves-down : (sub link : ℕ) (n : NetSeen) → Orderly n → Moves n (steps.net_down sub link n)
 moves-down sub link n o =
-    moves-if (steps.owns sub link n) n (steps.net_lost sub n) n (moves-by n (board.Lost sub) (told (state_at (changed_at lost n.board sub) sub) sub n.asker) (steps.net_lost sub n).links tt o (reaches-told (state_at (changed_at lost n.board sub) sub) sub n.asker)) (moves-not n o)
+    moves-if (steps.owns sub link n) n (steps.net_lost sub n) n (moves-by n (board.Lost sub) (reported (state_at (changed_at lost n.board sub) sub) sub n.asker) (steps.net_lost sub n).links tt o (reaches-reported (state_at (changed_at lost n.board sub) sub) sub n.asker)) (moves-not n o)
 
 pub moves-clocked-by : (moment : ℕ) (l : NetLeft) (o : Option ℕ) → Orderly l.net → Moves l.net (steps.clocked_at moment o l).net
 moves-clocked-by moment l None o = moves-not l.net o
 moves-clocked-by moment l (Some sub) o =
     let after : List SubRecord = board.after_call (board.Clock moment) l.net.board in
-    moves-by l.net (board.Clock moment) (told (state_at after sub) sub l.net.asker) (steps.clocked_at moment (Some sub) l).net.links tt o (reaches-told (state_at after sub) sub l.net.asker)
+    moves-by l.net (board.Clock moment) (reported (state_at after sub) sub l.net.asker) (steps.clocked_at moment (Some sub) l).net.links tt o (reaches-reported (state_at after sub) sub l.net.asker)
 
 moves-rounds : (moment k : ℕ) (l : NetLeft) → Orderly l.net → Moves l.net (steps.clock_rounds moment k l).net
 moves-rounds moment zero l o = moves-not l.net o
@@ -275,7 +275,7 @@ moves-over l o = over-by (may_take_over l.net.asker.rack) l o
 pub moves-connected-by : (n : NetSeen) (o : Option ℕ) → Orderly n → Moves n (steps.connected_at o n)
 moves-connected-by n None o = moves-not n o
 moves-connected-by n (Some sub) o =
-    moves-by n (board.Wished sub) (told (Some conn.Connecting) sub n.asker) n.links tt o (reaches-told (Some conn.Connecting) sub n.asker)
+    moves-by n (board.Wished sub) (reported (Some conn.Connecting) sub n.asker) n.links tt o (reaches-reported (Some conn.Connecting) sub n.asker)
 
 moves-wishes : (k : ℕ) (n : NetSeen) → Orderly n → Moves n (steps.connect_rounds k n)
 moves-wishes zero n o = moves-not n o

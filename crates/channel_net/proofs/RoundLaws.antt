@@ -99,9 +99,9 @@ pub find-passes : (p : ℕ → Bool) (xs : List ℕ) (k : ℕ) → find p xs ≡
 find-passes p [] k e = let no : ⊥ = (cc) in absurd no
 find-passes p (x ∷ xs) k e = find-step p x k (p x) (find p xs) refl e (find-passes p xs k)
 
-pub front_true : (p q : Bool) → (p && q) ≡ true → p ≡ true
-front_true true q e = refl
-front_true false q e = e
+pub prefix_true : (p q : Bool) → (p && q) ≡ true → p ≡ true
+prefix_true true q e = refl
+prefix_true false q e = e
 
 pub passing : (p : SubRecord → Bool) (o : Option SubRecord) → passes_test p o ≡ true → (s : SubRecord) × ((o ≡ Some s) × (p s ≡ true))
 passing p None e = let no : ⊥ = (cc) in absurd no
@@ -131,7 +131,7 @@ idle-number subs (suc place) s e idle = idle-place subs place s e idle
 idle-fewer : (n : NetSeen) (sub : ℕ) → first_wished n ≡ Some sub → idle_count n.board ≡ suc (idle_count (connected_at (Some sub) n).board)
 idle-fewer n sub e =
     let test : (passes (λ (s : SubRecord). is_idle s.state) n.board sub && is_wished n.asker.rack sub) ≡ true = find-passes (idle_and_wished n) (live_numbers 1 n.board) sub e in
-    let idle : passes (λ (s : SubRecord). is_idle s.state) n.board sub ≡ true = front_true (passes (λ (s : SubRecord). is_idle s.state) n.board sub) (is_wished n.asker.rack sub) test in
+    let idle : passes (λ (s : SubRecord). is_idle s.state) n.board sub ≡ true = prefix_true (passes (λ (s : SubRecord). is_idle s.state) n.board sub) (is_wished n.asker.rack sub) test in
     let s = passing (λ (r : SubRecord). is_idle r.state) (numbered n.board sub) idle in
     idle-number n.board sub s.0 s.1.0 s.1.1
 

@@ -12,7 +12,7 @@ use Rattle.lb_policy.specs.Steps.{emptied, given, noted, turned}
 use Rattle.policy_rack.specs.declared.live.Live.{Live}
 use Rattle.policy_rack.specs.Steps.{RackSeen, new_rack, changed, changed_of, renewed, begun, noted_by_live, may_take_over, taken_over, asked, is_at, live_of, policy_of}
 use Rattle.policy_rack.specs.Runs as rack
-use Rattle.policy_rack.specs.Runs.{RackCall, AreLive, SparesAreEmpty, IsKept}
+use Rattle.policy_rack.specs.Runs.{RackCall, GenerationsAreLive, SparesAreEmpty, IsKept}
 use Rattle.channel_net.specs.declared.replies.Asked.{Asked}
 use Rattle.channel_net.specs.Askers.{AskerSeen, may_ask, answer_of}
 use Rattle.channel_net.specs.Steps.{NetSeen, new_net}
@@ -104,12 +104,12 @@ never-of f same done ps c (Some live) t = never-along f same done ps c live.plac
 turns-apart : (f : PolicySeen → PolicySeen) (done : List ℕ) (ps : List PolicySeen) (live : Live) (i : ℕ) → (i ≡ live.place → ⊥) → TurnsAre done ps (Some live) → TurnsAre done (changed f ps i) (Some live)
 turns-apart f done ps live i away t = λ q e. t q (sym (get-other f ps i live.place away) ∙ e)
 
-without-pending : (done : List ℕ) (ps : List PolicySeen) (c n : Option Live) (made : ℕ) → AreLive c n made → TurnsAre done ps c → TurnsAre done (changed_of emptied n ps) c
+without-pending : (done : List ℕ) (ps : List PolicySeen) (c n : Option Live) (made : ℕ) → GenerationsAreLive c n made → TurnsAre done ps c → TurnsAre done (changed_of emptied n ps) c
 without-pending done ps None n made h t = tt
 without-pending done ps (Some live) None made h t = t
 without-pending done ps (Some live) (Some later) made h t = turns-apart emptied done ps live later.place (λ e. h.0 (sym e)) t
 
-moved-on : (done : List ℕ) (ps : List PolicySeen) (c n : Option Live) (made : ℕ) → AreLive c n made → NeverAsked done ps n → TurnsAre done (changed_of emptied c ps) n
+moved-on : (done : List ℕ) (ps : List PolicySeen) (c n : Option Live) (made : ℕ) → GenerationsAreLive c n made → NeverAsked done ps n → TurnsAre done (changed_of emptied c ps) n
 moved-on done ps None None made h t = tt
 moved-on done ps None (Some later) made h t = absurd h
 moved-on done ps (Some live) None made h t = tt
@@ -221,20 +221,20 @@ reached-calls keeps policies done (call ∷ calls) r q x =
     reached-calls keeps policies done calls (rack.after_call call r) both.1 (reached-call keeps policies done call r both.0 x)
 
 -- a pick request
-asked-never : (done : List ℕ) (ps : List PolicySeen) (live : Live) (n : Option Live) (made : ℕ) → AreLive (Some live) n made → NeverAsked done ps n → NeverAsked (done ++ live.generation ∷ []) (changed turned ps live.place) n
+asked-never : (done : List ℕ) (ps : List PolicySeen) (live : Live) (n : Option Live) (made : ℕ) → GenerationsAreLive (Some live) n made → NeverAsked done ps n → NeverAsked (done ++ live.generation ∷ []) (changed turned ps live.place) n
 asked-never done ps live None made h t = tt
 asked-never done ps live (Some later) made h t =
     let less : live.generation < later.generation = h.1 in
     ((λ q e. t.0 q (sym (get-other turned ps live.place later.place h.0) ∙ e)), times-other later.generation live.generation done (λ e. (let absurdity : ⊥ = absurd (omega arith) in absurdity)) t.1)
 
-live-within : (live : Live) (n : Option Live) (made : ℕ) → AreLive (Some live) n made → live.generation ≤ made
+live-within : (live : Live) (n : Option Live) (made : ℕ) → GenerationsAreLive (Some live) n made → live.generation ≤ made
 live-within live None made h = h
 live-within live (Some later) made h =
     let less : live.generation < later.generation = h.1 in let most : later.generation ≤ made = h.2 in omega arith
 
 pub asked-counted : (done : List ℕ) (r : RackSeen) (live : Live) → r.current ≡ Some live → IsKept r → Counted done r → Counted (done ++ live.generation ∷ []) (asked r)
 asked-counted done r live e k t =
-    let alive : AreLive (Some live) r.pending r.made = subst (λ (c : Option Live). AreLive c r.pending r.made) e k.live in
+    let alive : GenerationsAreLive (Some live) r.pending r.made = subst (λ (c : Option Live). GenerationsAreLive c r.pending r.made) e k.live in
     let turns : TurnsAre done r.policies (Some live) = subst (TurnsAre done r.policies) e t.current in
     let same : changed turned r.policies live.place ≡ (asked r).policies = ap (λ (c : Option Live). changed_of turned c r.policies) (sym e) in
     let current : TurnsAre (done ++ live.generation ∷ []) (changed turned r.policies live.place) (Some live) =

@@ -71,32 +71,32 @@ noted-here f sub t (Some s) e =
     let x : SubSeen = seen_as sub s in
     ap (option_map (seen_as sub)) e ∙ ap (λ (b : Bool). Some (if b then record x { state = t.state } else x)) (sym (eq-eqb sub sub refl))
 
-told-by : (b : Bool) (f : SubRecord → SubRecord) (board : List SubRecord) (sub k : ℕ) (t : SubRecord) → (k == sub) ≡ b → numbered (changed_at f board sub) sub ≡ Some t → option_map (seen_as k) (numbered (changed_at f board sub) k) ≡ option_map (noted_sub sub t.state) (option_map (seen_as k) (numbered board k))
-told-by true f board sub k t e at =
+reported-by : (b : Bool) (f : SubRecord → SubRecord) (board : List SubRecord) (sub k : ℕ) (t : SubRecord) → (k == sub) ≡ b → numbered (changed_at f board sub) sub ≡ Some t → option_map (seen_as k) (numbered (changed_at f board sub) k) ≡ option_map (noted_sub sub t.state) (option_map (seen_as k) (numbered board k))
+reported-by true f board sub k t e at =
     let same : sub ≡ k = sym (eqb-true k sub e) in
     let here : option_map (seen_as sub) (numbered (changed_at f board sub) sub) ≡ option_map (noted_sub sub t.state) (option_map (seen_as sub) (numbered board sub)) =
     ap (option_map (seen_as sub)) (numbered-here f board sub) ∙ noted-here f sub t (numbered board sub) (sym (numbered-here f board sub) ∙ at) in
     subst (λ (j : ℕ). option_map (seen_as j) (numbered (changed_at f board sub) j) ≡ option_map (noted_sub sub t.state) (option_map (seen_as j) (numbered board j))) same here
-told-by false f board sub k t e at =
+reported-by false f board sub k t e at =
     ap (option_map (seen_as k)) (numbered-away f board sub k (eqb-false k sub e)) ∙ noted-away sub k t.state (numbered board k) e
 
-told-first : (f : SubRecord → SubRecord) (board : List SubRecord) (sub : ℕ) (t : SubRecord) (o : Option ℕ) → numbered (changed_at f board sub) sub ≡ Some t → option_and_then (λ (k : ℕ). option_map (seen_as k) (numbered (changed_at f board sub) k)) o ≡ option_map (noted_sub sub t.state) (option_and_then (λ (k : ℕ). option_map (seen_as k) (numbered board k)) o)
-told-first f board sub t None at = refl
-told-first f board sub t (Some k) at = told-by (k == sub) f board sub k t refl at
+reported-first : (f : SubRecord → SubRecord) (board : List SubRecord) (sub : ℕ) (t : SubRecord) (o : Option ℕ) → numbered (changed_at f board sub) sub ≡ Some t → option_and_then (λ (k : ℕ). option_map (seen_as k) (numbered (changed_at f board sub) k)) o ≡ option_map (noted_sub sub t.state) (option_and_then (λ (k : ℕ). option_map (seen_as k) (numbered board k)) o)
+reported-first f board sub t None at = refl
+reported-first f board sub t (Some k) at = reported-by (k == sub) f board sub k t refl at
 
-told-at : (f : SubRecord → SubRecord) → KeepsLive f → KeepsAddress f → (board : List SubRecord) (sub : ℕ) (t : SubRecord) (a : Address) → numbered (changed_at f board sub) sub ≡ Some t → seen_at (changed_at f board sub) a ≡ option_map (noted_sub sub t.state) (seen_at board a)
-told-at f live address board sub t a at =
-    ap (option_and_then (λ (k : ℕ). option_map (seen_as k) (numbered (changed_at f board sub) k))) (first-same (is_live_at a) f (same-test f live address a) board sub) ∙ told-first f board sub t (first_number (is_live_at a) board) at
+reported-at : (f : SubRecord → SubRecord) → KeepsLive f → KeepsAddress f → (board : List SubRecord) (sub : ℕ) (t : SubRecord) (a : Address) → numbered (changed_at f board sub) sub ≡ Some t → seen_at (changed_at f board sub) a ≡ option_map (noted_sub sub t.state) (seen_at board a)
+reported-at f live address board sub t a at =
+    ap (option_and_then (λ (k : ℕ). option_map (seen_as k) (numbered (changed_at f board sub) k))) (first-same (is_live_at a) f (same-test f live address a) board sub) ∙ reported-first f board sub t (first_number (is_live_at a) board) at
 
 map-list : (g : SubSeen → SubSeen) (o : Option SubSeen) (view : List SubSeen) → option_to_list (option_map g o) ++ map g view ≡ map g (option_to_list o ++ view)
 map-list g None view = refl
 map-list g (Some t) view = refl
 
-pub view-told : (f : SubRecord → SubRecord) → KeepsLive f → KeepsAddress f → (board : List SubRecord) (sub : ℕ) (t : SubRecord) (addresses : List Address) → numbered (changed_at f board sub) sub ≡ Some t → view_of (changed_at f board sub) addresses ≡ map (noted_sub sub t.state) (view_of board addresses)
-view-told f live address board sub t [] at = refl
-view-told f live address board sub t (a ∷ rest) at =
-    ap (λ (o : Option SubSeen). option_to_list o ++ view_of (changed_at f board sub) rest) (told-at f live address board sub t a at)
-    ∙ ap (λ (v : List SubSeen). option_to_list (option_map (noted_sub sub t.state) (seen_at board a)) ++ v) (view-told f live address board sub t rest at)
+pub view-reported : (f : SubRecord → SubRecord) → KeepsLive f → KeepsAddress f → (board : List SubRecord) (sub : ℕ) (t : SubRecord) (addresses : List Address) → numbered (changed_at f board sub) sub ≡ Some t → view_of (changed_at f board sub) addresses ≡ map (noted_sub sub t.state) (view_of board addresses)
+view-reported f live address board sub t [] at = refl
+view-reported f live address board sub t (a ∷ rest) at =
+    ap (λ (o : Option SubSeen). option_to_list o ++ view_of (changed_at f board sub) rest) (reported-at f live address board sub t a at)
+    ∙ ap (λ (v : List SubSeen). option_to_list (option_map (noted_sub sub t.state) (seen_at board a)) ++ v) (view-reported f live address board sub t rest at)
     ∙ map-list (noted_sub sub t.state) (seen_at board a) (view_of board rest)
 
 -- a change that leaves the state
@@ -201,8 +201,8 @@ live-by : (b : Bool) (subs : List SubRecord) (a : Address) → has_live subs a �
 live-by true subs a e one = e
 live-by false subs a e one = let none : live_count a subs ≡ 0 = count-none subs a e in absurd (omega arith)
 
-in-front : (a : Address) (rest : List Address) → has_address (a ∷ rest) a ≡ true
-in-front a rest =
+in-prefix : (a : Address) (rest : List Address) → has_address (a ∷ rest) a ≡ true
+in-prefix a rest =
     let ip : (a.ip == a.ip) ≡ true = eq-eqb a.ip a.ip refl in
     let port : (a.port == a.port) ≡ true = eq-eqb a.port a.port refl in
     ap (λ (b : Bool). b && (a.port == a.port) || has_address rest a) ip ∙ ap (λ (b : Bool). b || has_address rest a) port
@@ -217,5 +217,5 @@ or-left b h e = ap (λ (x : Bool). x || h) e
 pub stay-live : (current pending : List Address) (board : List SubRecord) (addresses : List Address) → ((a : Address) → has_address addresses a ≡ true → (wanted current pending a ≡ true) × (live_count a board ≡ 1)) → StayLive current pending board addresses
 stay-live current pending board [] all = tt
 stay-live current pending board (a ∷ rest) all =
-    let here : (wanted current pending a ≡ true) × (live_count a board ≡ 1) = all a (in-front a rest) in
+    let here : (wanted current pending a ≡ true) × (live_count a board ≡ 1) = all a (in-prefix a rest) in
     (here.0, (live-by (has_live board a) board a refl here.1, stay-live current pending board rest (λ b e. all b (or-right ((a.ip == b.ip) && (a.port == b.port)) (has_address rest b) e))))

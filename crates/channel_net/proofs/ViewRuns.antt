@@ -12,23 +12,23 @@ use Rattle.grpc_base.specs.Kinds.{has_kind}
 use Rattle.lb_policy.specs.declared.seen.SubSeen.{SubSeen}
 use Rattle.lb_policy.specs.Table.{PolicySeen}
 use Rattle.lb_policy.specs.Steps.{emptied, given, noted, noted_sub, turned}
-use Rattle.subchannel.specs.Records.{SubRecord, next_dials, again_after, until_after, is_dialable, is_due, is_idle, is_dialing, wished, dialed, linked_up, failed, greeted, lost, clocked}
+use Rattle.subchannel.specs.Records.{SubRecord, next_dials, again_after, until_after, is_dialable, is_due, is_idle, is_dialing, wished, dialed, linked_up, failed, prefaced, lost, clocked}
 use Rattle.subchannel.specs.Boards.{changed_at, clocked_at, first_clocked, first_number, kept, numbered, passes}
 use Rattle.subchannel.specs.Insides.{live_numbers}
 use Rattle.subchannel.specs.Runs as board
 use Rattle.subchannel.specs.Runs.{live_count}
 use Rattle.subchannel.proofs.KeepLaws.{KeepsLive}
-use Rattle.subchannel.proofs.StepLaws.{keeps_live-wished, keeps_live-dialed, keeps_live-linked_up, keeps_live-failed, keeps_live-greeted, keeps_live-lost, keeps_live-clocked}
+use Rattle.subchannel.proofs.StepLaws.{keeps_live-wished, keeps_live-dialed, keeps_live-linked_up, keeps_live-failed, keeps_live-prefaced, keeps_live-lost, keeps_live-clocked}
 use Rattle.subchannel.proofs.RunLaws.{address-step}
 use Rattle.policy_rack.specs.declared.live.Live.{Live}
 use Rattle.policy_rack.specs.Kinds.{are_ready, first_place, kinds_of, kinds_differ, has_policy, same_kind}
 use Rattle.policy_rack.specs.Runs as rack
-use Rattle.policy_rack.specs.Runs.{RackCall, AreLive, IsKept}
+use Rattle.policy_rack.specs.Runs.{RackCall, GenerationsAreLive, IsKept}
 use Rattle.policy_rack.specs.Steps.{RackSeen, new_rack, changed, changed_of, renewed, begun, adopted, asked, is_at, live_of, may_take_over, taken_over}
 use Rattle.policy_rack.proofs.KindLaws.{has_place}
 use Rattle.grpc_base.specs.declared.kind.Kind.TheVariants as kind
 use Rattle.channel_net.specs.declared.links.OwnLink.{OwnLink}
-use Rattle.channel_net.specs.Askers.{told, may_ask}
+use Rattle.channel_net.specs.Askers.{reported, may_ask}
 use Rattle.channel_net.specs.Lists.{each_once, state_at, view_of}
 use Rattle.channel_net.specs.Steps as steps
 use Rattle.channel_net.specs.Steps.{NetSeen, NetLeft, new_net, dial_refusal, is_for_current, is_wished, idle_and_wished, first_wished, listed, net_kept, net_taken, moved_over}
@@ -38,10 +38,10 @@ use Rattle.channel_net.specs.Laws.{SeesBoard, Views}
 use Rattle.channel_net.proofs.BoardLaws.{changed_none}
 use Rattle.channel_net.proofs.KindRuns.{kinds-stay, place-is, there}
 use Rattle.channel_net.proofs.MoveLaws.{Orderly, Moves, orderly-new, moves-resolved, moves-dialed, moves-up, moves-failed, moves-ready, moves-down, moves-clocked-by, moves-connected-by, moves-over, moves-shut}
-use Rattle.channel_net.proofs.RoundLaws.{find-passes, front_true, passing}
+use Rattle.channel_net.proofs.RoundLaws.{find-passes, prefix_true, passing}
 use Rattle.channel_net.proofs.RunLaws.{Follows, call-follows}
 use Rattle.channel_net.proofs.TurnLaws.{get-other}
-use Rattle.channel_net.proofs.ViewLaws.{KeepsAddress, StayLive, numbered-here, view-told, view-still, view-kept, stay-live, or-left, or-right}
+use Rattle.channel_net.proofs.ViewLaws.{KeepsAddress, StayLive, numbered-here, view-reported, view-still, view-kept, stay-live, or-left, or-right}
 
 -- a policy after it changed
 sees-changed : (f : PolicySeen → PolicySeen) (ps : List PolicySeen) (i : ℕ) (p : PolicySeen) → slice_get ps i ≡ Some p → slice_get (changed f ps i) i ≡ Some (f p)
@@ -49,9 +49,9 @@ sees-changed f [] i p e = absurd (none-some p e)
 sees-changed f (q ∷ ps) zero p e = ap (λ (x : PolicySeen). Some (f x)) (same_Some q p e)
 sees-changed f (q ∷ ps) (suc i) p e = sees-changed f ps i p e
 
--- the rack is told a state that the views changed by
+-- the rack is given a state that the views changed by
 module _ (sub : ℕ) (state : Conn) (old new : List SubRecord) (addresses : List Address) (v : view_of new addresses ≡ map (noted_sub sub state) (view_of old addresses)) where
-  noted-current : (ps : List PolicySeen) (c n : Option Live) (made : ℕ) → AreLive c n made → SeesBoard old addresses ps c → SeesBoard new addresses (changed_of (noted sub state) n (changed_of (noted sub state) c ps)) c
+  noted-current : (ps : List PolicySeen) (c n : Option Live) (made : ℕ) → GenerationsAreLive c n made → SeesBoard old addresses ps c → SeesBoard new addresses (changed_of (noted sub state) n (changed_of (noted sub state) c ps)) c
   noted-current ps None n made h x = tt
   noted-current ps (Some live) None made h x =
       (noted sub state x.0, (sees-changed (noted sub state) ps live.place x.0 x.1.0, ap (map (noted_sub sub state)) x.1.1 ∙ sym v))
@@ -59,7 +59,7 @@ module _ (sub : ℕ) (state : Conn) (old new : List SubRecord) (addresses : List
       let once : slice_get (changed (noted sub state) ps live.place) live.place ≡ Some (noted sub state x.0) = sees-changed (noted sub state) ps live.place x.0 x.1.0 in
       (noted sub state x.0, (get-other (noted sub state) (changed (noted sub state) ps live.place) later.place live.place (λ e. h.0 (sym e)) ∙ once, ap (map (noted_sub sub state)) x.1.1 ∙ sym v))
 
-  noted-pending : (ps : List PolicySeen) (c n : Option Live) (made : ℕ) → AreLive c n made → SeesBoard old addresses ps n → SeesBoard new addresses (changed_of (noted sub state) n (changed_of (noted sub state) c ps)) n
+  noted-pending : (ps : List PolicySeen) (c n : Option Live) (made : ℕ) → GenerationsAreLive c n made → SeesBoard old addresses ps n → SeesBoard new addresses (changed_of (noted sub state) n (changed_of (noted sub state) c ps)) n
   noted-pending ps c None made h x = tt
   noted-pending ps None (Some later) made h x = absurd h
   noted-pending ps (Some live) (Some later) made h x =
@@ -71,31 +71,31 @@ sees-along : (old new : List SubRecord) (addresses : List Address) (ps : List Po
 sees-along old new addresses ps None v x = tt
 sees-along old new addresses ps (Some live) v x = (x.0, (x.1.0, x.1.1 ∙ sym v))
 
--- a subchannel changed, and the rack was told
-abbrev told-net : (SubRecord → SubRecord) → ℕ → Option Conn → NetSeen → List OwnLink → NetSeen
-told-net f sub state n links = record { asker = told state sub n.asker; board = changed_at f n.board sub; current = n.current; pending = n.pending; links = links }
+-- a subchannel changed, and the rack was reported
+abbrev reported-net : (SubRecord → SubRecord) → ℕ → Option Conn → NetSeen → List OwnLink → NetSeen
+reported-net f sub state n links = record { asker = reported state sub n.asker; board = changed_at f n.board sub; current = n.current; pending = n.pending; links = links }
 
 none-is : (f : SubRecord → SubRecord) (o : Option SubRecord) → option_map f o ≡ None → is_some o ≡ false
 none-is f None e = refl
 none-is f (Some s) e = let absurdity : ⊥ = (cc) in absurd absurdity
 
-views-told-by : (f : SubRecord → SubRecord) (sub : ℕ) (n : NetSeen) (links : List OwnLink) (o : Option SubRecord) → numbered (changed_at f n.board sub) sub ≡ o → KeepsLive f → KeepsAddress f → IsKept n.asker.rack → Views n → Views (told-net f sub (option_map (λ (s : SubRecord). s.state) o) n links)
-views-told-by f sub n links None at live address k x =
+views-reported-by : (f : SubRecord → SubRecord) (sub : ℕ) (n : NetSeen) (links : List OwnLink) (o : Option SubRecord) → numbered (changed_at f n.board sub) sub ≡ o → KeepsLive f → KeepsAddress f → IsKept n.asker.rack → Views n → Views (reported-net f sub (option_map (λ (s : SubRecord). s.state) o) n links)
+views-reported-by f sub n links None at live address k x =
     let out : is_some (numbered n.board sub) ≡ false = none-is f (numbered n.board sub) (sym (numbered-here f n.board sub) ∙ at) in
     let same : n.board ≡ changed_at f n.board sub = changed_none f n.board sub out in
     record {
       current = subst (λ (b : List SubRecord). SeesBoard b n.current n.asker.rack.policies n.asker.rack.current) same x.current;
       pending = subst (λ (b : List SubRecord). SeesBoard b n.pending n.asker.rack.policies n.asker.rack.pending) same x.pending;
     }
-views-told-by f sub n links (Some t) at live address k x =
+views-reported-by f sub n links (Some t) at live address k x =
     let r : RackSeen = n.asker.rack in
     record {
-      current = noted-current sub t.state n.board (changed_at f n.board sub) n.current (view-told f live address n.board sub t n.current at) r.policies r.current r.pending r.made k.live x.current;
-      pending = noted-pending sub t.state n.board (changed_at f n.board sub) n.pending (view-told f live address n.board sub t n.pending at) r.policies r.current r.pending r.made k.live x.pending;
+      current = noted-current sub t.state n.board (changed_at f n.board sub) n.current (view-reported f live address n.board sub t n.current at) r.policies r.current r.pending r.made k.live x.current;
+      pending = noted-pending sub t.state n.board (changed_at f n.board sub) n.pending (view-reported f live address n.board sub t n.pending at) r.policies r.current r.pending r.made k.live x.pending;
     }
 
-views-told : (f : SubRecord → SubRecord) (sub : ℕ) (n : NetSeen) (links : List OwnLink) → KeepsLive f → KeepsAddress f → IsKept n.asker.rack → Views n → Views (told-net f sub (state_at (changed_at f n.board sub) sub) n links)
-views-told f sub n links live address k x = views-told-by f sub n links (numbered (changed_at f n.board sub) sub) refl live address k x
+views-reported : (f : SubRecord → SubRecord) (sub : ℕ) (n : NetSeen) (links : List OwnLink) → KeepsLive f → KeepsAddress f → IsKept n.asker.rack → Views n → Views (reported-net f sub (state_at (changed_at f n.board sub) sub) n links)
+views-reported f sub n links live address k x = views-reported-by f sub n links (numbered (changed_at f n.board sub) sub) refl live address k x
 
 views-still : (f : SubRecord → SubRecord) (sub : ℕ) (n : NetSeen) (links : List OwnLink) → KeepsLive f → KeepsAddress f → ((s : SubRecord) → (f s).state ≡ s.state) → Views n → Views (record { asker = n.asker; board = changed_at f n.board sub; current = n.current; pending = n.pending; links = links })
 views-still f sub n links live address same x = record {
@@ -156,11 +156,11 @@ module _ (keeps : rack.RackKeeps) (policies : List PolicySeen) where
 
   seen-failed : (sub : ℕ) (n : NetSeen) → Seen policies n → Seen policies (steps.net_dial_failed sub n)
   seen-failed sub n x =
-      seen-by policies n (steps.net_dial_failed sub n) x (moves-failed sub n x.orderly) (views-told failed sub n n.links keeps_live-failed (address-step (board.Failed sub)) (is-kept n x) x.views)
+      seen-by policies n (steps.net_dial_failed sub n) x (moves-failed sub n x.orderly) (views-reported failed sub n n.links keeps_live-failed (address-step (board.Failed sub)) (is-kept n x) x.views)
 
-  ready-by : (b : Bool) (sub : ℕ) (n : NetSeen) → Seen policies n → Views (if b then steps.board_told greeted sub n else n)
+  ready-by : (b : Bool) (sub : ℕ) (n : NetSeen) → Seen policies n → Views (if b then steps.board_reported prefaced sub n else n)
   ready-by true sub n x =
-      views-told greeted sub n n.links keeps_live-greeted (address-step (board.Ready sub)) (is-kept n x) x.views
+      views-reported prefaced sub n n.links keeps_live-prefaced (address-step (board.Ready sub)) (is-kept n x) x.views
   ready-by false sub n x = x.views
 
   seen-ready : (sub link : ℕ) (n : NetSeen) → Seen policies n → Seen policies (steps.net_ready sub link n)
@@ -169,7 +169,7 @@ module _ (keeps : rack.RackKeeps) (policies : List PolicySeen) where
 
   down-by : (b : Bool) (sub : ℕ) (n : NetSeen) → Seen policies n → Views (if b then steps.net_lost sub n else n)
   down-by true sub n x =
-      views-told lost sub n (steps.net_lost sub n).links keeps_live-lost (address-step (board.Lost sub)) (is-kept n x) x.views
+      views-reported lost sub n (steps.net_lost sub n).links keeps_live-lost (address-step (board.Lost sub)) (is-kept n x) x.views
   down-by false sub n x = x.views
 
   seen-down : (sub link : ℕ) (n : NetSeen) → Seen policies n → Seen policies (steps.net_down sub link n)
@@ -182,8 +182,8 @@ module _ (keeps : rack.RackKeeps) (policies : List PolicySeen) where
   clock-by moment l (Some sub) e x =
       let same : first_clocked moment l.net.board ≡ changed_at (clocked moment) l.net.board sub = ap (clocked_at moment l.net.board) e in
       let links : List OwnLink = (steps.clocked_at moment (Some sub) l).net.links in
-      let v = views-told (clocked moment) sub l.net links (keeps_live-clocked moment) (address-step (board.Clock moment)) (is-kept l.net x) x.views in
-      subst (λ (b : List SubRecord). Views (record { asker = told (state_at b sub) sub l.net.asker; board = b; current = l.net.current; pending = l.net.pending; links = links })) (sym same) v
+      let v = views-reported (clocked moment) sub l.net links (keeps_live-clocked moment) (address-step (board.Clock moment)) (is-kept l.net x) x.views in
+      subst (λ (b : List SubRecord). Views (record { asker = reported (state_at b sub) sub l.net.asker; board = b; current = l.net.current; pending = l.net.pending; links = links })) (sym same) v
 
   seen-round : (moment : ℕ) (l : NetLeft) → Seen policies l.net → Seen policies (steps.clock_round moment l).net
   seen-round moment l x =
@@ -201,11 +201,11 @@ module _ (keeps : rack.RackKeeps) (policies : List PolicySeen) where
   connect-by n None e x = x.views
   connect-by n (Some sub) e x =
       let test : (passes (λ (s : SubRecord). is_idle s.state) n.board sub && is_wished n.asker.rack sub) ≡ true = find-passes (idle_and_wished n) (live_numbers 1 n.board) sub e in
-      let idle : passes (λ (s : SubRecord). is_idle s.state) n.board sub ≡ true = front_true (passes (λ (s : SubRecord). is_idle s.state) n.board sub) (is_wished n.asker.rack sub) test in
+      let idle : passes (λ (s : SubRecord). is_idle s.state) n.board sub ≡ true = prefix_true (passes (λ (s : SubRecord). is_idle s.state) n.board sub) (is_wished n.asker.rack sub) test in
       let s = passing (λ (r : SubRecord). is_idle r.state) (numbered n.board sub) idle in
       let after : state_at (changed_at wished n.board sub) sub ≡ Some conn.Connecting =
       ap (option_map (λ (r : SubRecord). r.state)) (numbered-here wished n.board sub ∙ ap (option_map wished) s.1.0) ∙ ap (λ (c : Conn). Some c) (wished-state s.0 s.1.1) in
-      subst (λ (o : Option Conn). Views (told-net wished sub o n n.links)) after (views-told wished sub n n.links keeps_live-wished (address-step (board.Wished sub)) (is-kept n x) x.views)
+      subst (λ (o : Option Conn). Views (reported-net wished sub o n n.links)) after (views-reported wished sub n n.links keeps_live-wished (address-step (board.Wished sub)) (is-kept n x) x.views)
 
   seen-connect : (n : NetSeen) → Seen policies n → Seen policies (steps.connect_round n)
   seen-connect n x =
@@ -223,7 +223,7 @@ module _ (keeps : rack.RackKeeps) (policies : List PolicySeen) where
   pending-stays n o =
       stay-live n.pending [] n.board n.pending (λ a e. (or-left (has_address n.pending a) (has_address [] a) e, one-live n a o (or-right (has_address n.current a) (has_address n.pending a) e)))
 
-  over-views : (n : NetSeen) (ps : List PolicySeen) (c p : Option Live) (made : ℕ) → AreLive c p made → Orderly n → SeesBoard n.board n.pending ps p → SeesBoard (kept n.pending [] n.board) n.pending (changed_of emptied c ps) p
+  over-views : (n : NetSeen) (ps : List PolicySeen) (c p : Option Live) (made : ℕ) → GenerationsAreLive c p made → Orderly n → SeesBoard n.board n.pending ps p → SeesBoard (kept n.pending [] n.board) n.pending (changed_of emptied c ps) p
   over-views n ps c None made h o x = tt
   over-views n ps None (Some later) made h o x = absurd h
   over-views n ps (Some live) (Some later) made h o x =
@@ -312,7 +312,7 @@ Both b e d r current board list place =
     SeesBoard (board-of b list current board) (if b then list else current) (rack-by e d (view_of (board-of b list current board) list) place r).policies (rack-by e d (view_of (board-of b list current board) list) place r).current × SeesBoard (board-of b list current board) (if b then [] else list) (rack-by e d (view_of (board-of b list current board) list) place r).policies (rack-by e d (view_of (board-of b list current board) list) place r).pending
 
 module _ (keeps : rack.RackKeeps) (policies : List PolicySeen) (ps : List PolicySeen) (made : ℕ) (current : List Address) (board : List SubRecord) (list : List Address) (k : Kind) (place : ℕ) (first : first_place k ps ≡ Some place) where
-  live-dropped : (live : Live) (m : Option Live) → AreLive (Some live) m made → slice_get (changed_of emptied m ps) live.place ≡ slice_get ps live.place
+  live-dropped : (live : Live) (m : Option Live) → GenerationsAreLive (Some live) m made → slice_get (changed_of emptied m ps) live.place ≡ slice_get ps live.place
   live-dropped live None h = refl
   live-dropped live (Some later) h = get-other emptied ps later.place live.place (λ e. h.0 (sym e))
 
@@ -323,7 +323,7 @@ module _ (keeps : rack.RackKeeps) (policies : List PolicySeen) (ps : List Policy
       let is : place ≡ later.place = sym (eqb-true later.place place e) in
       (given view q.0, (subst (λ (i : ℕ). slice_get (changed (given view) ps place) i ≡ Some (given view q.0)) is (sees-changed (given view) ps place q.0 q.1), v))
 
-  some-case : (b e d : Bool) (live : Live) (m : Option Live) → b ≡ e → (live.place == place) ≡ e → is_at place m ≡ d → AreLive (Some live) m made → StayLive current list board current → SeesBoard board current ps (Some live) → Both b e d (rack-of ps (Some live) m made) current board list place
+  some-case : (b e d : Bool) (live : Live) (m : Option Live) → b ≡ e → (live.place == place) ≡ e → is_at place m ≡ d → GenerationsAreLive (Some live) m made → StayLive current list board current → SeesBoard board current ps (Some live) → Both b e d (rack-of ps (Some live) m made) current board list place
   some-case true true d live m same here there-is h stays x =
       let view : List SubSeen = view_of (board-of true list current board) list in
       let p = new-view keeps policies ps m view place k first in
@@ -342,7 +342,7 @@ module _ (keeps : rack.RackKeeps) (policies : List PolicySeen) (ps : List Policy
       let away : place ≡ live.place → ⊥ = λ e. eqb-false live.place place here (sym e) in
       ((x.0, (get-other (given view) (changed_of emptied m ps) place live.place away ∙ live-dropped live m h ∙ x.1.0, x.1.1 ∙ sym (view-kept current list board current stays))), new-view keeps policies ps m view place k first)
 
-  result-both : (c m : Option Live) → kinds_differ ps ≡ true → AreLive c m made → StayLive current list board current → SeesBoard board current ps c → Both (is_for_current k (rack-of ps c m made)) (is_at place c) (is_at place m) (rack-of ps c m made) current board list place
+  result-both : (c m : Option Live) → kinds_differ ps ≡ true → GenerationsAreLive c m made → StayLive current list board current → SeesBoard board current ps c → Both (is_for_current k (rack-of ps c m made)) (is_at place c) (is_at place m) (rack-of ps c m made) current board list place
   result-both None None differ h stays x =
       (new-view keeps policies ps None (view_of (board-of true list current board) list) place k first, tt)
   result-both None (Some later) differ h stays x = absurd h
@@ -350,13 +350,13 @@ module _ (keeps : rack.RackKeeps) (policies : List PolicySeen) (ps : List Policy
       some-case (is_for_current k (rack-of ps (Some live) m made)) (live.place == place) (is_at place m) live m (agrees keeps policies ps live x.0 k place differ first x.1.0) refl refl h stays x
 
 module _ (keeps : rack.RackKeeps) (policies : List PolicySeen) (ready : are_ready policies ≡ true) where
-  and-front : (a b : Bool) → (a && b) ≡ true → a ≡ true
-  and-front true b e = refl
-  and-front false b e = e
+  and-prefix : (a b : Bool) → (a && b) ≡ true → a ≡ true
+  and-prefix true b e = refl
+  and-prefix false b e = e
 
   differ-of : (n : NetSeen) → Seen policies n → kinds_differ n.asker.rack.policies ≡ true
   differ-of n x =
-      subst (λ (r : RackSeen). kinds_differ r.policies ≡ true) (sym x.are) (kinds-stay x.calls policies (and-front (kinds_differ policies) (has_policy kind.PickFirst policies) ready))
+      subst (λ (r : RackSeen). kinds_differ r.policies ≡ true) (sym x.are) (kinds-stay x.calls policies (and-prefix (kinds_differ policies) (has_policy kind.PickFirst policies) ready))
 
   some-of : (o : Option ℕ) → is_some o ≡ true → (place : ℕ) × (o ≡ Some place)
   some-of None e = let absurdity : ⊥ = (cc) in absurd absurdity
@@ -389,7 +389,7 @@ module _ (keeps : rack.RackKeeps) (policies : List PolicySeen) (ready : are_read
   turned-current ps b list None x = tt
   turned-current ps b list (Some live) x = (turned x.0, (sees-changed turned ps live.place x.0 x.1.0, x.1.1))
 
-  turned-pending : (ps : List PolicySeen) (b : List SubRecord) (list : List Address) (c m : Option Live) (made : ℕ) → AreLive c m made → SeesBoard b list ps m → SeesBoard b list (changed_of turned c ps) m
+  turned-pending : (ps : List PolicySeen) (b : List SubRecord) (list : List Address) (c m : Option Live) (made : ℕ) → GenerationsAreLive c m made → SeesBoard b list ps m → SeesBoard b list (changed_of turned c ps) m
   turned-pending ps b list c None made h x = tt
   turned-pending ps b list None (Some later) made h x = absurd h
   turned-pending ps b list (Some live) (Some later) made h x =

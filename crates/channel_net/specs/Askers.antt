@@ -26,10 +26,10 @@ new_asker policies = record { rack = new_rack policies; asks = 0 }
 abbrev pub asker_adopted : List SubSeen → Kind → AskerSeen → AskerSeen
 asker_adopted view kind a = record a { rack = adopted view (first_place kind a.rack.policies) a.rack }
 
--- the live policies are told the state of a subchannel, if it has one
-abbrev pub told : Option Conn → ℕ → AskerSeen → AskerSeen
-told None sub a = a
-told (Some state) sub a = record a { rack = noted_by_live sub state a.rack }
+-- the live policies are given the state of a subchannel, if it has one
+abbrev pub reported : Option Conn → ℕ → AskerSeen → AskerSeen
+reported None sub a = a
+reported (Some state) sub a = record a { rack = noted_by_live sub state a.rack }
 
 abbrev pub asker_taken_over : AskerSeen → AskerSeen
 asker_taken_over a = record a { rack = (if may_take_over a.rack then taken_over a.rack else a.rack) }

@@ -4,7 +4,7 @@ use Rattle.grpc_base.specs.declared.address.Address.{Address}
 use Rattle.grpc_base.specs.declared.event.Conn.TheVariants as conn
 use Rattle.grpc_base.specs.Addresses.{has_address}
 use Rattle.lb_policy.specs.Table.{PolicySeen, pick_of}
-use Rattle.subchannel.specs.Records.{SubRecord, is_due, is_greeting, is_ready}
+use Rattle.subchannel.specs.Records.{SubRecord, is_due, awaits_preface, is_ready}
 use Rattle.subchannel.specs.Boards.{numbered}
 use Rattle.subchannel.specs.Runs.{live_count, IsLater}
 use Rattle.policy_rack.specs.declared.live.Live.{Live}
@@ -28,7 +28,7 @@ NumbersStay =
 -- a subchannel has a link of its own exactly where it is READY, or CONNECTING with a dial that is a link
 abbrev pub LinksAreOfTheBoard : Type 0
 LinksAreOfTheBoard =
-    (calls : List NetCall) (policies : List PolicySeen) (number : ℕ) (s : SubRecord) → numbered (net_of calls policies).board number ≡ Some s → is_some (link_of (net_of calls policies).links number) ≡ (is_ready s.state || is_greeting s)
+    (calls : List NetCall) (policies : List PolicySeen) (number : ℕ) (s : SubRecord) → numbered (net_of calls policies).board number ≡ Some s → is_some (link_of (net_of calls policies).links number) ≡ (is_ready s.state || awaits_preface s)
 
 -- a pending generation stands only beside a current one, of another policy; the policy of a generation that was dropped
 -- or replaced is reset: it has the empty view, none that failed and no turn

@@ -12,7 +12,7 @@ use Rattle.grpc_base.specs.Kinds.{has_kind}
 use Rattle.attempt_ledger.specs.declared.ledger.Generation.{Generation}
 use Rattle.lb_policy.specs.declared.seen.SubSeen.{SubSeen}
 use Rattle.lb_policy.specs.Table.{PolicySeen}
-use Rattle.subchannel.specs.Records.{SubRecord, is_dialable, is_dialing, is_due, is_idle, is_failure, is_connecting, dialed, until_after, linked_up, failed, greeted, lost, wished}
+use Rattle.subchannel.specs.Records.{SubRecord, is_dialable, is_dialing, is_due, is_idle, is_failure, is_connecting, dialed, until_after, linked_up, failed, prefaced, lost, wished}
 use Rattle.subchannel.specs.Boards.{numbered, changed_at, first_number, first_clocked, kept, passes}
 use Rattle.subchannel.specs.Insides.{live_numbers}
 use Rattle.policy_rack.specs.Kinds.{first_place, kinds_of, same_kind}
@@ -22,7 +22,7 @@ use Rattle.channel_net.specs.declared.replies.Asked.{Asked}
 use Rattle.channel_net.specs.declared.replies.Dialing.{Dialing}
 use Rattle.channel_net.specs.declared.fault.LinkFault.{LinkFault}
 use Rattle.channel_net.specs.declared.fault.LinkFault.TheVariants as fault
-use Rattle.channel_net.specs.Askers.{AskerSeen, new_asker, told, asker_adopted, asker_taken_over, asker_retired, asker_asked, asker_answer}
+use Rattle.channel_net.specs.Askers.{AskerSeen, new_asker, reported, asker_adopted, asker_taken_over, asker_retired, asker_asked, asker_answer}
 use Rattle.channel_net.specs.Lists.{each_once, state_at, view_of, link_of, without, live_links, shut_links}
 use Rattle.channel_net.specs.Stamps.{activated, added, retired_live, activated_live, dropped, is_numbered}
 
@@ -132,27 +132,27 @@ LinkFaultIs r before after fault.NoMemory = r ≡ None
 abbrev pub net_up : ℕ → ℕ → NetSeen → NetSeen
 net_up sub link n = record n { board = changed_at linked_up n.board sub; links = n.links ++ record { sub = sub; link = link } ∷ [] }
 
--- the live policies are told the state of a subchannel
-abbrev pub net_told : ℕ → NetSeen → NetSeen
-net_told sub n = record n { asker = told (state_at n.board sub) sub n.asker }
+-- the live policies are given the state of a subchannel
+abbrev pub net_reported : ℕ → NetSeen → NetSeen
+net_reported sub n = record n { asker = reported (state_at n.board sub) sub n.asker }
 
--- a subchannel is changed, and the live policies are told its state
-abbrev pub board_told : (SubRecord → SubRecord) → ℕ → NetSeen → NetSeen
-board_told f sub n = record n { asker = told (state_at (changed_at f n.board sub) sub) sub n.asker; board = changed_at f n.board sub }
+-- a subchannel is changed, and the live policies are given its state
+abbrev pub board_reported : (SubRecord → SubRecord) → ℕ → NetSeen → NetSeen
+board_reported f sub n = record n { asker = reported (state_at (changed_at f n.board sub) sub) sub n.asker; board = changed_at f n.board sub }
 
 abbrev pub net_dial_failed : ℕ → NetSeen → NetSeen
-net_dial_failed sub n = board_told failed sub n
+net_dial_failed sub n = board_reported failed sub n
 
 -- whether a link is the subchannel's own
 abbrev pub owns : ℕ → ℕ → NetSeen → Bool
 owns sub link n = option_map_or (λ own. own == link) (link_of n.links sub) false
 
 abbrev pub net_ready : ℕ → ℕ → NetSeen → NetSeen
-net_ready sub link n = if owns sub link n then board_told greeted sub n else n
+net_ready sub link n = if owns sub link n then board_reported prefaced sub n else n
 
 abbrev pub net_lost : ℕ → NetSeen → NetSeen
 net_lost sub n = record n {
-  asker = told (state_at (changed_at lost n.board sub) sub) sub n.asker;
+  asker = reported (state_at (changed_at lost n.board sub) sub) sub n.asker;
   board = changed_at lost n.board sub;
   links = without sub n.links;
 }
@@ -173,7 +173,7 @@ abbrev pub clocked_at : ℕ → Option ℕ → NetLeft → NetLeft
 clocked_at moment None l = l
 clocked_at moment (Some sub) l = record {
   net = record l.net {
-    asker = told (state_at (first_clocked moment l.net.board) sub) sub l.net.asker;
+    asker = reported (state_at (first_clocked moment l.net.board) sub) sub l.net.asker;
     board = first_clocked moment l.net.board;
     links = without sub l.net.links;
   };
@@ -231,7 +231,7 @@ first_wished n = find (idle_and_wished n) (live_numbers 1 n.board)
 -- it becomes CONNECTING
 abbrev pub connected_at : Option ℕ → NetSeen → NetSeen
 connected_at None n = n
-connected_at (Some sub) n = record n { asker = told (Some conn.Connecting) sub n.asker; board = changed_at wished n.board sub }
+connected_at (Some sub) n = record n { asker = reported (Some conn.Connecting) sub n.asker; board = changed_at wished n.board sub }
 
 abbrev pub connect_round : NetSeen → NetSeen
 connect_round n = connected_at (first_wished n) n

@@ -4,7 +4,7 @@ ghost use Rattle.grpc_base.specs.Kinds.{has_kind};
 ghost use Rattle.lb_policy.specs.Table.{IsView};
 ghost use Rattle.policy_rack.specs.Kinds.{are_ready, first_place, kinds_of};
 ghost use Rattle.policy_rack.specs.Steps.{adopted_number, may_take_over, live_of, state_in};
-ghost use Rattle.channel_net.specs.Askers.{new_asker, told, asker_adopted, asker_taken_over, asker_asked, asker_answer, asker_retired, may_ask};
+ghost use Rattle.channel_net.specs.Askers.{new_asker, reported, asker_adopted, asker_taken_over, asker_asked, asker_answer, asker_retired, may_ask};
 ghost use Rattle.channel_net.specs.Steps.{is_wished};
 
 use crate::replies::Asked;
@@ -48,7 +48,7 @@ impl<P: Balancer> Asker<P> {
         self.rack.kinds()
     }
 
-    /// Takes a result for the policy of a kind, and tells the generation that it goes to.
+    /// Takes a result for the policy of a kind, and reports to the generation that it goes to.
     pub fn adopt(&mut self, kind: Kind, subs: &[SubSeen]) -> u32
         requires kind { has_kind (kinds_of self.old.rack.policies) kind ≡ true }
         requires view { IsView subs.now }
@@ -77,14 +77,14 @@ impl<P: Balancer> Asker<P> {
         self.rack.pending()
     }
 
-    /// Tells the live policies the state of a subchannel.
+    /// reports to the live policies the state of a subchannel.
     pub fn note(&mut self, sub: u32, state: Conn)
-        ensures { self.new ≡ told (Some state) sub self.old }
+        ensures { self.new ≡ reported (Some state) sub self.old }
     {
         self.rack.note(sub, state);
     }
 
-    /// Lets a pending generation take over if it may, and tells whether it did.
+    /// Lets a pending generation take over if it may, and reports whether it did.
     pub fn take_over(&mut self) -> bool
         ensures result { result ≡ may_take_over self.old.rack }
         ensures after { self.new ≡ asker_taken_over self.old }

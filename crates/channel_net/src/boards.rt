@@ -1,6 +1,6 @@
 // Changes of a subchannel by its number; a number that none has changes nothing.
 ghost use Rattle.std.specs.Prelude.{◌≡◌, is_some};
-ghost use Rattle.subchannel.specs.Records.{wished, dialed, linked_up, failed, greeted, lost, is_live, is_idle};
+ghost use Rattle.subchannel.specs.Records.{wished, dialed, linked_up, failed, prefaced, lost, is_live, is_idle};
 ghost use Rattle.subchannel.specs.Boards.{HasNumber, numbered, changed_at, passes};
 ghost use Rattle.channel_net.specs.Lists.{state_at};
 ghost use Rattle.channel_net.specs.Steps.{dial_refusal, dialing_of};
@@ -92,7 +92,7 @@ pub fn fail_at(board: &mut Board, sub: u32)
 
 /// The server's first SETTINGS came on its link.
 pub fn ready_at(board: &mut Board, sub: u32)
-    ensures { board.new ≡ changed_at greeted board.old sub }
+    ensures { board.new ≡ changed_at prefaced board.old sub }
 {
     if has(board, sub) {
         board.ready(sub);

@@ -29,7 +29,7 @@ use subchannel::Board;
 /// The subchannels of a channel with their links, and the generations of policies that use them
 /// ("gRPC Connectivity Semantics and API"; "Load Balancing in gRPC").
 ///
-/// A change of a subchannel's state is told to the live policies at once. After each event `clock` and then `settle` are
+/// A change of a subchannel's state is reported to the live policies at once. After each event `clock` and then `settle` are
 /// to be called.
 #[derive(Drop)]
 pub struct Net<P: Balancer> {
@@ -216,7 +216,7 @@ impl<P: Balancer> Net<P> {
             return Err(refusal);
         }
         fail_at(&mut self.board, sub);
-        self.tell(sub);
+        self.report(sub);
         Ok(())
     }
 
@@ -227,7 +227,7 @@ impl<P: Balancer> Net<P> {
     {
         if self.owns(sub, link) {
             ready_at(&mut self.board, sub);
-            self.tell(sub);
+            self.report(sub);
         }
     }
 
@@ -238,7 +238,7 @@ impl<P: Balancer> Net<P> {
         if self.owns(sub, link) {
             lose_at(&mut self.board, sub);
             forget(&mut self.links, sub);
-            self.tell(sub);
+            self.report(sub);
         }
     }
 
@@ -251,9 +251,9 @@ impl<P: Balancer> Net<P> {
         }
     }
 
-    /// Tells the live policies the state of a subchannel.
-    fn tell(&mut self, sub: u32)
-        ensures { self.new ≡ steps.net_told sub self.old }
+    /// reports to the live policies the state of a subchannel.
+    fn report(&mut self, sub: u32)
+        ensures { self.new ≡ steps.net_reported sub self.old }
     {
         if let Some(state) = state_at(&self.board, sub) {
             self.asker.note(sub, state);
@@ -270,7 +270,7 @@ impl<P: Balancer> Net<P> {
         Ok(dead)
     }
 
-    /// Makes the first change, by number, that the clock has made due, and tells whether there was one. A link that was
+    /// Makes the first change, by number, that the clock has made due, and reports whether there was one. A link that was
     /// given up goes to the list.
     fn clock_one(&mut self, moment: Moment, dead: &mut Items<u32>) -> Result<bool, NoMemory>
         ensures after { OnOk result (steps.left self.new dead.new ≡ steps.clock_round moment (steps.left self.old dead.old)) }
@@ -281,7 +281,7 @@ impl<P: Balancer> Net<P> {
         };
         push_link(dead, link_in(&self.links, sub))?;
         forget(&mut self.links, sub);
-        self.tell(sub);
+        self.report(sub);
         Ok(true)
     }
 
@@ -374,7 +374,7 @@ impl<P: Balancer> Net<P> {
         Ok(shut)
     }
 
-    /// Lets a pending generation take over if it may, and tells whether it did. The list is then of the links that it
+    /// Lets a pending generation take over if it may, and reports whether it did. The list is then of the links that it
     /// shut.
     #[tactic(auto, using(crate::proofs::TakeOvers::none_takes_over))]
     fn take_over(

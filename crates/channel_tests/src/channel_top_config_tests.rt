@@ -56,8 +56,8 @@ fn a_port_that_does_not_open_ends_with_8(rt: HostRuntime) -> Result<(), Fail> {
     Ok(())
 }
 
-/// Whether so many blanks, which are no config, are told so.
-fn is_told<R: Threads + Wait + Sync>(
+/// Whether so many blanks, which are no config, are reported so.
+fn is_reported<R: Threads + Wait + Sync>(
     rt: &R,
     alloc: Global,
     count: usize,
@@ -76,7 +76,7 @@ fn is_told<R: Threads + Wait + Sync>(
 fn a_config_above_65536_bytes_is_too_long(rt: HostRuntime) -> Result<(), Fail> {
     let alloc = rt.alloc();
     // The 1,025th read gives byte 65,537, and there is no further one that could fail.
-    assert!(rt; is_told(&rt, alloc, 70_000, 1_026, b"fault config 1 5:65536\n")?);
+    assert!(rt; is_reported(&rt, alloc, 70_000, 1_026, b"fault config 1 5:65536\n")?);
     Ok(())
 }
 

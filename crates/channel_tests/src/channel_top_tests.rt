@@ -10,7 +10,7 @@ use std::test::Fail;
 use std::thread::Threads;
 
 /// A script of one call, up to its answer.
-const FRONT: &str =
+const PREFIX: &str =
     "channel 1 ipv4:127.0.0.1:50051\n0 0 resolved 127.0.0.1:50051 -\n0 0 dial\n0 0 up 1\n0 0 drain 1 65536\n1 0 arrived 1 000000040000000000\n2 0 begin /a.B/C - - -\n2 0 send 1 6869\n2 0 finish 1\n3 0 drain 1 65536\n";
 
 /// The answer with the status 0.
@@ -73,13 +73,13 @@ fn a_report_that_is_not_read_whole_is_not_migrated(rt: HostRuntime) -> Result<()
 
 #[test]
 fn a_fault_of_the_environment_has_its_status(rt: HostRuntime) -> Result<(), Fail> {
-    let mut read = of_parts("replay", FRONT, OK, TAKE);
+    let mut read = of_parts("replay", PREFIX, OK, TAKE);
     read.piece = 64;
     read.failed_read = 2;
     let (status, report) = answer(&rt, rt.alloc(), &read)?;
     assert_eq!(rt; status, 4);
     assert!(rt; report.taken().is_empty());
-    let mut write = of_parts("replay", FRONT, OK, TAKE);
+    let mut write = of_parts("replay", PREFIX, OK, TAKE);
     write.failed_write = 1;
     let (status, report) = answer(&rt, rt.alloc(), &write)?;
     assert_eq!(rt; status, 5);

@@ -12,7 +12,7 @@ use std::test::Fail;
 const PORT: u16 = 50_061;
 
 /// After so many reads a link ends though the other one was not read.
-const PATIENCE: u64 = 100_000;
+const POLL_DELAY: u64 = 100_000;
 
 /// A link that is quiet until the other one was read, and then ends.
 #[derive(Drop)]
@@ -33,7 +33,7 @@ impl LinkIn for HeldIn<'_> {
 
     fn read(&mut self, _buf: &mut [u8]) -> LinkRead {
         let before = self.own.fetch_add(1, Ordering::SeqCst);
-        if self.other.load(Ordering::SeqCst) > 0 || before >= PATIENCE {
+        if self.other.load(Ordering::SeqCst) > 0 || before >= POLL_DELAY {
             return LinkRead::End;
         }
         self.quiet = self.quiet.saturating_add(1);
@@ -41,7 +41,7 @@ impl LinkIn for HeldIn<'_> {
     }
 }
 
-/// Two such links, accepted one behind the other.
+/// Two such links, accepted one after the other.
 #[derive(Drop)]
 struct Pair<'a> {
     alloc: Global,
@@ -109,8 +109,8 @@ fn links_are_served_side_by_side(rt: HostRuntime) -> Result<(), Fail> {
     )?;
     assert_eq!(rt; status, 0);
     assert_eq!(rt; report.taken(), b"served 2\n".as_slice());
-    assert!(rt; first.load(Ordering::SeqCst) <= PATIENCE);
-    assert!(rt; second.load(Ordering::SeqCst) <= PATIENCE);
+    assert!(rt; first.load(Ordering::SeqCst) <= POLL_DELAY);
+    assert!(rt; second.load(Ordering::SeqCst) <= POLL_DELAY);
     Ok(())
 }
 
@@ -176,8 +176,8 @@ fn links_are_relayed_side_by_side(rt: HostRuntime) -> Result<(), Fail> {
     let text = report.taken();
     assert!(rt; text.starts_with(b"channel 2 ipv4:127.0.0.1:50051\n0 "));
     assert!(rt; text.ends_with(b" shutdown = done\nend 2 0 0 0\n"));
-    assert!(rt; first.load(Ordering::SeqCst) <= PATIENCE);
-    assert!(rt; second.load(Ordering::SeqCst) <= PATIENCE);
+    assert!(rt; first.load(Ordering::SeqCst) <= POLL_DELAY);
+    assert!(rt; second.load(Ordering::SeqCst) <= POLL_DELAY);
     Ok(())
 }
 

@@ -53,13 +53,13 @@ low_ended : (p d : ℕ) (ds : List ℕ) → d ≤ 57 → AllByRecursion IsLow ds
 low_ended p d [] low all = low
 low_ended p d (e ∷ ds) low all = low_ended d e ds all.0 all.1
 
--- a text that ends in digits behind a space, and a line feed
-low_text : (front ds : List ℕ) → AllByRecursion IsLow ds → before_last 0 0 (front ++ 32 ∷ (ds ++ 10 ∷ [])) ≤ 57
-low_text front [] all =
-    let is : before_last 0 0 (front ++ 32 ∷ 10 ∷ []) ≡ 32 = last_two 0 0 front 32 10 [] in
+-- a text that ends in digits after a space, and a line feed
+low_text : (prefix ds : List ℕ) → AllByRecursion IsLow ds → before_last 0 0 (prefix ++ 32 ∷ (ds ++ 10 ∷ [])) ≤ 57
+low_text prefix [] all =
+    let is : before_last 0 0 (prefix ++ 32 ∷ 10 ∷ []) ≡ 32 = last_two 0 0 prefix 32 10 [] in
     omega (arith, is)
-low_text front (e ∷ ds) all =
-    let is : before_last 0 0 (front ++ 32 ∷ e ∷ (ds ++ 10 ∷ [])) ≡ before_last 32 e (ds ++ 10 ∷ []) = last_two 0 0 front 32 e (ds ++ 10 ∷ []) in
+low_text prefix (e ∷ ds) all =
+    let is : before_last 0 0 (prefix ++ 32 ∷ e ∷ (ds ++ 10 ∷ [])) ≡ before_last 32 e (ds ++ 10 ∷ []) = last_two 0 0 prefix 32 e (ds ++ 10 ∷ []) in
     let low : before_last 32 e (ds ++ 10 ∷ []) ≤ 57 = low_ended 32 e ds all.0 all.1 in
     omega (arith, is, low)
 
@@ -67,18 +67,18 @@ low_text front (e ∷ ds) all =
 
 -- a text ends in another one
 abbrev EndsIn : List ℕ → List ℕ → Type 0
-EndsIn tail text = (front : List ℕ) × (text ≡ front ++ tail)
+EndsIn tail text = (prefix : List ℕ) × (text ≡ prefix ++ tail)
 
-ends_behind : (tail text before : List ℕ) → EndsIn tail text → EndsIn tail (before ++ text)
-ends_behind tail text before (front, is) = (before ++ front, ap (λ (t : List ℕ). before ++ t) is ∙ sym (append_assoc before front tail))
+ends_after : (tail text before : List ℕ) → EndsIn tail text → EndsIn tail (before ++ text)
+ends_after tail text before (prefix, is) = (before ++ prefix, ap (λ (t : List ℕ). before ++ t) is ∙ sym (append_assoc before prefix tail))
 
 five_words : (a b c d e : List ℕ) → EndsIn (32 ∷ (e ++ 10 ∷ [])) (words (a ∷ b ∷ c ∷ d ∷ e ∷ []) ++ 10 ∷ [])
 five_words a b c d e =
     let line : List ℕ = 32 ∷ (e ++ 10 ∷ []) in
     let last : EndsIn line (d ++ line) = (d, refl) in
-    let third : EndsIn line (c ++ 32 ∷ (d ++ line)) = ends_behind line (32 ∷ (d ++ line)) c (ends_behind line (d ++ line) (32 ∷ []) last) in
-    let second : EndsIn line (b ++ 32 ∷ (c ++ 32 ∷ (d ++ line))) = ends_behind line (32 ∷ (c ++ 32 ∷ (d ++ line))) b (ends_behind line (c ++ 32 ∷ (d ++ line)) (32 ∷ []) third) in
-    let first : EndsIn line (a ++ 32 ∷ (b ++ 32 ∷ (c ++ 32 ∷ (d ++ line)))) = ends_behind line (32 ∷ (b ++ 32 ∷ (c ++ 32 ∷ (d ++ line)))) a (ends_behind line (b ++ 32 ∷ (c ++ 32 ∷ (d ++ line))) (32 ∷ []) second) in
+    let third : EndsIn line (c ++ 32 ∷ (d ++ line)) = ends_after line (32 ∷ (d ++ line)) c (ends_after line (d ++ line) (32 ∷ []) last) in
+    let second : EndsIn line (b ++ 32 ∷ (c ++ 32 ∷ (d ++ line))) = ends_after line (32 ∷ (c ++ 32 ∷ (d ++ line))) b (ends_after line (c ++ 32 ∷ (d ++ line)) (32 ∷ []) third) in
+    let first : EndsIn line (a ++ 32 ∷ (b ++ 32 ∷ (c ++ 32 ∷ (d ++ line)))) = ends_after line (32 ∷ (b ++ 32 ∷ (c ++ 32 ∷ (d ++ line)))) a (ends_after line (b ++ 32 ∷ (c ++ 32 ∷ (d ++ line))) (32 ∷ []) second) in
     (first.0, parted a b c d e (10 ∷ []) ∙ first.1)
   where
     parted : (a b c d e t : List ℕ) → (a ++ 32 ∷ (b ++ 32 ∷ (c ++ 32 ∷ (d ++ 32 ∷ e)))) ++ t ≡ a ++ 32 ∷ (b ++ 32 ∷ (c ++ 32 ∷ (d ++ 32 ∷ (e ++ t))))
@@ -92,8 +92,8 @@ last_line : (tail : List ℕ) (first line : List ℕ) (lines : List (List ℕ)) 
 last_line tail first line lines ends =
     let is : lines_text (lines ++ line ∷ []) ≡ lines_text lines ++ (line ++ 10 ∷ []) =
     flat_map-append (λ (l : List ℕ). l ++ 10 ∷ []) lines (line ∷ []) ∙ ap (λ (t : List ℕ). lines_text lines ++ t) (append-nil (line ++ 10 ∷ [])) in
-    let behind : EndsIn tail (lines_text lines ++ (line ++ 10 ∷ [])) = ends_behind tail (line ++ 10 ∷ []) (lines_text lines) ends in
-    ends_behind tail (lines_text (lines ++ line ∷ [])) (first ++ 10 ∷ []) (subst (EndsIn tail) (sym is) behind)
+    let afterwards : EndsIn tail (lines_text lines ++ (line ++ 10 ∷ [])) = ends_after tail (line ++ 10 ∷ []) (lines_text lines) ends in
+    ends_after tail (lines_text (lines ++ line ∷ [])) (first ++ 10 ∷ []) (subst (EndsIn tail) (sym is) afterwards)
 
 report_low : (target : List ℕ) (journal : Journal) (ledger : Ledger) → before_last 0 0 (report_of target journal ledger) ≤ 57
 report_low target journal ledger =

@@ -9,8 +9,8 @@ use Rattle.session_text.specs.Writing.{WritesAll}
 use Rattle.script_input.specs.Scripts.{IsFirstBad, IsScript}
 use Rattle.script_input.specs.declared.form.Form.TheVariants as form
 use Rattle.channel_top.specs.Complete.{HaveRoom, IsRunnable}
-use Rattle.channel_top.specs.Modes.{EndsSession, FillsIn, RefusesIn, RefusesWords, StopsIn, StopsReading, TellsFault, TellsFaultIn, Unheard, UnheardIn}
-use Rattle.channel_top.specs.Top.{EndsFull, IsFullReport, TellsBadLine}
+use Rattle.channel_top.specs.Modes.{EndsSession, FillsIn, RefusesIn, RefusesWords, StopsIn, StopsReading, ReportsFault, ReportsFaultIn, NotListening, NotListeningIn}
+use Rattle.channel_top.specs.Top.{EndsFull, IsFullReport, ReportsBadLine}
 use Rattle.channel_top.specs.Words.{Runs, RunsPlain, dashes, mode_of, name_text}
 use Rattle.channel_top.specs.declared.words.Mode.{Mode}
 use Rattle.channel_top.specs.declared.words.Mode.TheVariants as mode
@@ -21,11 +21,11 @@ use Rattle.channel_top.proofs.TakenLaws.{all_taken, found_one}
 
 -- ---- a script has no bad line
 
-never_bad : (policies : List PolicySeen) (left left' : Option (List ℕ)) (text : List ℕ) → IsRunnable policies left → TellsBadLine left left' text → ⊥
-never_bad policies left left' text can tells =
-    no_bad form.Script can.input can.target can.value can.events tells.line tells.cause can.script
-    (found_one (λ x. IsFirstBad form.Script x tells.line tells.cause) can.input tells.bad.input left'
-    (subst (λ (l : Option (List ℕ)). Takes l left' tells.bad.input) can.left_is tells.bad.read) tells.bad.bad)
+never_bad : (policies : List PolicySeen) (left left' : Option (List ℕ)) (text : List ℕ) → IsRunnable policies left → ReportsBadLine left left' text → ⊥
+never_bad policies left left' text can reports_that =
+    no_bad form.Script can.input can.target can.value can.events reports_that.line reports_that.cause can.script
+    (found_one (λ x. IsFirstBad form.Script x reports_that.line reports_that.cause) can.input reports_that.bad.input left'
+    (subst (λ (l : Option (List ℕ)). Takes l left' reports_that.bad.input) can.left_is reports_that.bad.read) reports_that.bad.bad)
 
 -- ---- its session has room
 
@@ -37,7 +37,7 @@ never_full policies left left' text can ends =
     let room : HaveRoom policies (authority_of ends.value) ends.events =
     subst (λ (v : Target). HaveRoom policies (authority_of v) ends.events) same.1
     (subst (λ (es : List Stamped). HaveRoom policies (authority_of can.value) es) same.2 can.room) in
-    room r.front r.next r.behind r.journal r.ledger r.parts r.session r.full
+    room r.prefix r.next r.afterwards r.journal r.ledger r.parts r.session r.full
 
 -- ---- words that run `replay` run no other mode
 
@@ -68,9 +68,9 @@ pub not_refused : (policies : List PolicySeen) (words : List (List ℕ)) (left l
 not_refused policies words left left' text runs (inl wrong) = wrong.0.0 mode.Replay runs
 not_refused policies words left left' text runs (inr (m, also, refused)) = of_replay (λ k. RefusesIn policies k left left' text) words runs m also refused
 
-pub not_faulty : (policies : List PolicySeen) (words : List (List ℕ)) (left left' : Option (List ℕ)) (text : List ℕ) → RunsPlain name.Replay words → IsRunnable policies left → TellsFault policies words left left' text → ⊥
-not_faulty policies words left left' text runs can (m, also, tells) =
-    never_bad policies left left' text can (of_replay (λ k. TellsFaultIn policies k left left' text) words runs m also tells)
+pub not_faulty : (policies : List PolicySeen) (words : List (List ℕ)) (left left' : Option (List ℕ)) (text : List ℕ) → RunsPlain name.Replay words → IsRunnable policies left → ReportsFault policies words left left' text → ⊥
+not_faulty policies words left left' text runs can (m, also, reports_that) =
+    never_bad policies left left' text can (of_replay (λ k. ReportsFaultIn policies k left left' text) words runs m also reports_that)
 
 pub not_full : (policies : List PolicySeen) (held : List (Option (List (List ℕ)))) (words : List (List ℕ)) (left left' : Option (List ℕ)) (text : List ℕ) → RunsPlain name.Replay words → IsRunnable policies left → EndsSession policies held words left left' text → ⊥
 not_full policies held words left left' text runs can (m, also, fills) =
@@ -80,8 +80,8 @@ pub failed_read : (words : List (List ℕ)) (left left' taken taken' : Option (L
 failed_read words left left' taken taken' faults faults' runs (m, also, stops) =
     (of_replay (λ k. StopsIn k left left' taken taken' faults faults') words runs m also stops).stops.failed
 
-pub never_unheard : (words : List (List ℕ)) (left left' taken taken' : Option (List ℕ)) (faults faults' : ℕ) → RunsPlain name.Replay words → Unheard words left left' taken taken' faults faults' → ⊥
-never_unheard words left left' taken taken' faults faults' runs (m, also, unheard) = of_replay (λ k. UnheardIn k left left' taken taken' faults faults') words runs m also unheard
+pub never_not_listening : (words : List (List ℕ)) (left left' taken taken' : Option (List ℕ)) (faults faults' : ℕ) → RunsPlain name.Replay words → NotListening words left left' taken taken' faults faults' → ⊥
+never_not_listening words left left' taken taken' faults faults' runs (m, also, not_listening) = of_replay (λ k. NotListeningIn k left left' taken taken' faults faults') words runs m also not_listening
 
 -- a count that stands does not rise
 pub never_rises : Rises 0 0 → ⊥
@@ -91,11 +91,11 @@ never_rises rises = omega (arith, rises)
 
 pub completes : (r : ℕ) (policies : List PolicySeen) (held : List (Option (List (List ℕ)))) (words : List (List ℕ)) (left left' taken taken' : Option (List ℕ)) (reads reads' writes writes' opens opens' : ℕ)
     → (r ≡ 0) ⊎ (r ≡ 2) ⊎ (r ≡ 3) ⊎ (r ≡ 4) ⊎ (r ≡ 5) ⊎ (r ≡ 6) ⊎ (r ≡ 7) ⊎ (r ≡ 8)
-    → (r ≡ 2 → WritesAll (RefusesWords policies words left left') taken taken') → (r ≡ 3 → WritesAll (TellsFault policies words left left') taken taken')
+    → (r ≡ 2 → WritesAll (RefusesWords policies words left left') taken taken') → (r ≡ 3 → WritesAll (ReportsFault policies words left left') taken taken')
     → (r ≡ 4 → StopsReading words left left' taken taken' reads reads') → (r ≡ 5 → Rises writes writes')
-    → (r ≡ 7 → WritesAll (EndsSession policies held words left left') taken taken') → (r ≡ 8 → Unheard words left left' taken taken' opens opens')
+    → (r ≡ 7 → WritesAll (EndsSession policies held words left left') taken taken') → (r ≡ 8 → NotListening words left left' taken taken' opens opens')
     → RunsPlain name.Replay words → IsRunnable policies left → (Rises reads reads' → ⊥) → (Rises writes writes' → ⊥) → (r ≡ 0) ⊎ (r ≡ 6)
-completes r policies held words left left' taken taken' reads reads' writes writes' opens opens' known refused faulty stops writing full unheard runs can read wrote = by known
+completes r policies held words left left' taken taken' reads reads' writes writes' opens opens' known refused faulty stops writing full not_listening runs can read wrote = by known
   where
     by : (r ≡ 0) ⊎ (r ≡ 2) ⊎ (r ≡ 3) ⊎ (r ≡ 4) ⊎ (r ≡ 5) ⊎ (r ≡ 6) ⊎ (r ≡ 7) ⊎ (r ≡ 8) → (r ≡ 0) ⊎ (r ≡ 6)
     by (inl zero) = inl zero
@@ -105,4 +105,4 @@ completes r policies held words left left' taken taken' reads reads' writes writ
     by (inr (inr (inr (inr (inl five))))) = absurd (wrote (writing five))
     by (inr (inr (inr (inr (inr (inl six)))))) = inr six
     by (inr (inr (inr (inr (inr (inr (inl seven))))))) = absurd (not_full policies held words left left' _ runs can (full seven).1)
-    by (inr (inr (inr (inr (inr (inr (inr eight))))))) = absurd (never_unheard words left left' taken taken' opens opens' runs (unheard eight))
+    by (inr (inr (inr (inr (inr (inr (inr eight))))))) = absurd (never_not_listening words left left' taken taken' opens opens' runs (not_listening eight))

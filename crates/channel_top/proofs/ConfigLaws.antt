@@ -6,34 +6,34 @@ use Rattle.gate_io.specs.Outside.{IsAtEnd, Takes}
 use Rattle.grpc_base.specs.Kinds.{KindsSeen}
 use Rattle.grpc_base.specs.Limits.{config_limit}
 use Rattle.grpc_base.specs.declared.event.ConfigFault.{ConfigFault}
-use Rattle.grpc_base.specs.declared.event.ConfigFault.TheVariants as told
+use Rattle.grpc_base.specs.declared.event.ConfigFault.TheVariants as reported
 use Rattle.grpc_base.specs.declared.event.JsonFault.TheVariants as json
 use Rattle.json_text.specs.Reading.{reading}
-use Rattle.service_config.specs.Reading.{FailsBy, Tells, config_at, config_of}
+use Rattle.service_config.specs.Reading.{FailsBy, ReportsThat, config_at, config_of}
 use Rattle.service_config.specs.Text.{config_text, fault_text}
 use Rattle.service_config.specs.declared.config.Config.{Config}
 use Rattle.channel_top.specs.declared.input.Ending.{Ending}
 use Rattle.channel_top.specs.declared.input.Ending.TheVariants as ending
 use Rattle.channel_top.specs.Ending.{EndsSo}
-use Rattle.channel_top.specs.ConfigMode.{HasFault, IsConfigDone, TellsConfigFault, judged_bytes}
+use Rattle.channel_top.specs.ConfigMode.{HasFault, IsConfigDone, ReportsConfigFault, judged_bytes}
 
 long_reading : (bytes : List ℕ) → nat_lt config_limit (length bytes) ≡ true → reading bytes ≡ Err json.TooLong
 unfolding reading
 long_reading bytes long = rw long refl
 
-pub too_long : (kinds : KindsSeen) (bytes : List ℕ) → config_limit < length bytes → config_of kinds bytes ≡ Err (told.Json json.TooLong)
+pub too_long : (kinds : KindsSeen) (bytes : List ℕ) → config_limit < length bytes → config_of kinds bytes ≡ Err (reported.Json json.TooLong)
 too_long kinds bytes long =
     let test : nat_lt config_limit (length bytes) ≡ true = grind (arith, nat_tests) in
     ap (config_at kinds) (long_reading bytes test)
 
--- a fault that is told is that of the definition
-pub is_fault : (f : ConfigFault) (read : Result Config ConfigFault) → FailsBy f read → (f ≡ told.NoMemory → ⊥) → read ≡ Err f
-is_fault told.NoMemory read h never = absurd (never refl)
-is_fault (told.Json j) read h never = h
-is_fault (told.Field p) read h never = h
-is_fault (told.BothPolicies p) read h never = h
-is_fault (told.RepeatedName p) read h never = h
-is_fault told.NoSupportedPolicy read h never = h
+-- a fault that is reported is that of the definition
+pub is_fault : (f : ConfigFault) (read : Result Config ConfigFault) → FailsBy f read → (f ≡ reported.NoMemory → ⊥) → read ≡ Err f
+is_fault reported.NoMemory read h never = absurd (never refl)
+is_fault (reported.Json j) read h never = h
+is_fault (reported.Field p) read h never = h
+is_fault (reported.BothPolicies p) read h never = h
+is_fault (reported.RepeatedName p) read h never = h
+is_fault reported.NoSupportedPolicy read h never = h
 
 -- an input that reads as a config is whole
 whole : (kinds : KindsSeen) (e : Ending) (left : Option (List ℕ)) (bytes : List ℕ) (f f' : ℕ) (c : Config) → EndsSo judged_bytes e left (length bytes) f f' → (e ≡ ending.Failed → ⊥) → config_of kinds bytes ≡ Ok c → IsAtEnd left
@@ -41,7 +41,7 @@ whole kinds ending.End left bytes f f' c h never is = h.0
 whole kinds ending.Failed left bytes f f' c h never is = absurd (never refl)
 whole kinds ending.Limit left bytes f f' c h never is =
     let long : config_limit < length bytes = omega (arith, h) in
-    ok_err c (told.Json json.TooLong) (sym is ∙ too_long kinds bytes long)
+    ok_err c (reported.Json json.TooLong) (sym is ∙ too_long kinds bytes long)
   where
     ok_err : (x : Config) (y : ConfigFault) → Ok x ≡ Err y → IsAtEnd left
     ok_err x y e = absurd (cc)
@@ -60,7 +60,7 @@ within ending.End left n f f' h = omega (arith, h.1)
 within ending.Limit left n f f' h = omega (arith, h)
 within ending.Failed left n f f' h = omega (arith, h.1)
 
-pub config_done : (kinds : KindsSeen) (left left' : Option (List ℕ)) (bytes read : List ℕ) (e : Ending) (f f' : ℕ) (c : Config) → Takes left left' bytes → EndsSo judged_bytes e left' (length bytes) f f' → (e ≡ ending.Failed → ⊥) → read ≡ bytes → Tells (Ok c) (config_of kinds read) → IsConfigDone kinds left left' (config_text c)
+pub config_done : (kinds : KindsSeen) (left left' : Option (List ℕ)) (bytes read : List ℕ) (e : Ending) (f f' : ℕ) (c : Config) → Takes left left' bytes → EndsSo judged_bytes e left' (length bytes) f f' → (e ≡ ending.Failed → ⊥) → read ≡ bytes → ReportsThat (Ok c) (config_of kinds read) → IsConfigDone kinds left left' (config_text c)
 config_done kinds left left' bytes read e f f' c takes ends never same is =
     let reads : config_of kinds bytes ≡ Ok c = ap (config_of kinds) (sym same) ∙ is in
     record {
@@ -72,8 +72,8 @@ config_done kinds left left' bytes read e f f' c takes ends never same is =
       text_is = refl;
     }
 
-pub config_told : (kinds : KindsSeen) (left left' : Option (List ℕ)) (bytes read : List ℕ) (e : Ending) (f f' : ℕ) (result : Result Config ConfigFault) (x : ConfigFault) → Takes left left' bytes → EndsSo judged_bytes e left' (length bytes) f f' → (e ≡ ending.Failed → ⊥) → read ≡ bytes → Tells (Err x) (config_of kinds read) → (x ≡ told.NoMemory → ⊥) → result ≡ Err x → (result ≡ Err (told.Json json.NoMemory) → ⊥) → TellsConfigFault kinds left left' (fault_text x)
-config_told kinds left left' bytes read e f f' result x takes ends never same is memory was json_memory =
+pub config_reported : (kinds : KindsSeen) (left left' : Option (List ℕ)) (bytes read : List ℕ) (e : Ending) (f f' : ℕ) (result : Result Config ConfigFault) (x : ConfigFault) → Takes left left' bytes → EndsSo judged_bytes e left' (length bytes) f f' → (e ≡ ending.Failed → ⊥) → read ≡ bytes → ReportsThat (Err x) (config_of kinds read) → (x ≡ reported.NoMemory → ⊥) → result ≡ Err x → (result ≡ Err (reported.Json json.NoMemory) → ⊥) → ReportsConfigFault kinds left left' (fault_text x)
+config_reported kinds left left' bytes read e f f' result x takes ends never same is memory was json_memory =
     let reads : config_of kinds bytes ≡ Err x = ap (config_of kinds) (sym same) ∙ is_fault x (config_of kinds read) is memory in
     record {
       input = bytes;

@@ -20,16 +20,16 @@ use Rattle.script_input.specs.declared.live_script.LiveScript.{LiveScript}
 use Rattle.service_config.specs.Reading.{config_of}
 use Rattle.service_config.specs.declared.config.Config.{Config}
 use Rattle.session_text.specs.Writing.{WritesAll}
-use Rattle.live_mode.specs.Live.{TellsBadCall}
-use Rattle.relay_mode.specs.Relayed.{TellsBadRelay}
-use Rattle.channel_top.specs.ConfigMode.{TellsConfigFault}
+use Rattle.live_mode.specs.Live.{ReportsBadCall}
+use Rattle.relay_mode.specs.Relayed.{ReportsBadRelay}
+use Rattle.channel_top.specs.ConfigMode.{ReportsConfigFault}
 use Rattle.channel_top.specs.Inputs.{HasItsPolicies, HasSession, IsAnyScript, IsGivenItsInput, IsGivenOther, IsInputOf}
-use Rattle.channel_top.specs.Migrate.{Migrates, TellsBadReport}
-use Rattle.channel_top.specs.Modes.{EndsSession, FillsIn, Finishes, IsDoneIn, RefusesIn, RefusesWords, StopsIn, StopsReading, TellsFault, TellsFaultIn, Unheard, UnheardIn}
-use Rattle.channel_top.specs.Serve.{TellsBadAnswer}
-use Rattle.channel_top.specs.Top.{Reports, TellsBadLine}
+use Rattle.channel_top.specs.Migrate.{Migrates, ReportsBadReport}
+use Rattle.channel_top.specs.Modes.{EndsSession, FillsIn, Finishes, IsDoneIn, RefusesIn, RefusesWords, StopsIn, StopsReading, ReportsFault, ReportsFaultIn, NotListening, NotListeningIn}
+use Rattle.channel_top.specs.Serve.{ReportsBadAnswer}
+use Rattle.channel_top.specs.Top.{Reports, ReportsBadLine}
 use Rattle.channel_top.specs.Words as words_of
-use Rattle.channel_top.specs.Words.{AreWrong, AskForText, AskPlainly, Runs, mode_of, name_of}
+use Rattle.channel_top.specs.Words.{WordsAreWrong, AskForText, AskPlainly, Runs, mode_of, name_of}
 use Rattle.channel_top.specs.declared.words.Mode.{Mode}
 use Rattle.channel_top.specs.declared.words.Mode.TheVariants as mode
 use Rattle.channel_top.specs.declared.words.ModeName.{ModeName}
@@ -53,65 +53,65 @@ no_bad_script : (f : Form) (input : List ℕ) (n cause : ℕ) → IsAnyScript f 
 no_bad_script f input n cause (inl none) bad = no_bad_in_none f n cause (subst (λ (x : List ℕ). IsFirstBad f x n cause) none bad)
 no_bad_script f input n cause (inr (target, value, events, script)) bad = no_bad f input target value events n cause script bad
 
-replay_fault : (left left' : Option (List ℕ)) (text : List ℕ) → IsSomeAnd left (IsAnyScript form.Script) → TellsBadLine left left' text → ⊥
-replay_fault left left' text is tells =
+replay_fault : (left left' : Option (List ℕ)) (text : List ℕ) → IsSomeAnd left (IsAnyScript form.Script) → ReportsBadLine left left' text → ⊥
+replay_fault left left' text is reports_that =
     let of : (input : List ℕ) × (left ≡ Some input) × IsAnyScript form.Script input = some_and left (IsAnyScript form.Script) is in
-    no_bad_script form.Script of.0 tells.line tells.cause of.2
-    (found_one (λ x. IsFirstBad form.Script x tells.line tells.cause) of.0 tells.bad.input left' (subst (λ (l : Option (List ℕ)). Takes l left' tells.bad.input) of.1 tells.bad.read) tells.bad.bad)
+    no_bad_script form.Script of.0 reports_that.line reports_that.cause of.2
+    (found_one (λ x. IsFirstBad form.Script x reports_that.line reports_that.cause) of.0 reports_that.bad.input left' (subst (λ (l : Option (List ℕ)). Takes l left' reports_that.bad.input) of.1 reports_that.bad.read) reports_that.bad.bad)
 
-migrate_fault : (left left' : Option (List ℕ)) (text : List ℕ) → IsSomeAnd left (IsAnyScript form.Report) → TellsBadReport left left' text → ⊥
-migrate_fault left left' text is tells =
+migrate_fault : (left left' : Option (List ℕ)) (text : List ℕ) → IsSomeAnd left (IsAnyScript form.Report) → ReportsBadReport left left' text → ⊥
+migrate_fault left left' text is reports_that =
     let of : (input : List ℕ) × (left ≡ Some input) × IsAnyScript form.Report input = some_and left (IsAnyScript form.Report) is in
-    no_bad_script form.Report of.0 tells.line tells.cause of.2
-    (found_one (λ x. IsFirstBad form.Report x tells.line tells.cause) of.0 tells.bad.input left' (subst (λ (l : Option (List ℕ)). Takes l left' tells.bad.input) of.1 tells.bad.read) tells.bad.bad)
+    no_bad_script form.Report of.0 reports_that.line reports_that.cause of.2
+    (found_one (λ x. IsFirstBad form.Report x reports_that.line reports_that.cause) of.0 reports_that.bad.input left' (subst (λ (l : Option (List ℕ)). Takes l left' reports_that.bad.input) of.1 reports_that.bad.read) reports_that.bad.bad)
 
 not_two : (config : Config) (fault : ConfigFault) (r : Result Config ConfigFault) → r ≡ Ok config → r ≡ Err fault → ⊥
 not_two config fault r ok err = (cc)
 
-config_fault : (kinds : KindsSeen) (left left' : Option (List ℕ)) (text : List ℕ) → IsSomeAnd left (λ input. (config : Config) × (config_of kinds input ≡ Ok config)) → TellsConfigFault kinds left left' text → ⊥
-config_fault kinds left left' text is tells =
+config_fault : (kinds : KindsSeen) (left left' : Option (List ℕ)) (text : List ℕ) → IsSomeAnd left (λ input. (config : Config) × (config_of kinds input ≡ Ok config)) → ReportsConfigFault kinds left left' text → ⊥
+config_fault kinds left left' text is reports_that =
     let of : (input : List ℕ) × (left ≡ Some input) × ((config : Config) × (config_of kinds input ≡ Ok config)) = some_and left (λ input. (config : Config) × (config_of kinds input ≡ Ok config)) is in
-    not_two of.2.0 tells.fault (config_of kinds of.0) of.2.1
-    (found_one (λ x. config_of kinds x ≡ Err tells.fault) of.0 tells.input left' (subst (λ (l : Option (List ℕ)). Takes l left' tells.input) of.1 tells.read) tells.has)
+    not_two of.2.0 reports_that.fault (config_of kinds of.0) of.2.1
+    (found_one (λ x. config_of kinds x ≡ Err reports_that.fault) of.0 reports_that.input left' (subst (λ (l : Option (List ℕ)). Takes l left' reports_that.input) of.1 reports_that.read) reports_that.has)
 
-serve_fault : (left left' : Option (List ℕ)) (text : List ℕ) → IsSomeAnd left (λ input. (answers : List AnswerLine) × IsServer input answers) → TellsBadAnswer left left' text → ⊥
-serve_fault left left' text is tells =
+serve_fault : (left left' : Option (List ℕ)) (text : List ℕ) → IsSomeAnd left (λ input. (answers : List AnswerLine) × IsServer input answers) → ReportsBadAnswer left left' text → ⊥
+serve_fault left left' text is reports_that =
     let of : (input : List ℕ) × (left ≡ Some input) × ((answers : List AnswerLine) × IsServer input answers) = some_and left (λ input. (answers : List AnswerLine) × IsServer input answers) is in
-    no_bad_answer of.0 of.2.0 tells.line tells.cause of.2.1
-    (found_one (λ x. IsFirstBadAnswer x tells.line tells.cause) of.0 tells.bad.input left' (subst (λ (l : Option (List ℕ)). Takes l left' tells.bad.input) of.1 tells.bad.read) tells.bad.bad)
+    no_bad_answer of.0 of.2.0 reports_that.line reports_that.cause of.2.1
+    (found_one (λ x. IsFirstBadAnswer x reports_that.line reports_that.cause) of.0 reports_that.bad.input left' (subst (λ (l : Option (List ℕ)). Takes l left' reports_that.bad.input) of.1 reports_that.bad.read) reports_that.bad.bad)
 
-live_fault : (left left' : Option (List ℕ)) (text : List ℕ) → IsSomeAnd left (λ input. (script : LiveScript) × IsLive input script) → TellsBadCall left left' text → ⊥
-live_fault left left' text is tells =
+live_fault : (left left' : Option (List ℕ)) (text : List ℕ) → IsSomeAnd left (λ input. (script : LiveScript) × IsLive input script) → ReportsBadCall left left' text → ⊥
+live_fault left left' text is reports_that =
     let of : (input : List ℕ) × (left ≡ Some input) × ((script : LiveScript) × IsLive input script) = some_and left (λ input. (script : LiveScript) × IsLive input script) is in
     by of.0 of.2.0 of.2.1
-    (found (λ x. IsFirstBadLive x tells.line tells.cause ⊎ IsNothing x tells.line tells.cause) (λ x. IsFirstBadLive x tells.line tells.cause) of.0 tells.bad.input left'
-    (subst (λ (l : Option (List ℕ)). Takes l left' tells.bad.input) of.1 tells.bad.read) tells.bad.bad)
+    (found (λ x. IsFirstBadLive x reports_that.line reports_that.cause ⊎ IsNothing x reports_that.line reports_that.cause) (λ x. IsFirstBadLive x reports_that.line reports_that.cause) of.0 reports_that.bad.input left'
+    (subst (λ (l : Option (List ℕ)). Takes l left' reports_that.bad.input) of.1 reports_that.bad.read) reports_that.bad.bad)
   where
-    by : (input : List ℕ) (script : LiveScript) → IsLive input script → (IsFirstBadLive input tells.line tells.cause ⊎ IsNothing input tells.line tells.cause) ⊎ IsFirstBadLive input tells.line tells.cause → ⊥
-    by input script live (inl (inl bad)) = no_bad_live input script tells.line tells.cause live bad
-    by input script live (inl (inr nothing)) = not_nothing input script tells.line tells.cause live nothing
-    by input script live (inr bad) = no_bad_live input script tells.line tells.cause live bad
+    by : (input : List ℕ) (script : LiveScript) → IsLive input script → (IsFirstBadLive input reports_that.line reports_that.cause ⊎ IsNothing input reports_that.line reports_that.cause) ⊎ IsFirstBadLive input reports_that.line reports_that.cause → ⊥
+    by input script live (inl (inl bad)) = no_bad_live input script reports_that.line reports_that.cause live bad
+    by input script live (inl (inr nothing)) = not_nothing input script reports_that.line reports_that.cause live nothing
+    by input script live (inr bad) = no_bad_live input script reports_that.line reports_that.cause live bad
 
-relay_fault : (left left' : Option (List ℕ)) (text : List ℕ) → IsSomeAnd left (λ input. (script : LiveScript) × IsLive input script × (script.calls.items ≡ [])) → TellsBadRelay left left' text → ⊥
-relay_fault left left' text is tells =
+relay_fault : (left left' : Option (List ℕ)) (text : List ℕ) → IsSomeAnd left (λ input. (script : LiveScript) × IsLive input script × (script.calls.items ≡ [])) → ReportsBadRelay left left' text → ⊥
+relay_fault left left' text is reports_that =
     let of : (input : List ℕ) × (left ≡ Some input) × ((script : LiveScript) × IsLive input script × (script.calls.items ≡ [])) = some_and left (λ input. (script : LiveScript) × IsLive input script × (script.calls.items ≡ [])) is in
     by of.0 of.2.0 of.2.1 of.2.2
-    (found (λ x. IsFirstBadRelay x tells.line tells.cause ⊎ IsNothing x tells.line tells.cause) (λ x. IsFirstBadRelay x tells.line tells.cause) of.0 tells.bad.input left'
-    (subst (λ (l : Option (List ℕ)). Takes l left' tells.bad.input) of.1 tells.bad.read) tells.bad.bad)
+    (found (λ x. IsFirstBadRelay x reports_that.line reports_that.cause ⊎ IsNothing x reports_that.line reports_that.cause) (λ x. IsFirstBadRelay x reports_that.line reports_that.cause) of.0 reports_that.bad.input left'
+    (subst (λ (l : Option (List ℕ)). Takes l left' reports_that.bad.input) of.1 reports_that.bad.read) reports_that.bad.bad)
   where
-    by : (input : List ℕ) (script : LiveScript) → IsLive input script → script.calls.items ≡ [] → (IsFirstBadRelay input tells.line tells.cause ⊎ IsNothing input tells.line tells.cause) ⊎ IsFirstBadRelay input tells.line tells.cause → ⊥
-    by input script live none (inl (inl bad)) = no_bad_relay input script tells.line tells.cause live none bad
-    by input script live none (inl (inr nothing)) = not_nothing input script tells.line tells.cause live nothing
-    by input script live none (inr bad) = no_bad_relay input script tells.line tells.cause live none bad
+    by : (input : List ℕ) (script : LiveScript) → IsLive input script → script.calls.items ≡ [] → (IsFirstBadRelay input reports_that.line reports_that.cause ⊎ IsNothing input reports_that.line reports_that.cause) ⊎ IsFirstBadRelay input reports_that.line reports_that.cause → ⊥
+    by input script live none (inl (inl bad)) = no_bad_relay input script reports_that.line reports_that.cause live none bad
+    by input script live none (inl (inr nothing)) = not_nothing input script reports_that.line reports_that.cause live nothing
+    by input script live none (inr bad) = no_bad_relay input script reports_that.line reports_that.cause live none bad
 
-no_fault_in : (policies : List PolicySeen) (m : Mode) (left left' : Option (List ℕ)) (text : List ℕ) → IsInputOf policies (name_of m) left → TellsFaultIn policies m left left' text → ⊥
-no_fault_in policies mode.Replay left left' text is tells = replay_fault left left' text is tells
-no_fault_in policies mode.Config left left' text is tells = config_fault (kinds_of policies) left left' text is tells
-no_fault_in policies mode.Migrate left left' text is tells = migrate_fault left left' text is tells
-no_fault_in policies (mode.Serve port links) left left' text is tells = serve_fault left left' text is tells
-no_fault_in policies (mode.Load load) left left' text is tells = tells
-no_fault_in policies (mode.Live settings) left left' text is tells = live_fault left left' text is tells
-no_fault_in policies (mode.Relay settings) left left' text is tells = relay_fault left left' text is tells
+no_fault_in : (policies : List PolicySeen) (m : Mode) (left left' : Option (List ℕ)) (text : List ℕ) → IsInputOf policies (name_of m) left → ReportsFaultIn policies m left left' text → ⊥
+no_fault_in policies mode.Replay left left' text is reports_that = replay_fault left left' text is reports_that
+no_fault_in policies mode.Config left left' text is reports_that = config_fault (kinds_of policies) left left' text is reports_that
+no_fault_in policies mode.Migrate left left' text is reports_that = migrate_fault left left' text is reports_that
+no_fault_in policies (mode.Serve port links) left left' text is reports_that = serve_fault left left' text is reports_that
+no_fault_in policies (mode.Load load) left left' text is reports_that = reports_that
+no_fault_in policies (mode.Live settings) left left' text is reports_that = live_fault left left' text is reports_that
+no_fault_in policies (mode.Relay settings) left left' text is reports_that = relay_fault left left' text is reports_that
 
 -- ---- what was read is what the mode reads
 
@@ -165,16 +165,16 @@ full_input policies held (mode.Load load) input left left' text is ends = tt
 full_input policies held (mode.Live settings) input left left' text is ends = reads_live policies input left left' ends.ends.script is ends.ends.read
 full_input policies held (mode.Relay settings) input left left' text is ends = reads_relay policies input left left' ends.ends.script is ends.ends.read
 
-unheard_input : (policies : List PolicySeen) (m : Mode) (input : List ℕ) (left left' taken taken' : Option (List ℕ)) (faults faults' : ℕ) → left ≡ Some input → UnheardIn m left left' taken taken' faults faults' → IsInputOf policies (name_of m) left
-unheard_input policies mode.Replay input left left' taken taken' faults faults' is ends = absurd ends
-unheard_input policies mode.Config input left left' taken taken' faults faults' is ends = absurd ends
-unheard_input policies mode.Migrate input left left' taken taken' faults faults' is ends = absurd ends
-unheard_input policies (mode.Serve port links) input left left' taken taken' faults faults' is ends = reads_server policies input left left' ends.answers is ends.script
-unheard_input policies (mode.Load load) input left left' taken taken' faults faults' is ends = tt
-unheard_input policies (mode.Live settings) input left left' taken taken' faults faults' is ends = absurd ends
-unheard_input policies (mode.Relay settings) input left left' taken taken' faults faults' is ends = reads_relay policies input left left' ends.script is ends.read
+not_listening_input : (policies : List PolicySeen) (m : Mode) (input : List ℕ) (left left' taken taken' : Option (List ℕ)) (faults faults' : ℕ) → left ≡ Some input → NotListeningIn m left left' taken taken' faults faults' → IsInputOf policies (name_of m) left
+not_listening_input policies mode.Replay input left left' taken taken' faults faults' is ends = absurd ends
+not_listening_input policies mode.Config input left left' taken taken' faults faults' is ends = absurd ends
+not_listening_input policies mode.Migrate input left left' taken taken' faults faults' is ends = absurd ends
+not_listening_input policies (mode.Serve port links) input left left' taken taken' faults faults' is ends = reads_server policies input left left' ends.answers is ends.script
+not_listening_input policies (mode.Load load) input left left' taken taken' faults faults' is ends = tt
+not_listening_input policies (mode.Live settings) input left left' taken taken' faults faults' is ends = absurd ends
+not_listening_input policies (mode.Relay settings) input left left' taken taken' faults faults' is ends = reads_relay policies input left left' ends.script is ends.read
 
--- ---- what a status tells of the mode
+-- ---- what a status reports of the mode
 
 refuses_lack : (policies : List PolicySeen) (m : Mode) (left left' : Option (List ℕ)) (text : List ℕ) → RefusesIn policies m left left' text → HasItsPolicies policies (name_of m) → ⊥
 refuses_lack policies mode.Replay left left' text refused has = refused
@@ -212,14 +212,14 @@ stops_rise (mode.Load load) left left' taken taken' faults faults' stops = absur
 stops_rise (mode.Live settings) left left' taken taken' faults faults' stops = stops.stops.failed
 stops_rise (mode.Relay settings) left left' taken taken' faults faults' stops = stops.stops.failed
 
-unheard_once : (m : Mode) (left left' taken taken' : Option (List ℕ)) (faults faults' : ℕ) → UnheardIn m left left' taken taken' faults faults' → faults' ≡ one_more faults
-unheard_once mode.Replay left left' taken taken' faults faults' ends = absurd ends
-unheard_once mode.Config left left' taken taken' faults faults' ends = absurd ends
-unheard_once mode.Migrate left left' taken taken' faults faults' ends = absurd ends
-unheard_once (mode.Serve port links) left left' taken taken' faults faults' ends = ends.failed
-unheard_once (mode.Load load) left left' taken taken' faults faults' ends = absurd ends
-unheard_once (mode.Live settings) left left' taken taken' faults faults' ends = absurd ends
-unheard_once (mode.Relay settings) left left' taken taken' faults faults' ends = ends.failed
+not_listening_once : (m : Mode) (left left' taken taken' : Option (List ℕ)) (faults faults' : ℕ) → NotListeningIn m left left' taken taken' faults faults' → faults' ≡ one_more faults
+not_listening_once mode.Replay left left' taken taken' faults faults' ends = absurd ends
+not_listening_once mode.Config left left' taken taken' faults faults' ends = absurd ends
+not_listening_once mode.Migrate left left' taken taken' faults faults' ends = absurd ends
+not_listening_once (mode.Serve port links) left left' taken taken' faults faults' ends = ends.failed
+not_listening_once (mode.Load load) left left' taken taken' faults faults' ends = absurd ends
+not_listening_once (mode.Live settings) left left' taken taken' faults faults' ends = absurd ends
+not_listening_once (mode.Relay settings) left left' taken taken' faults faults' ends = ends.failed
 
 -- words run modes of one name
 one_name : (words : List (List ℕ)) (m k : Mode) → Runs m words → Runs k words → name_of m ≡ name_of k
@@ -241,20 +241,20 @@ not_plain words m runs asked = no_text (words_of.kinds_of words) (runs_are_taken
 -- a mode that is given what it reads
 pub good_end : (r : ℕ) (policies : List PolicySeen) (held : List (Option (List (List ℕ)))) (words : List (List ℕ)) (left left' taken taken' : Option (List ℕ)) (reads reads' writes writes' opens opens' : ℕ)
     → (r ≡ 0) ⊎ (r ≡ 2) ⊎ (r ≡ 3) ⊎ (r ≡ 4) ⊎ (r ≡ 5) ⊎ (r ≡ 6) ⊎ (r ≡ 7) ⊎ (r ≡ 8)
-    → (r ≡ 2 → WritesAll (RefusesWords policies words left left') taken taken') → (r ≡ 3 → WritesAll (TellsFault policies words left left') taken taken')
+    → (r ≡ 2 → WritesAll (RefusesWords policies words left left') taken taken') → (r ≡ 3 → WritesAll (ReportsFault policies words left left') taken taken')
     → (r ≡ 4 → StopsReading words left left' taken taken' reads reads') → (r ≡ 5 → Rises writes writes')
-    → (r ≡ 7 → WritesAll (EndsSession policies held words left left') taken taken') → (r ≡ 8 → Unheard words left left' taken taken' opens opens')
+    → (r ≡ 7 → WritesAll (EndsSession policies held words left left') taken taken') → (r ≡ 8 → NotListening words left left' taken taken' opens opens')
     → (given : IsGivenItsInput policies words left) → (Rises reads reads' → ⊥) → (Rises writes writes' → ⊥) → (opens' ≡ one_more opens → ⊥)
     → (r ≡ 0) ⊎ ((r ≡ 6) ⊎ ((r ≡ 7) × HasSession (name_of given.mode)))
-good_end r policies held words left left' taken taken' reads reads' writes writes' opens opens' known refused faulty stops writing full unheard given read wrote heard = by known
+good_end r policies held words left left' taken taken' reads reads' writes writes' opens opens' known refused faulty stops writing full not_listening given read wrote listened = by known
   where
     refuses : (text : List ℕ) → RefusesWords policies words left left' text → ⊥
     refuses text (inl wrong) = wrong.0.0 given.mode given.runs
     refuses text (inr (m, also, lacks)) =
         refuses_lack policies m left left' text lacks (subst (λ (n : ModeName). HasItsPolicies policies n) (one_name words given.mode m given.runs also) given.policies_are)
 
-    tells : (text : List ℕ) → TellsFault policies words left left' text → ⊥
-    tells text (m, also, fault) = no_fault_in policies m left left' text (subst (λ (n : ModeName). IsInputOf policies n left) (one_name words given.mode m given.runs also) given.input) fault
+    reports_that : (text : List ℕ) → ReportsFault policies words left left' text → ⊥
+    reports_that text (m, also, fault) = no_fault_in policies m left left' text (subst (λ (n : ModeName). IsInputOf policies n left) (one_name words given.mode m given.runs also) given.input) fault
 
     fills : (text : List ℕ) → EndsSession policies held words left left' text → HasSession (name_of given.mode)
     fills text (m, also, ends) = subst HasSession (one_name words m given.mode also given.runs) (fills_session policies held m left left' text ends)
@@ -262,7 +262,7 @@ good_end r policies held words left left' taken taken' reads reads' writes write
     by : (r ≡ 0) ⊎ (r ≡ 2) ⊎ (r ≡ 3) ⊎ (r ≡ 4) ⊎ (r ≡ 5) ⊎ (r ≡ 6) ⊎ (r ≡ 7) ⊎ (r ≡ 8) → (r ≡ 0) ⊎ ((r ≡ 6) ⊎ ((r ≡ 7) × HasSession (name_of given.mode)))
     by (inl zero) = inl zero
     by (inr (inl two)) = absurd (refuses _ (refused two).1)
-    by (inr (inr (inl three))) = absurd (tells _ (faulty three).1)
+    by (inr (inr (inl three))) = absurd (reports_that _ (faulty three).1)
     by (inr (inr (inr (inl four)))) =
         let s : StopsReading words left left' taken taken' reads reads' = stops four in
         absurd (read (stops_rise s.0 left left' taken taken' reads reads' s.2))
@@ -270,17 +270,17 @@ good_end r policies held words left left' taken taken' reads reads' writes write
     by (inr (inr (inr (inr (inr (inl six)))))) = inr (inl six)
     by (inr (inr (inr (inr (inr (inr (inl seven))))))) = inr (inr (seven, fills _ (full seven).1))
     by (inr (inr (inr (inr (inr (inr (inr eight))))))) =
-        let u : Unheard words left left' taken taken' opens opens' = unheard eight in
-        absurd (heard (unheard_once u.0 left left' taken taken' opens opens' u.2))
+        let u : NotListening words left left' taken taken' opens opens' = not_listening eight in
+        absurd (listened (not_listening_once u.0 left left' taken taken' opens opens' u.2))
 
 -- one that is given anything else
 pub bad_end : (r : ℕ) (policies : List PolicySeen) (held : List (Option (List (List ℕ)))) (words : List (List ℕ)) (left left' taken taken' : Option (List ℕ)) (reads reads' writes writes' opens opens' : ℕ)
     → (r ≡ 0) ⊎ (r ≡ 2) ⊎ (r ≡ 3) ⊎ (r ≡ 4) ⊎ (r ≡ 5) ⊎ (r ≡ 6) ⊎ (r ≡ 7) ⊎ (r ≡ 8)
     → (r ≡ 0 → WritesAll (Finishes policies held words left left') taken taken') → (r ≡ 2 → WritesAll (RefusesWords policies words left left') taken taken')
     → (r ≡ 4 → StopsReading words left left' taken taken' reads reads') → (r ≡ 5 → Rises writes writes')
-    → (r ≡ 7 → WritesAll (EndsSession policies held words left left') taken taken') → (r ≡ 8 → Unheard words left left' taken taken' opens opens')
+    → (r ≡ 7 → WritesAll (EndsSession policies held words left left') taken taken') → (r ≡ 8 → NotListening words left left' taken taken' opens opens')
     → IsGivenOther policies words left → (Rises reads reads' → ⊥) → (Rises writes writes' → ⊥) → (r ≡ 3) ⊎ (r ≡ 6)
-bad_end r policies held words left left' taken taken' reads reads' writes writes' opens opens' known done refused stops writing full unheard given read wrote = by known
+bad_end r policies held words left left' taken taken' reads reads' writes writes' opens opens' known done refused stops writing full not_listening given read wrote = by known
   where
     not_it : (m : Mode) → Runs m words → IsInputOf policies (name_of m) left → ⊥
     not_it m also is = given.other (subst (λ (n : ModeName). IsInputOf policies n left) (one_name words m given.mode also given.runs) is)
@@ -307,17 +307,17 @@ bad_end r policies held words left left' taken taken' reads reads' writes writes
     by (inr (inr (inr (inr (inr (inl six)))))) = inr six
     by (inr (inr (inr (inr (inr (inr (inl seven))))))) = absurd (fills _ (full seven).1)
     by (inr (inr (inr (inr (inr (inr (inr eight))))))) =
-        let u : Unheard words left left' taken taken' opens opens' = unheard eight in
-        absurd (not_it u.0 u.1 (unheard_input policies u.0 given.input left left' taken taken' opens opens' given.left_is u.2))
+        let u : NotListening words left left' taken taken' opens opens' = not_listening eight in
+        absurd (not_it u.0 u.1 (not_listening_input policies u.0 given.input left left' taken taken' opens opens' given.left_is u.2))
 
 -- words that ask for a text in the plain way
 pub asked_end : (r : ℕ) (policies : List PolicySeen) (held : List (Option (List (List ℕ)))) (words : List (List ℕ)) (left left' taken taken' : Option (List ℕ)) (reads reads' writes writes' opens opens' : ℕ)
     → (r ≡ 0) ⊎ (r ≡ 2) ⊎ (r ≡ 3) ⊎ (r ≡ 4) ⊎ (r ≡ 5) ⊎ (r ≡ 6) ⊎ (r ≡ 7) ⊎ (r ≡ 8)
-    → (r ≡ 2 → WritesAll (RefusesWords policies words left left') taken taken') → (r ≡ 3 → WritesAll (TellsFault policies words left left') taken taken')
+    → (r ≡ 2 → WritesAll (RefusesWords policies words left left') taken taken') → (r ≡ 3 → WritesAll (ReportsFault policies words left left') taken taken')
     → (r ≡ 4 → StopsReading words left left' taken taken' reads reads') → (r ≡ 5 → Rises writes writes')
-    → (r ≡ 7 → WritesAll (EndsSession policies held words left left') taken taken') → (r ≡ 8 → Unheard words left left' taken taken' opens opens')
+    → (r ≡ 7 → WritesAll (EndsSession policies held words left left') taken taken') → (r ≡ 8 → NotListening words left left' taken taken' opens opens')
     → AskPlainly words → (Rises writes writes' → ⊥) → (r ≡ 0) ⊎ (r ≡ 6)
-asked_end r policies held words left left' taken taken' reads reads' writes writes' opens opens' known refused faulty stops writing full unheard asked wrote = by known
+asked_end r policies held words left left' taken taken' reads reads' writes writes' opens opens' known refused faulty stops writing full not_listening asked wrote = by known
   where
     runs_none : (m : Mode) → Runs m words → ⊥
     runs_none m runs = not_plain words m runs asked
@@ -334,16 +334,16 @@ asked_end r policies held words left left' taken taken' reads reads' writes writ
     by (inr (inr (inr (inr (inl five))))) = absurd (wrote (writing five))
     by (inr (inr (inr (inr (inr (inl six)))))) = inr six
     by (inr (inr (inr (inr (inr (inr (inl seven))))))) = absurd (runs_none (full seven).1.0 (full seven).1.1)
-    by (inr (inr (inr (inr (inr (inr (inr eight))))))) = absurd (runs_none (unheard eight).0 (unheard eight).1)
+    by (inr (inr (inr (inr (inr (inr (inr eight))))))) = absurd (runs_none (not_listening eight).0 (not_listening eight).1)
 
 -- words that run no mode and ask for no text
 pub wrong_end : (r : ℕ) (policies : List PolicySeen) (held : List (Option (List (List ℕ)))) (words : List (List ℕ)) (left left' taken taken' : Option (List ℕ)) (reads reads' writes writes' opens opens' : ℕ)
     → (r ≡ 0) ⊎ (r ≡ 2) ⊎ (r ≡ 3) ⊎ (r ≡ 4) ⊎ (r ≡ 5) ⊎ (r ≡ 6) ⊎ (r ≡ 7) ⊎ (r ≡ 8)
-    → (r ≡ 0 → WritesAll (Finishes policies held words left left') taken taken') → (r ≡ 3 → WritesAll (TellsFault policies words left left') taken taken')
+    → (r ≡ 0 → WritesAll (Finishes policies held words left left') taken taken') → (r ≡ 3 → WritesAll (ReportsFault policies words left left') taken taken')
     → (r ≡ 4 → StopsReading words left left' taken taken' reads reads') → (r ≡ 5 → Rises writes writes')
-    → (r ≡ 7 → WritesAll (EndsSession policies held words left left') taken taken') → (r ≡ 8 → Unheard words left left' taken taken' opens opens')
+    → (r ≡ 7 → WritesAll (EndsSession policies held words left left') taken taken') → (r ≡ 8 → NotListening words left left' taken taken' opens opens')
     → ((m : Mode) → Runs m words → ⊥) → (AskForText words → ⊥) → (Rises writes writes' → ⊥) → (r ≡ 2) ⊎ (r ≡ 6)
-wrong_end r policies held words left left' taken taken' reads reads' writes writes' opens opens' known done faulty stops writing full unheard runs_none unasked wrote = by known
+wrong_end r policies held words left left' taken taken' reads reads' writes writes' opens opens' known done faulty stops writing full not_listening runs_none unasked wrote = by known
   where
     finishes : (text : List ℕ) → Finishes policies held words left left' text → ⊥
     finishes text (inl (m, runs, ends)) = runs_none m runs
@@ -357,4 +357,4 @@ wrong_end r policies held words left left' taken taken' reads reads' writes writ
     by (inr (inr (inr (inr (inl five))))) = absurd (wrote (writing five))
     by (inr (inr (inr (inr (inr (inl six)))))) = inr six
     by (inr (inr (inr (inr (inr (inr (inl seven))))))) = absurd (runs_none (full seven).1.0 (full seven).1.1)
-    by (inr (inr (inr (inr (inr (inr (inr eight))))))) = absurd (runs_none (unheard eight).0 (unheard eight).1)
+    by (inr (inr (inr (inr (inr (inr (inr eight))))))) = absurd (runs_none (not_listening eight).0 (not_listening eight).1)

@@ -9,8 +9,8 @@ use Rattle.grpc_base.specs.declared.event.Entry.{Entry}
 use Rattle.grpc_base.specs.declared.event.Event.{Event}
 use Rattle.grpc_base.specs.declared.event.Reply.{Reply}
 use Rattle.grpc_base.specs.declared.event.Stamped.{Stamped}
-use Rattle.journal_room.specs.Posted.{ArePosted}
-use Rattle.journal_room.specs.Rooms.{HadRoom, HadRoomBehind, HasRoom}
+use Rattle.journal_room.specs.Posted.{EventsArePosted}
+use Rattle.journal_room.specs.Rooms.{HadRoom, HadRoomAfter, HasRoom}
 use Rattle.journal_room.specs.Runs.{HasRunBy}
 use Rattle.lb_policy.specs.Table.{PolicySeen}
 use Rattle.resolver_core.specs.AnyTargets.{authority_of}
@@ -20,12 +20,12 @@ use Rattle.script_input.specs.declared.form.Form.TheVariants as form
 use Rattle.script_text.specs.Report.{report_of}
 use Rattle.session_text.specs.Sessions.{IsSession, session_full_text}
 use Rattle.channel_top.specs.Promise.{ChannelsKeepThePromise, KeepsThePromise}
-use Rattle.channel_top.specs.Top.{EndsFull, IsDone, IsFullReport, IsReport, Reports, TellsBadLine}
+use Rattle.channel_top.specs.Top.{EndsFull, IsDone, IsFullReport, IsReport, Reports, ReportsBadLine}
 use Rattle.channel_top.proofs.AgainLaws.{some_input}
 use Rattle.channel_top.proofs.GrammarLaws.{no_bad, no_bad_in_none}
 use Rattle.channel_top.proofs.TakenLaws.{all_taken, found_one}
 
--- ---- two fronts of one list
+-- ---- two prefixes of one list
 
 wider : {X : Type 0} (a b : X) (xs ys : List X) (x y : X) → a ≡ b → (xs ≡ ys) ⊎ (((more : List X) × (ys ≡ xs ++ x ∷ more)) ⊎ ((more : List X) × (xs ≡ ys ++ y ∷ more)))
     → (a ∷ xs ≡ b ∷ ys) ⊎ (((more : List X) × (b ∷ ys ≡ (a ∷ xs) ++ x ∷ more)) ⊎ ((more : List X) × (a ∷ xs ≡ (b ∷ ys) ++ y ∷ more)))
@@ -33,7 +33,7 @@ wider a b xs ys x y same (inl is) = inl ((cc))
 wider a b xs ys x y same (inr (inl (more, is))) = inr (inl (more, (cc)))
 wider a b xs ys x y same (inr (inr (more, is))) = inr (inr (more, (cc)))
 
--- they are the same, or one is behind the other
+-- they are the same, or one is after the other
 in_order : {X : Type 0} (xs ys xs' ys' : List X) (x y : X) → xs ++ x ∷ xs' ≡ ys ++ y ∷ ys'
     → (xs ≡ ys) ⊎ (((more : List X) × (ys ≡ xs ++ x ∷ more)) ⊎ ((more : List X) × (xs ≡ ys ++ y ∷ more)))
 in_order [] [] xs' ys' x y same = inl refl
@@ -62,15 +62,15 @@ grows old (s ∷ events) new runs =
       more.1 ∙ ap (λ (es : List Entry). es ++ more.0) runs.2.journal ∙ append_assoc old.journal.entries (made ∷ []) more.0,
     )
 
-record Comes (old : CoreSeen) (front : List Stamped) (next : Stamped) (new : CoreSeen) : Type 0 where
+record Comes (old : CoreSeen) (prefix : List Stamped) (next : Stamped) (new : CoreSeen) : Type 0 where
   mid : CoreSeen
-  runs : Runs old front mid
+  runs : Runs old prefix mid
   made : Entry
   of_next : made.event ≡ next.event
   rest : List Entry
   grown : new.journal.entries ≡ mid.journal.entries ++ made ∷ rest
 
-comes : (old : CoreSeen) (front : List Stamped) (next : Stamped) (more : List Stamped) (new : CoreSeen) → Runs old (front ++ next ∷ more) new → Comes old front next new
+comes : (old : CoreSeen) (prefix : List Stamped) (next : Stamped) (more : List Stamped) (new : CoreSeen) → Runs old (prefix ++ next ∷ more) new → Comes old prefix next new
 comes old [] next more new runs =
     let grown : (rest : List Entry) × (new.journal.entries ≡ runs.0.journal.entries ++ rest) = grows runs.0 more new runs.3 in
     let made : Entry = made_of old runs.0 next runs.1 in
@@ -82,31 +82,31 @@ comes old [] next more new runs =
       rest = grown.0;
       grown = grown.1 ∙ ap (λ (es : List Entry). es ++ grown.0) runs.2.journal ∙ append_assoc old.journal.entries (made ∷ []) grown.0;
     }
-comes old (s ∷ front) next more new runs =
-    let behind : Comes runs.0 front next new = comes runs.0 front next more new runs.3 in
-    record { mid = behind.mid; runs = (runs.0, runs.1, runs.2, behind.runs); made = behind.made; of_next = behind.of_next; rest = behind.rest; grown = behind.grown }
+comes old (s ∷ prefix) next more new runs =
+    let afterwards : Comes runs.0 prefix next new = comes runs.0 prefix next more new runs.3 in
+    record { mid = afterwards.mid; runs = (runs.0, runs.1, runs.2, afterwards.runs); made = afterwards.made; of_next = afterwards.of_next; rest = afterwards.rest; grown = afterwards.grown }
 
-posted_front : (front more : List Stamped) → ArePosted (front ++ more) → ArePosted front
-posted_front [] more are = tt
-posted_front (s ∷ front) more are = (are.0, posted_front front more are.1)
+posted_prefix : (prefix more : List Stamped) → EventsArePosted (prefix ++ more) → EventsArePosted prefix
+posted_prefix [] more are = tt
+posted_prefix (s ∷ prefix) more are = (are.0, posted_prefix prefix more are.1)
 
-had_front : (before entries : List Entry) (e : Entry) (rest : List Entry) → HadRoomBehind before (entries ++ e ∷ rest) → HadRoomBehind before entries × HasRoom (before ++ entries) e.event
-had_front before [] e rest had = (tt, subst (λ (es : List Entry). HasRoom es e.event) (sym (append-nil before)) had.0)
-had_front before (x ∷ entries) e rest had =
-    let behind : HadRoomBehind (before ++ x ∷ []) entries × HasRoom ((before ++ x ∷ []) ++ entries) e.event = had_front (before ++ x ∷ []) entries e rest had.1 in
-    ((had.0, behind.0), subst (λ (es : List Entry). HasRoom es e.event) (append_assoc before (x ∷ []) entries) behind.1)
+had_prefix : (before entries : List Entry) (e : Entry) (rest : List Entry) → HadRoomAfter before (entries ++ e ∷ rest) → HadRoomAfter before entries × HasRoom (before ++ entries) e.event
+had_prefix before [] e rest had = (tt, subst (λ (es : List Entry). HasRoom es e.event) (sym (append-nil before)) had.0)
+had_prefix before (x ∷ entries) e rest had =
+    let afterwards : HadRoomAfter (before ++ x ∷ []) entries × HasRoom ((before ++ x ∷ []) ++ entries) e.event = had_prefix (before ++ x ∷ []) entries e rest had.1 in
+    ((had.0, afterwards.0), subst (λ (es : List Entry). HasRoom es e.event) (append_assoc before (x ∷ []) entries) afterwards.1)
 
--- the session of a front of the events of another one had room for the next of them
-front_had_room : ChannelsKeepThePromise → (authority : List ℕ) (policies : List PolicySeen) (front : List Stamped) (next : Stamped) (more : List Stamped) (journal whole : Journal) (ledger of_whole : Ledger)
-    → IsSession authority policies (front ++ next ∷ more) whole of_whole → KeepsThePromise authority policies front journal ledger → HasRoom journal.entries next.event
-front_had_room keep authority policies front next more journal whole ledger of_whole session promise =
-    let run : HasRunBy authority policies (front ++ next ∷ more) session.core = session.run in
-    let up : Comes run.new front next session.core = comes run.new front next more session.core run.runs in
-    let had : HadRoomBehind [] up.mid.journal.entries × HasRoom ([] ++ up.mid.journal.entries) up.made.event =
-    had_front [] up.mid.journal.entries up.made up.rest (subst HadRoom up.grown run.room) in
-    let mid : HasRunBy authority policies front up.mid =
-    record { alloc = run.alloc; own = run.own; new = run.new; alike = run.alike; ready = run.ready; is_new = run.is_new; runs = up.runs; posted = posted_front front (next ∷ more) run.posted; room = had.0 } in
-    let kept : KeepsThePromise authority policies front up.mid.journal (ledger_in up.mid) = keep authority policies front up.mid mid in
+-- the session of a prefix of the events of another one had room for the next of them
+prefix_had_room : ChannelsKeepThePromise → (authority : List ℕ) (policies : List PolicySeen) (prefix : List Stamped) (next : Stamped) (more : List Stamped) (journal whole : Journal) (ledger of_whole : Ledger)
+    → IsSession authority policies (prefix ++ next ∷ more) whole of_whole → KeepsThePromise authority policies prefix journal ledger → HasRoom journal.entries next.event
+prefix_had_room keep authority policies prefix next more journal whole ledger of_whole session promise =
+    let run : HasRunBy authority policies (prefix ++ next ∷ more) session.core = session.run in
+    let up : Comes run.new prefix next session.core = comes run.new prefix next more session.core run.runs in
+    let had : HadRoomAfter [] up.mid.journal.entries × HasRoom ([] ++ up.mid.journal.entries) up.made.event =
+    had_prefix [] up.mid.journal.entries up.made up.rest (subst HadRoom up.grown run.room) in
+    let mid : HasRunBy authority policies prefix up.mid =
+    record { alloc = run.alloc; own = run.own; new = run.new; alike = run.alike; ready = run.ready; is_new = run.is_new; runs = up.runs; posted = posted_prefix prefix (next ∷ more) run.posted; room = had.0 } in
+    let kept : KeepsThePromise authority policies prefix up.mid.journal (ledger_in up.mid) = keep authority policies prefix up.mid mid in
     subst (λ (es : List Entry). HasRoom es next.event) (promise.only up.mid.journal.entries (ledger_in up.mid) kept.consistent kept.posted).0
     (subst (λ (e : Event). HasRoom up.mid.journal.entries e) up.of_next had.1)
 
@@ -131,27 +131,27 @@ one_report policies target value events text other p q =
 
 one_full : ChannelsKeepThePromise → (policies : List PolicySeen) (target : List ℕ) (value : Target) (events : List Stamped) (text other : List ℕ)
     → IsFullReport policies target value events text → IsFullReport policies target value events other → text ≡ other
-one_full keep policies target value events text other p q = by (in_order p.front q.front p.behind q.behind p.next q.next (sym p.parts ∙ q.parts))
+one_full keep policies target value events text other p q = by (in_order p.prefix q.prefix p.afterwards q.afterwards p.next q.next (sym p.parts ∙ q.parts))
   where
-    by : (p.front ≡ q.front) ⊎ (((more : List Stamped) × (q.front ≡ p.front ++ p.next ∷ more)) ⊎ ((more : List Stamped) × (p.front ≡ q.front ++ q.next ∷ more))) → text ≡ other
+    by : (p.prefix ≡ q.prefix) ⊎ (((more : List Stamped) × (q.prefix ≡ p.prefix ++ p.next ∷ more)) ⊎ ((more : List Stamped) × (p.prefix ≡ q.prefix ++ q.next ∷ more))) → text ≡ other
     by (inl same) =
-        let promise : KeepsThePromise (authority_of value) policies p.front q.journal q.ledger =
+        let promise : KeepsThePromise (authority_of value) policies p.prefix q.journal q.ledger =
         subst (λ (es : List Stamped). KeepsThePromise (authority_of value) policies es q.journal q.ledger) (sym same) q.promise in
         p.text_is
         ∙ ap (λ (t : List ℕ). t ++ session_full_text)
         (reports_same target p.journal q.journal p.ledger q.ledger (p.promise.only q.journal.entries q.ledger promise.consistent promise.posted))
         ∙ sym q.text_is
     by (inr (inl (more, longer))) =
-        absurd (front_had_room keep (authority_of value) policies p.front p.next more p.journal q.journal p.ledger q.ledger
+        absurd (prefix_had_room keep (authority_of value) policies p.prefix p.next more p.journal q.journal p.ledger q.ledger
         (subst (λ (es : List Stamped). IsSession (authority_of value) policies es q.journal q.ledger) longer q.session) p.promise p.full)
     by (inr (inr (more, longer))) =
-        absurd (front_had_room keep (authority_of value) policies q.front q.next more q.journal p.journal q.ledger p.ledger
+        absurd (prefix_had_room keep (authority_of value) policies q.prefix q.next more q.journal p.journal q.ledger p.ledger
         (subst (λ (es : List Stamped). IsSession (authority_of value) policies es p.journal p.ledger) longer p.session) q.promise q.full)
 
 not_both : ChannelsKeepThePromise → (policies : List PolicySeen) (target : List ℕ) (value : Target) (events : List Stamped) (text other : List ℕ)
     → IsReport policies target value events text → IsFullReport policies target value events other → ⊥
 not_both keep policies target value events text other p q =
-    front_had_room keep (authority_of value) policies q.front q.next q.behind q.journal p.journal q.ledger p.ledger
+    prefix_had_room keep (authority_of value) policies q.prefix q.next q.afterwards q.journal p.journal q.ledger p.ledger
     (subst (λ (es : List Stamped). IsSession (authority_of value) policies es p.journal p.ledger) q.parts p.session) q.promise q.full
 
 -- ---- of one input
@@ -227,11 +227,11 @@ done_or_full keep policies input left left' text other this that =
 
 -- ---- a bad line
 
-bad_of : (input text : List ℕ) (left : Option (List ℕ)) (tells : TellsBadLine (Some input) left text) → IsFirstBad form.Script input tells.line tells.cause
-bad_of input text left tells = found_one (λ x. IsFirstBad form.Script x tells.line tells.cause) input tells.bad.input left tells.bad.read tells.bad.bad
+bad_of : (input text : List ℕ) (left : Option (List ℕ)) (reports_that : ReportsBadLine (Some input) left text) → IsFirstBad form.Script input reports_that.line reports_that.cause
+bad_of input text left reports_that = found_one (λ x. IsFirstBad form.Script x reports_that.line reports_that.cause) input reports_that.bad.input left reports_that.bad.read reports_that.bad.bad
 
 pub done_or_bad : (policies : List PolicySeen) (input : List ℕ) (left left' : Option (List ℕ)) (text other : List ℕ)
-    → IsDone policies (Some input) left text → TellsBadLine (Some input) left' other → ⊥
+    → IsDone policies (Some input) left text → ReportsBadLine (Some input) left' other → ⊥
 done_or_bad policies input left left' text other this that = by (whole_of policies input text left this)
   where
     by : ((input ≡ []) × (text ≡ [])) ⊎ Reports policies input text → ⊥
@@ -240,7 +240,7 @@ done_or_bad policies input left left' text other this that = by (whole_of polici
     by (inr p) = no_bad form.Script input p.target p.value p.events that.line that.cause p.script (bad_of input other left' that)
 
 pub full_or_bad : (policies : List PolicySeen) (input : List ℕ) (left left' : Option (List ℕ)) (text other : List ℕ)
-    → EndsFull policies (Some input) left text → TellsBadLine (Some input) left' other → ⊥
+    → EndsFull policies (Some input) left text → ReportsBadLine (Some input) left' other → ⊥
 full_or_bad policies input left left' text other this that =
     let p : Fills policies input text = full_of policies input text left this in
     no_bad form.Script input p.target p.value p.events that.line that.cause p.script (bad_of input other left' that)

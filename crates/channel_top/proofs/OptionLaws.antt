@@ -57,13 +57,13 @@ option_outside {E} gives f id low high v r reads is value outside n option =
 
 -- what is within the bounds of a number that was read
 pub within_some : {E : Type 0} (gives : List ℕ → Result ℕ E → Type 0) (f : Found) (id : List ℕ) (low high v : ℕ) (r w : Option ℕ) → IsReading gives → r ≡ Some v → (one_text f id ≡ None → r ≡ None) → ((t : List ℕ) → one_text f id ≡ Some t → ReadsOne gives t r) → IfSome w (λ n. (n ≡ v) × (low ≤ n) × (n ≤ high)) → IfSome w (IsOption id low high (rows_of f))
-within_some gives f id low high v r None reads is none value told = tt
-within_some gives f id low high v r (Some n) reads is none value told =
-    subst (IsOption id low high (rows_of f)) (sym told.0) (option_some gives f id low high v r reads is none value (omega (arith, told.0, told.1)) (omega (arith, told.0, told.2)))
+within_some gives f id low high v r None reads is none value reported = tt
+within_some gives f id low high v r (Some n) reads is none value reported =
+    subst (IsOption id low high (rows_of f)) (sym reported.0) (option_some gives f id low high v r reads is none value (omega (arith, reported.0, reported.1)) (omega (arith, reported.0, reported.2)))
 
 pub within_none : {E : Type 0} (gives : List ℕ → Result ℕ E → Type 0) (f : Found) (id : List ℕ) (low high v : ℕ) (r w : Option ℕ) → IsReading gives → r ≡ Some v → ((t : List ℕ) → one_text f id ≡ Some t → ReadsOne gives t r) → IfNone w (low ≤ v → v ≤ high → ⊥) → IfNone w ((n : ℕ) → IsOption id low high (rows_of f) n → ⊥)
-within_none gives f id low high v r (Some n) reads is value told = tt
-within_none gives f id low high v r None reads is value told = option_outside gives f id low high v r reads is value told
+within_none gives f id low high v r (Some n) reads is value reported = tt
+within_none gives f id low high v r None reads is value reported = option_outside gives f id low high v r reads is value reported
 
 -- an option that is not there
 pub no_port : (rows : List Row) → ((n : ℕ) → IsOption (codes "port") 0 65535 rows n → ⊥) → (m : Mode) → IsServeBy rows m → ⊥

@@ -18,10 +18,10 @@ use Rattle.channel_actions.specs.Laws.{EveryRunIsASession, is_room}
 use Rattle.channel_core.specs.Core.{CoreSeen, ledger_in}
 use Rattle.channel_core.specs.Sizes as core
 use Rattle.channel_core.specs.Sizes.{kept_bytes}
-use Rattle.journal_room.specs.Rooms.{HadRoomBehind, HasRoom}
+use Rattle.journal_room.specs.Rooms.{HadRoomAfter, HasRoom}
 use Rattle.journal_room.specs.Runs.{HasRunBy, looks_of}
 use Rattle.lb_policy.specs.Table.{PolicySeen}
-use Rattle.net_actions.specs.Sees.{AreKinds}
+use Rattle.net_actions.specs.Sees.{KindsAgree}
 use Rattle.session_actions.specs.Entries.{entry_bytes, journal_bytes}
 use Rattle.session_actions.specs.Laws.{PostsDecideSession}
 use Rattle.session_actions.specs.declared.seen.Setup.{Setup}
@@ -57,13 +57,13 @@ room_at entries e room = by (cases_lt (length entries) 1048576) (cases_lt 268435
         and_from (nat_lt (length entries) 1048576) (nat_le (journal_bytes entries + event_bytes e) 268435456)
         (lt-ltb (length entries) 1048576 few) (le-leb (journal_bytes entries + event_bytes e) 268435456 (omega (arith, small, same)))
 
-room_behind : (before entries : List Entry) → HadRoomBehind before entries → runs.HadRoom before entries
-room_behind before [] had = tt
-room_behind before (e ∷ entries) had = (room_at before e.event had.0, room_behind (before ++ e ∷ []) entries had.1)
+room_after : (before entries : List Entry) → HadRoomAfter before entries → runs.HadRoom before entries
+room_after before [] had = tt
+room_after before (e ∷ entries) had = (room_at before e.event had.0, room_after (before ++ e ∷ []) entries had.1)
 
 -- ---- policies that look alike
 
-kinds_of_looks : (own policies : List PolicySeen) → looks_of own ≡ looks_of policies → AreKinds (map (λ (p : PolicySeen). record { kind = p.kind; width = p.width }) policies) own
+kinds_of_looks : (own policies : List PolicySeen) → looks_of own ≡ looks_of policies → KindsAgree (map (λ (p : PolicySeen). record { kind = p.kind; width = p.width }) policies) own
 kinds_of_looks [] [] same = tt
 kinds_of_looks [] (p ∷ policies) same = absurd (cc)
 kinds_of_looks (q ∷ own) [] same = absurd (cc)
@@ -79,7 +79,7 @@ channels_keep_the_promise every decide authority policies events core run =
     let setup : Setup = setup_of authority policies in
     let is : runs.IsSession setup events core =
     every setup run.own run.alloc events run.new core (kinds_of_looks run.own policies run.alike) run.ready run.is_new run.posted run.runs
-    (room_behind [] core.journal.entries run.room) in
+    (room_after [] core.journal.entries run.room) in
     record {
       consistent = is.consistent;
       posted = is.posted;

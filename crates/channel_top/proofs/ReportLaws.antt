@@ -28,14 +28,14 @@ report_whole keep policies target value core events run = record {
 pub report_full : ChannelsKeepThePromise → (policies : List PolicySeen) (target : List ℕ) (value : Target) (core : CoreSeen) (events : List Stamped)
     → HasFilled (authority_of value) policies events core → IsFullReport policies target value events (report_of target core.journal (ledger_in core) ++ session_full_text)
 report_full keep policies target value core events filled = record {
-  front = filled.front;
+  prefix = filled.prefix;
   next = filled.next;
-  behind = filled.behind;
+  afterwards = filled.afterwards;
   parts = filled.parts;
   journal = core.journal;
   ledger = ledger_in core;
-  session = session_of (authority_of value) policies core filled.front core.journal (ledger_in core) filled.run refl refl;
-  promise = keep (authority_of value) policies filled.front core filled.run;
+  session = session_of (authority_of value) policies core filled.prefix core.journal (ledger_in core) filled.run refl refl;
+  promise = keep (authority_of value) policies filled.prefix core filled.run;
   full = filled.full;
   text_is = refl;
 }

@@ -15,10 +15,10 @@ use Rattle.grpc_base.specs.declared.event.Stamped.{Stamped}
 use Rattle.lb_policy.specs.Table.{PolicySeen}
 use Rattle.resolver_core.specs.AnyTargets.{authority_of}
 use Rattle.channel_core.specs.Sizes.{given, journal_bytes, kept_bytes}
-use Rattle.journal_room.specs.Rooms.{AreWithinRoom, FitsBy}
+use Rattle.journal_room.specs.Rooms.{EntriesAreWithinRoom, FitsBy}
 use Rattle.journal_room.proofs.DrainLaws.{within_always}
 use Rattle.session_text.specs.Sessions.{AreEntriesOf}
-use Rattle.channel_top.specs.Complete.{AreFew, HaveRoom, IsRunnable, IsShortScript}
+use Rattle.channel_top.specs.Complete.{EventsFit, HaveRoom, IsRunnable, IsShortScript}
 
 -- ---- an entry has no more bytes than its event can add
 
@@ -38,7 +38,7 @@ kept_in e = kept_bytes e.event e.reply
 abbrev most_of : Stamped → ℕ
 most_of s = event_bytes s.event
 
-kept_by : (entries : List Entry) (events : List Stamped) → AreWithinRoom entries → map (λ (e : Entry). e.event) entries ≡ map (λ (s : Stamped). s.event) events → journal_bytes entries ≤ sum_by most_of events
+kept_by : (entries : List Entry) (events : List Stamped) → EntriesAreWithinRoom entries → map (λ (e : Entry). e.event) entries ≡ map (λ (s : Stamped). s.event) events → journal_bytes entries ≤ sum_by most_of events
 kept_by [] [] fits same = omega arith
 kept_by [] (s ∷ events) fits same = omega arith
 kept_by (e ∷ entries) [] fits same = absurd (cc)
@@ -52,24 +52,24 @@ kept_by (e ∷ entries) (s ∷ events) fits same =
     let most : sum_by most_of (s ∷ events) ≡ most_of s + sum_by most_of events = sum_by-cons most_of s events in
     omega (arith, least, first, more, kept, most)
 
--- ---- the front of few events leaves room for the next
+-- ---- the prefix of few events leaves room for the next
 
 has_room : (entries bytes : ℕ) (e : Event) → entries < 1048576 → bytes + event_bytes e ≤ 268435456 → HasNoRoom entries bytes e → ⊥
 has_room entries bytes e few small (inl many) = omega (arith, few, many)
 has_room entries bytes e few small (inr much) = omega (arith, small, much)
 
-pub few_have_room : (policies : List PolicySeen) (authority : List ℕ) (events : List Stamped) → AreFew events → HaveRoom policies authority events
-few_have_room policies authority events few front next behind journal ledger parts session =
-    let within : AreWithinRoom journal.entries =
-    subst (λ (j : Journal). AreWithinRoom j.entries) (sym session.journal_is)
-    (within_always authority session.run.new session.core front (session.run.alloc, session.run.own, session.run.is_new) session.run.runs) in
-    let told : AreEntriesOf front journal = session.entries in
-    let count : length journal.entries ≡ length front =
-    sym (length-map journal.entries (λ (e : Entry). e.event)) ∙ ap length told.events_are ∙ length-map front (λ (s : Stamped). s.event) in
-    let kept : journal_bytes journal.entries ≤ sum_by most_of front = kept_by journal.entries front within told.events_are in
-    let all : length events ≡ length front + length (next ∷ behind) = ap length parts ∙ length-append front (next ∷ behind) in
-    let sums : sum_by most_of events ≡ sum_by most_of front + sum_by most_of (next ∷ behind) = ap (sum_by most_of) parts ∙ sum_by-append most_of front (next ∷ behind) in
-    let last : sum_by most_of (next ∷ behind) ≡ most_of next + sum_by most_of behind = sum_by-cons most_of next behind in
+pub few_have_room : (policies : List PolicySeen) (authority : List ℕ) (events : List Stamped) → EventsFit events → HaveRoom policies authority events
+few_have_room policies authority events few prefix next afterwards journal ledger parts session =
+    let within : EntriesAreWithinRoom journal.entries =
+    subst (λ (j : Journal). EntriesAreWithinRoom j.entries) (sym session.journal_is)
+    (within_always authority session.run.new session.core prefix (session.run.alloc, session.run.own, session.run.is_new) session.run.runs) in
+    let reported : AreEntriesOf prefix journal = session.entries in
+    let count : length journal.entries ≡ length prefix =
+    sym (length-map journal.entries (λ (e : Entry). e.event)) ∙ ap length reported.events_are ∙ length-map prefix (λ (s : Stamped). s.event) in
+    let kept : journal_bytes journal.entries ≤ sum_by most_of prefix = kept_by journal.entries prefix within reported.events_are in
+    let all : length events ≡ length prefix + length (next ∷ afterwards) = ap length parts ∙ length-append prefix (next ∷ afterwards) in
+    let sums : sum_by most_of events ≡ sum_by most_of prefix + sum_by most_of (next ∷ afterwards) = ap (sum_by most_of) parts ∙ sum_by-append most_of prefix (next ∷ afterwards) in
+    let last : sum_by most_of (next ∷ afterwards) ≡ most_of next + sum_by most_of afterwards = sum_by-cons most_of next afterwards in
     let number : length events ≤ 1048576 = few.0 in
     let bytes : sum_by most_of events ≤ 268435456 = few.1 in
     has_room (length journal.entries) (journal_bytes journal.entries) next.event (omega (arith, count, all, number)) (omega (arith, kept, sums, last, bytes))

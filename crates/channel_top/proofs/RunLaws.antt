@@ -15,32 +15,32 @@ use Rattle.channel_top.specs.Runs.{FillsUp, HasRun, RunsTo, StepsTo}
 
 -- the events so far, and those that are left
 pub record IsRunning (old : CoreSeen) (all : List Stamped) (core : CoreSeen) (left : List Stamped) : Type 0 where
-  pub front : List Stamped
-  pub parts : all ≡ front ++ left
-  pub goes_on : GoesOn old front core
+  pub prefix : List Stamped
+  pub parts : all ≡ prefix ++ left
+  pub goes_on : GoesOn old prefix core
 
 pub IsRunning-new : (old : CoreSeen) (all left : List Stamped) → left ≡ all → IsRunning old all old left
-IsRunning-new old all left same = record { front = []; parts = sym same; goes_on = goes_on_none old old refl }
+IsRunning-new old all left same = record { prefix = []; parts = sym same; goes_on = goes_on_none old old refl }
 
 pub IsRunning-step : (old : CoreSeen) (all : List Stamped) (core new : CoreSeen) (left rest : List Stamped) (s : Stamped) → IsRunning old all core left → left ≡ s ∷ rest → StepsTo ran.Whole core s new → IsRunning old all new rest
 IsRunning-step old all core new left rest s running e (room, posted, reply, step) = record {
-  front = running.front ++ s ∷ [];
-  parts = running.parts ∙ ap (λ (xs : List Stamped). running.front ++ xs) e ∙ sym (append_assoc running.front (s ∷ []) rest);
-  goes_on = goes_on_join old core new running.front (s ∷ []) running.goes_on (goes_on_step core new s reply step posted room);
+  prefix = running.prefix ++ s ∷ [];
+  parts = running.parts ∙ ap (λ (xs : List Stamped). running.prefix ++ xs) e ∙ sym (append_assoc running.prefix (s ∷ []) rest);
+  goes_on = goes_on_join old core new running.prefix (s ∷ []) running.goes_on (goes_on_step core new s reply step posted room);
 }
 
 pub IsRunning-done : (old : CoreSeen) (all : List Stamped) (core : CoreSeen) (left : List Stamped) → IsRunning old all core left → left ≡ [] → GoesOn old all core
 IsRunning-done old all core left running none =
-    subst (λ (xs : List Stamped). GoesOn old xs core) (sym (running.parts ∙ ap (λ (xs : List Stamped). running.front ++ xs) none ∙ append-nil running.front)) running.goes_on
+    subst (λ (xs : List Stamped). GoesOn old xs core) (sym (running.parts ∙ ap (λ (xs : List Stamped). running.prefix ++ xs) none ∙ append-nil running.prefix)) running.goes_on
 
 pub IsRunning-full : (old : CoreSeen) (all : List Stamped) (core new : CoreSeen) (left rest : List Stamped) (s : Stamped) → IsRunning old all core left → left ≡ s ∷ rest → StepsTo ran.Full core s new → FillsUp old all new
 IsRunning-full old all core new left rest s running e full =
     subst (λ (c : CoreSeen). FillsUp old all c) (sym full.1)
     (record {
-      front = running.front;
+      prefix = running.prefix;
       next = s;
-      behind = rest;
-      parts = running.parts ∙ ap (λ (xs : List Stamped). running.front ++ xs) e;
+      afterwards = rest;
+      parts = running.parts ∙ ap (λ (xs : List Stamped). running.prefix ++ xs) e;
       goes_on = running.goes_on;
       full = full.0;
     })
@@ -54,9 +54,9 @@ has_run r alloc authority text policies events new core same ready is_new runs =
     by : (q : Ran) → HasRunBy authority policies [] new → RunsTo q new events core → HasRun q authority policies events core
     by ran.Whole begun goes_on = goes_on authority policies [] begun
     by ran.Full begun fills = record {
-      front = fills.front;
+      prefix = fills.prefix;
       next = fills.next;
-      behind = fills.behind;
+      afterwards = fills.afterwards;
       parts = fills.parts;
       run = fills.goes_on authority policies [] begun;
       full = fills.full;

@@ -14,7 +14,7 @@ use Rattle.service_config.specs.Text.{config_text, fault_text}
 use Rattle.service_config.specs.declared.config.Config.{Config}
 use Rattle.session_text.specs.Sessions.{line_fault_text, session_full_text}
 use Rattle.channel_top.specs.Migrate.{Migrates}
-use Rattle.channel_top.specs.Modes.{FillsIn, IsDoneIn, RefusesIn, TellsFaultIn}
+use Rattle.channel_top.specs.Modes.{FillsIn, IsDoneIn, RefusesIn, ReportsFaultIn}
 use Rattle.channel_top.specs.Serve.{served_text}
 use Rattle.channel_top.specs.Top.{Reports}
 use Rattle.channel_top.specs.Words.{words_fault_text}
@@ -90,18 +90,18 @@ words_or_full text refused full =
 -- ---- status by status
 
 -- done, and a fault of the input
-pub done_or_told : (policies others : List PolicySeen) (held : List (Option (List (List ℕ)))) (m : Mode) (left left' more more' : Option (List ℕ)) (text : List ℕ) → IsDoneIn policies held m left left' text → TellsFaultIn others m more more' text → ⊥
-done_or_told policies others held mode.Replay left left' more more' text done tells = replay_first policies done.input text done.done (ap first tells.text_is ∙ line_first tells.line tells.cause)
-done_or_told policies others held mode.Config left left' more more' text done tells = begin_apart 112 102 text (config_text done.config) (fault_text tells.fault) done.text_is tells.text_is (config_first done.config) (fault_first tells.fault) (λ e. omega (arith, e))
-done_or_told policies others held mode.Migrate left left' more more' text done tells = migrate_first done.input text done.done (ap first tells.text_is ∙ line_first tells.line tells.cause)
-done_or_told policies others held (mode.Serve port links) left left' more more' text done tells = begin_apart 115 102 text (served_text links) (line_fault_text tells.line tells.cause) done.text_is tells.text_is (served_first links) (line_first tells.line tells.cause) (λ e. omega (arith, e))
-done_or_told policies others held (mode.Load load) left left' more more' text done tells = tells
-done_or_told policies others held (mode.Live settings) left left' more more' text done tells =
-    begin_apart 99 102 text (report_of done.lived.script.target done.lived.report.journal done.lived.report.ledger) (line_fault_text tells.line tells.cause) done.lived.report.text_is tells.text_is
-    (report_first done.lived.script.target done.lived.report.journal done.lived.report.ledger) (line_first tells.line tells.cause) (λ e. omega (arith, e))
-done_or_told policies others held (mode.Relay settings) left left' more more' text done tells =
-    begin_apart 99 102 text (report_of done.relayed.script.target done.relayed.report.journal done.relayed.report.ledger) (line_fault_text tells.line tells.cause) done.relayed.report.text_is tells.text_is
-    (report_first done.relayed.script.target done.relayed.report.journal done.relayed.report.ledger) (line_first tells.line tells.cause) (λ e. omega (arith, e))
+pub done_or_reported : (policies others : List PolicySeen) (held : List (Option (List (List ℕ)))) (m : Mode) (left left' more more' : Option (List ℕ)) (text : List ℕ) → IsDoneIn policies held m left left' text → ReportsFaultIn others m more more' text → ⊥
+done_or_reported policies others held mode.Replay left left' more more' text done reports_that = replay_first policies done.input text done.done (ap first reports_that.text_is ∙ line_first reports_that.line reports_that.cause)
+done_or_reported policies others held mode.Config left left' more more' text done reports_that = begin_apart 112 102 text (config_text done.config) (fault_text reports_that.fault) done.text_is reports_that.text_is (config_first done.config) (fault_first reports_that.fault) (λ e. omega (arith, e))
+done_or_reported policies others held mode.Migrate left left' more more' text done reports_that = migrate_first done.input text done.done (ap first reports_that.text_is ∙ line_first reports_that.line reports_that.cause)
+done_or_reported policies others held (mode.Serve port links) left left' more more' text done reports_that = begin_apart 115 102 text (served_text links) (line_fault_text reports_that.line reports_that.cause) done.text_is reports_that.text_is (served_first links) (line_first reports_that.line reports_that.cause) (λ e. omega (arith, e))
+done_or_reported policies others held (mode.Load load) left left' more more' text done reports_that = reports_that
+done_or_reported policies others held (mode.Live settings) left left' more more' text done reports_that =
+    begin_apart 99 102 text (report_of done.lived.script.target done.lived.report.journal done.lived.report.ledger) (line_fault_text reports_that.line reports_that.cause) done.lived.report.text_is reports_that.text_is
+    (report_first done.lived.script.target done.lived.report.journal done.lived.report.ledger) (line_first reports_that.line reports_that.cause) (λ e. omega (arith, e))
+done_or_reported policies others held (mode.Relay settings) left left' more more' text done reports_that =
+    begin_apart 99 102 text (report_of done.relayed.script.target done.relayed.report.journal done.relayed.report.ledger) (line_fault_text reports_that.line reports_that.cause) done.relayed.report.text_is reports_that.text_is
+    (report_first done.relayed.script.target done.relayed.report.journal done.relayed.report.ledger) (line_first reports_that.line reports_that.cause) (λ e. omega (arith, e))
 
 -- done, and a full journal
 pub done_or_full : (policies others : List PolicySeen) (held held' : List (Option (List (List ℕ)))) (m : Mode) (left left' more more' : Option (List ℕ)) (text : List ℕ) → IsDoneIn policies held m left left' text → FillsIn others held' m more more' text → ⊥
@@ -128,20 +128,20 @@ done_or_refused policies others held (mode.Live settings) left left' more more' 
 done_or_refused policies others held (mode.Relay settings) left left' more more' text done refused = refused
 
 -- a full journal, and a fault of the input
-pub full_or_told : (policies others : List PolicySeen) (held : List (Option (List (List ℕ)))) (m : Mode) (left left' more more' : Option (List ℕ)) (text : List ℕ) → FillsIn policies held m left left' text → TellsFaultIn others m more more' text → ⊥
-full_or_told policies others held mode.Replay left left' more more' text fills tells =
-    begin_apart 99 102 text (report_of fills.target fills.report.journal fills.report.ledger ++ session_full_text) (line_fault_text tells.line tells.cause) fills.report.text_is tells.text_is
-    (full_first fills.target fills.report.journal fills.report.ledger) (line_first tells.line tells.cause) (λ e. omega (arith, e))
-full_or_told policies others held mode.Config left left' more more' text fills tells = fills
-full_or_told policies others held mode.Migrate left left' more more' text fills tells = fills
-full_or_told policies others held (mode.Serve port links) left left' more more' text fills tells = fills
-full_or_told policies others held (mode.Load load) left left' more more' text fills tells = tells
-full_or_told policies others held (mode.Live settings) left left' more more' text fills tells =
-    begin_apart 99 102 text (report_of fills.ends.script.target fills.ends.report.journal fills.ends.report.ledger ++ session_full_text) (line_fault_text tells.line tells.cause) fills.ends.report.text_is tells.text_is
-    (full_first fills.ends.script.target fills.ends.report.journal fills.ends.report.ledger) (line_first tells.line tells.cause) (λ e. omega (arith, e))
-full_or_told policies others held (mode.Relay settings) left left' more more' text fills tells =
-    begin_apart 99 102 text (report_of fills.ends.script.target fills.ends.report.journal fills.ends.report.ledger ++ session_full_text) (line_fault_text tells.line tells.cause) fills.ends.report.text_is tells.text_is
-    (full_first fills.ends.script.target fills.ends.report.journal fills.ends.report.ledger) (line_first tells.line tells.cause) (λ e. omega (arith, e))
+pub full_or_reported : (policies others : List PolicySeen) (held : List (Option (List (List ℕ)))) (m : Mode) (left left' more more' : Option (List ℕ)) (text : List ℕ) → FillsIn policies held m left left' text → ReportsFaultIn others m more more' text → ⊥
+full_or_reported policies others held mode.Replay left left' more more' text fills reports_that =
+    begin_apart 99 102 text (report_of fills.target fills.report.journal fills.report.ledger ++ session_full_text) (line_fault_text reports_that.line reports_that.cause) fills.report.text_is reports_that.text_is
+    (full_first fills.target fills.report.journal fills.report.ledger) (line_first reports_that.line reports_that.cause) (λ e. omega (arith, e))
+full_or_reported policies others held mode.Config left left' more more' text fills reports_that = fills
+full_or_reported policies others held mode.Migrate left left' more more' text fills reports_that = fills
+full_or_reported policies others held (mode.Serve port links) left left' more more' text fills reports_that = fills
+full_or_reported policies others held (mode.Load load) left left' more more' text fills reports_that = reports_that
+full_or_reported policies others held (mode.Live settings) left left' more more' text fills reports_that =
+    begin_apart 99 102 text (report_of fills.ends.script.target fills.ends.report.journal fills.ends.report.ledger ++ session_full_text) (line_fault_text reports_that.line reports_that.cause) fills.ends.report.text_is reports_that.text_is
+    (full_first fills.ends.script.target fills.ends.report.journal fills.ends.report.ledger) (line_first reports_that.line reports_that.cause) (λ e. omega (arith, e))
+full_or_reported policies others held (mode.Relay settings) left left' more more' text fills reports_that =
+    begin_apart 99 102 text (report_of fills.ends.script.target fills.ends.report.journal fills.ends.report.ledger ++ session_full_text) (line_fault_text reports_that.line reports_that.cause) fills.ends.report.text_is reports_that.text_is
+    (full_first fills.ends.script.target fills.ends.report.journal fills.ends.report.ledger) (line_first reports_that.line reports_that.cause) (λ e. omega (arith, e))
 
 -- a full journal or a fault of the input, and a policy that is not there
 pub full_or_refused : (policies others : List PolicySeen) (held : List (Option (List (List ℕ)))) (m : Mode) (left left' more more' : Option (List ℕ)) (text : List ℕ) → FillsIn policies held m left left' text → RefusesIn others m more more' text → ⊥
@@ -153,11 +153,11 @@ full_or_refused policies others held (mode.Load load) left left' more more' text
 full_or_refused policies others held (mode.Live settings) left left' more more' text fills refused = refused
 full_or_refused policies others held (mode.Relay settings) left left' more more' text fills refused = refused
 
-pub told_or_refused : (policies others : List PolicySeen) (m : Mode) (left left' more more' : Option (List ℕ)) (text : List ℕ) → TellsFaultIn policies m left left' text → RefusesIn others m more more' text → ⊥
-told_or_refused policies others mode.Replay left left' more more' text tells refused = refused
-told_or_refused policies others mode.Config left left' more more' text tells refused = refused
-told_or_refused policies others mode.Migrate left left' more more' text tells refused = refused
-told_or_refused policies others (mode.Serve port links) left left' more more' text tells refused = refused
-told_or_refused policies others (mode.Load load) left left' more more' text tells refused = tells
-told_or_refused policies others (mode.Live settings) left left' more more' text tells refused = refused
-told_or_refused policies others (mode.Relay settings) left left' more more' text tells refused = refused
+pub reported_or_refused : (policies others : List PolicySeen) (m : Mode) (left left' more more' : Option (List ℕ)) (text : List ℕ) → ReportsFaultIn policies m left left' text → RefusesIn others m more more' text → ⊥
+reported_or_refused policies others mode.Replay left left' more more' text reports_that refused = refused
+reported_or_refused policies others mode.Config left left' more more' text reports_that refused = refused
+reported_or_refused policies others mode.Migrate left left' more more' text reports_that refused = refused
+reported_or_refused policies others (mode.Serve port links) left left' more more' text reports_that refused = refused
+reported_or_refused policies others (mode.Load load) left left' more more' text reports_that refused = reports_that
+reported_or_refused policies others (mode.Live settings) left left' more more' text reports_that refused = refused
+reported_or_refused policies others (mode.Relay settings) left left' more more' text reports_that refused = refused

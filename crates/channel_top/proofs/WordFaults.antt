@@ -15,11 +15,11 @@ use Rattle.channel_top.specs.declared.words.Mode.{Mode}
 use Rattle.channel_top.specs.declared.words.Mode.TheVariants as mode
 use Rattle.channel_top.specs.declared.words.ModeName.{ModeName}
 use Rattle.channel_top.specs.declared.words.ModeName.TheVariants as name
-use Rattle.channel_top.specs.Words.{AreWrong, AskForText, AskPlainly, IsAlone, IsAskWord, IsLiveBy, IsLoadBy, IsRelayBy, IsServeBy, Runs, RunsPlain, app_for, bare_for, dashes, kinds_at, kinds_of, mode_named, mode_of, name_of, name_text}
+use Rattle.channel_top.specs.Words.{WordsAreWrong, AskForText, AskPlainly, IsAlone, IsAskWord, IsLiveBy, IsLoadBy, IsRelayBy, IsServeBy, Runs, RunsPlain, app_for, mode_command, dashes, kinds_at, kinds_of, mode_named, mode_of, name_of, name_text}
 
--- each command is of the form whose answers clap tells exactly
+-- each command is of the form whose answers clap reports exactly
 pub is_free : (m : Option ModeName) → is_simple_and_free (app_for m) ≡ true
-unfolding clap_on_literals app_for bare_for
+unfolding clap_on_literals app_for mode_command
 is_free (Some name.Replay) = refl
 is_free (Some name.Config) = refl
 is_free (Some name.Migrate) = refl
@@ -30,7 +30,7 @@ is_free (Some name.Relay) = refl
 is_free None = refl
 
 pub is_plain : (m : Option ModeName) → is_simple (app_for m) ≡ true
-unfolding clap_on_literals app_for bare_for
+unfolding clap_on_literals app_for mode_command
 is_plain (Some name.Replay) = refl
 is_plain (Some name.Config) = refl
 is_plain (Some name.Migrate) = refl
@@ -50,7 +50,7 @@ HasNone m = Unit {0}
 
 -- their words are taken
 taken_alone : (m : ModeName) → HasNone m → kinds_at (Some m) (name_text m ∷ []) ≡ []
-unfolding clap_on_literals app_for bare_for kinds_at
+unfolding clap_on_literals app_for mode_command kinds_at
 taken_alone name.Replay none = refl
 taken_alone name.Config none = refl
 taken_alone name.Migrate none = refl
@@ -60,7 +60,7 @@ taken_alone name.Live none = absurd none
 taken_alone name.Relay none = absurd none
 
 taken_dashes : (m : ModeName) → HasNone m → kinds_at (Some m) (name_text m ∷ dashes ∷ []) ≡ []
-unfolding clap_on_literals app_for bare_for kinds_at
+unfolding clap_on_literals app_for mode_command kinds_at
 taken_dashes name.Replay none = refl
 taken_dashes name.Config none = refl
 taken_dashes name.Migrate none = refl
@@ -99,46 +99,46 @@ abbrev pub IsText : Kinds → Type 0
 IsText kinds = (kinds ≡ kind.DisplayHelp ∷ []) ⊎ (kinds ≡ kind.DisplayVersion ∷ [])
 
 ask_alone : (word : List ℕ) → IsAskWord word → IsText (kinds_of (word ∷ []))
-unfolding clap_on_literals app_for bare_for kinds_at
+unfolding clap_on_literals app_for mode_command kinds_at
 ask_alone word (inl e) = inl (ap (λ (w : List ℕ). kinds_of (w ∷ [])) e ∙ refl)
 ask_alone word (inr (inl e)) = inl (ap (λ (w : List ℕ). kinds_of (w ∷ [])) e ∙ refl)
 ask_alone word (inr (inr (inl e))) = inr (ap (λ (w : List ℕ). kinds_of (w ∷ [])) e ∙ refl)
 ask_alone word (inr (inr (inr e))) = inr (ap (λ (w : List ℕ). kinds_of (w ∷ [])) e ∙ refl)
 
-ask_behind : (m : ModeName) (word : List ℕ) → IsAskWord word → IsText (kinds_of (name_text m ∷ word ∷ []))
-unfolding clap_on_literals app_for bare_for kinds_at
-ask_behind name.Replay word (inl e) = inl (ap (λ (w : List ℕ). kinds_of (codes "replay" ∷ w ∷ [])) e ∙ refl)
-ask_behind name.Replay word (inr (inl e)) = inl (ap (λ (w : List ℕ). kinds_of (codes "replay" ∷ w ∷ [])) e ∙ refl)
-ask_behind name.Replay word (inr (inr (inl e))) = inr (ap (λ (w : List ℕ). kinds_of (codes "replay" ∷ w ∷ [])) e ∙ refl)
-ask_behind name.Replay word (inr (inr (inr e))) = inr (ap (λ (w : List ℕ). kinds_of (codes "replay" ∷ w ∷ [])) e ∙ refl)
-ask_behind name.Config word (inl e) = inl (ap (λ (w : List ℕ). kinds_of (codes "config" ∷ w ∷ [])) e ∙ refl)
-ask_behind name.Config word (inr (inl e)) = inl (ap (λ (w : List ℕ). kinds_of (codes "config" ∷ w ∷ [])) e ∙ refl)
-ask_behind name.Config word (inr (inr (inl e))) = inr (ap (λ (w : List ℕ). kinds_of (codes "config" ∷ w ∷ [])) e ∙ refl)
-ask_behind name.Config word (inr (inr (inr e))) = inr (ap (λ (w : List ℕ). kinds_of (codes "config" ∷ w ∷ [])) e ∙ refl)
-ask_behind name.Migrate word (inl e) = inl (ap (λ (w : List ℕ). kinds_of (codes "migrate" ∷ w ∷ [])) e ∙ refl)
-ask_behind name.Migrate word (inr (inl e)) = inl (ap (λ (w : List ℕ). kinds_of (codes "migrate" ∷ w ∷ [])) e ∙ refl)
-ask_behind name.Migrate word (inr (inr (inl e))) = inr (ap (λ (w : List ℕ). kinds_of (codes "migrate" ∷ w ∷ [])) e ∙ refl)
-ask_behind name.Migrate word (inr (inr (inr e))) = inr (ap (λ (w : List ℕ). kinds_of (codes "migrate" ∷ w ∷ [])) e ∙ refl)
-ask_behind name.Serve word (inl e) = inl (ap (λ (w : List ℕ). kinds_of (codes "serve" ∷ w ∷ [])) e ∙ refl)
-ask_behind name.Serve word (inr (inl e)) = inl (ap (λ (w : List ℕ). kinds_of (codes "serve" ∷ w ∷ [])) e ∙ refl)
-ask_behind name.Serve word (inr (inr (inl e))) = inr (ap (λ (w : List ℕ). kinds_of (codes "serve" ∷ w ∷ [])) e ∙ refl)
-ask_behind name.Serve word (inr (inr (inr e))) = inr (ap (λ (w : List ℕ). kinds_of (codes "serve" ∷ w ∷ [])) e ∙ refl)
-ask_behind name.Load word (inl e) = inl (ap (λ (w : List ℕ). kinds_of (codes "load" ∷ w ∷ [])) e ∙ refl)
-ask_behind name.Load word (inr (inl e)) = inl (ap (λ (w : List ℕ). kinds_of (codes "load" ∷ w ∷ [])) e ∙ refl)
-ask_behind name.Load word (inr (inr (inl e))) = inr (ap (λ (w : List ℕ). kinds_of (codes "load" ∷ w ∷ [])) e ∙ refl)
-ask_behind name.Load word (inr (inr (inr e))) = inr (ap (λ (w : List ℕ). kinds_of (codes "load" ∷ w ∷ [])) e ∙ refl)
-ask_behind name.Live word (inl e) = inl (ap (λ (w : List ℕ). kinds_of (codes "live" ∷ w ∷ [])) e ∙ refl)
-ask_behind name.Live word (inr (inl e)) = inl (ap (λ (w : List ℕ). kinds_of (codes "live" ∷ w ∷ [])) e ∙ refl)
-ask_behind name.Live word (inr (inr (inl e))) = inr (ap (λ (w : List ℕ). kinds_of (codes "live" ∷ w ∷ [])) e ∙ refl)
-ask_behind name.Live word (inr (inr (inr e))) = inr (ap (λ (w : List ℕ). kinds_of (codes "live" ∷ w ∷ [])) e ∙ refl)
-ask_behind name.Relay word (inl e) = inl (ap (λ (w : List ℕ). kinds_of (codes "relay" ∷ w ∷ [])) e ∙ refl)
-ask_behind name.Relay word (inr (inl e)) = inl (ap (λ (w : List ℕ). kinds_of (codes "relay" ∷ w ∷ [])) e ∙ refl)
-ask_behind name.Relay word (inr (inr (inl e))) = inr (ap (λ (w : List ℕ). kinds_of (codes "relay" ∷ w ∷ [])) e ∙ refl)
-ask_behind name.Relay word (inr (inr (inr e))) = inr (ap (λ (w : List ℕ). kinds_of (codes "relay" ∷ w ∷ [])) e ∙ refl)
+ask_after : (m : ModeName) (word : List ℕ) → IsAskWord word → IsText (kinds_of (name_text m ∷ word ∷ []))
+unfolding clap_on_literals app_for mode_command kinds_at
+ask_after name.Replay word (inl e) = inl (ap (λ (w : List ℕ). kinds_of (codes "replay" ∷ w ∷ [])) e ∙ refl)
+ask_after name.Replay word (inr (inl e)) = inl (ap (λ (w : List ℕ). kinds_of (codes "replay" ∷ w ∷ [])) e ∙ refl)
+ask_after name.Replay word (inr (inr (inl e))) = inr (ap (λ (w : List ℕ). kinds_of (codes "replay" ∷ w ∷ [])) e ∙ refl)
+ask_after name.Replay word (inr (inr (inr e))) = inr (ap (λ (w : List ℕ). kinds_of (codes "replay" ∷ w ∷ [])) e ∙ refl)
+ask_after name.Config word (inl e) = inl (ap (λ (w : List ℕ). kinds_of (codes "config" ∷ w ∷ [])) e ∙ refl)
+ask_after name.Config word (inr (inl e)) = inl (ap (λ (w : List ℕ). kinds_of (codes "config" ∷ w ∷ [])) e ∙ refl)
+ask_after name.Config word (inr (inr (inl e))) = inr (ap (λ (w : List ℕ). kinds_of (codes "config" ∷ w ∷ [])) e ∙ refl)
+ask_after name.Config word (inr (inr (inr e))) = inr (ap (λ (w : List ℕ). kinds_of (codes "config" ∷ w ∷ [])) e ∙ refl)
+ask_after name.Migrate word (inl e) = inl (ap (λ (w : List ℕ). kinds_of (codes "migrate" ∷ w ∷ [])) e ∙ refl)
+ask_after name.Migrate word (inr (inl e)) = inl (ap (λ (w : List ℕ). kinds_of (codes "migrate" ∷ w ∷ [])) e ∙ refl)
+ask_after name.Migrate word (inr (inr (inl e))) = inr (ap (λ (w : List ℕ). kinds_of (codes "migrate" ∷ w ∷ [])) e ∙ refl)
+ask_after name.Migrate word (inr (inr (inr e))) = inr (ap (λ (w : List ℕ). kinds_of (codes "migrate" ∷ w ∷ [])) e ∙ refl)
+ask_after name.Serve word (inl e) = inl (ap (λ (w : List ℕ). kinds_of (codes "serve" ∷ w ∷ [])) e ∙ refl)
+ask_after name.Serve word (inr (inl e)) = inl (ap (λ (w : List ℕ). kinds_of (codes "serve" ∷ w ∷ [])) e ∙ refl)
+ask_after name.Serve word (inr (inr (inl e))) = inr (ap (λ (w : List ℕ). kinds_of (codes "serve" ∷ w ∷ [])) e ∙ refl)
+ask_after name.Serve word (inr (inr (inr e))) = inr (ap (λ (w : List ℕ). kinds_of (codes "serve" ∷ w ∷ [])) e ∙ refl)
+ask_after name.Load word (inl e) = inl (ap (λ (w : List ℕ). kinds_of (codes "load" ∷ w ∷ [])) e ∙ refl)
+ask_after name.Load word (inr (inl e)) = inl (ap (λ (w : List ℕ). kinds_of (codes "load" ∷ w ∷ [])) e ∙ refl)
+ask_after name.Load word (inr (inr (inl e))) = inr (ap (λ (w : List ℕ). kinds_of (codes "load" ∷ w ∷ [])) e ∙ refl)
+ask_after name.Load word (inr (inr (inr e))) = inr (ap (λ (w : List ℕ). kinds_of (codes "load" ∷ w ∷ [])) e ∙ refl)
+ask_after name.Live word (inl e) = inl (ap (λ (w : List ℕ). kinds_of (codes "live" ∷ w ∷ [])) e ∙ refl)
+ask_after name.Live word (inr (inl e)) = inl (ap (λ (w : List ℕ). kinds_of (codes "live" ∷ w ∷ [])) e ∙ refl)
+ask_after name.Live word (inr (inr (inl e))) = inr (ap (λ (w : List ℕ). kinds_of (codes "live" ∷ w ∷ [])) e ∙ refl)
+ask_after name.Live word (inr (inr (inr e))) = inr (ap (λ (w : List ℕ). kinds_of (codes "live" ∷ w ∷ [])) e ∙ refl)
+ask_after name.Relay word (inl e) = inl (ap (λ (w : List ℕ). kinds_of (codes "relay" ∷ w ∷ [])) e ∙ refl)
+ask_after name.Relay word (inr (inl e)) = inl (ap (λ (w : List ℕ). kinds_of (codes "relay" ∷ w ∷ [])) e ∙ refl)
+ask_after name.Relay word (inr (inr (inl e))) = inr (ap (λ (w : List ℕ). kinds_of (codes "relay" ∷ w ∷ [])) e ∙ refl)
+ask_after name.Relay word (inr (inr (inr e))) = inr (ap (λ (w : List ℕ). kinds_of (codes "relay" ∷ w ∷ [])) e ∙ refl)
 
 by_place : (words : List (List ℕ)) (word : List ℕ) → IsAskWord word → (words ≡ word ∷ []) ⊎ ((m : ModeName) × (words ≡ name_text m ∷ word ∷ [])) → IsText (kinds_of words)
 by_place words word is (inl e) = subst (λ (ws : List (List ℕ)). IsText (kinds_of ws)) (sym e) (ask_alone word is)
-by_place words word is (inr p) = subst (λ (ws : List (List ℕ)). IsText (kinds_of ws)) (sym p.1) (ask_behind p.0 word is)
+by_place words word is (inr p) = subst (λ (ws : List (List ℕ)). IsText (kinds_of ws)) (sym p.1) (ask_after p.0 word is)
 
 pub plain_are_text : (words : List (List ℕ)) → AskPlainly words → IsText (kinds_of words)
 plain_are_text words p = by_place words p.0 p.1 p.2
@@ -149,7 +149,7 @@ no_text kinds none (inl e) = (cc)
 no_text kinds none (inr e) = (cc)
 
 -- words that clap takes, which run no mode
-pub wrong_of_taken : (words : List (List ℕ)) → kinds_of words ≡ [] → ((m : Mode) → Runs m words → ⊥) → AreWrong words
+pub wrong_of_taken : (words : List (List ℕ)) → kinds_of words ≡ [] → ((m : Mode) → Runs m words → ⊥) → WordsAreWrong words
 wrong_of_taken words none never = (never, (λ p. no_text (kinds_of words) none (plain_are_text words p)))
 
 -- a kind among none, and among the one of a text
@@ -170,7 +170,7 @@ not_text k kinds memory help version has (inl e) = only k kind.DisplayHelp kinds
 not_text k kinds memory help version has (inr e) = only k kind.DisplayVersion kinds e memory version has
 
 -- words that clap refuses
-pub wrong_of_refused : (words : List (List ℕ)) (k : ErrorKind) → k ≢ kind.OutOfMemory → k ≢ kind.DisplayHelp → k ≢ kind.DisplayVersion → (k ≡ kind.OutOfMemory) ⊎ IsAmong k (kinds_of words) → AreWrong words
+pub wrong_of_refused : (words : List (List ℕ)) (k : ErrorKind) → k ≢ kind.OutOfMemory → k ≢ kind.DisplayHelp → k ≢ kind.DisplayVersion → (k ≡ kind.OutOfMemory) ⊎ IsAmong k (kinds_of words) → WordsAreWrong words
 wrong_of_refused words k memory help version has = (
   (λ m runs. not_among k (kinds_of words) (runs_are_taken m words runs) memory has),
   (λ p. not_text k (kinds_of words) memory help version has (plain_are_text words p)),
@@ -258,37 +258,37 @@ runs_plain (mode.Relay settings) words none runs = absurd none
 
 -- the answer of a mode without options
 pub plain_some : (m : Mode) (n : ModeName) (words : List (List ℕ)) (r : Option Mode) → n ≡ name_of m → HasNone (name_of m) → mode_of words ≡ Some n → IfSome r (λ x. (x ≡ m) × IsAlone words) → IfSome r (λ x. Runs x words)
-plain_some m n words None same none is told = tt
-plain_some m n words (Some x) same none is told =
-    subst (λ (y : Mode). Runs y words) (sym told.0) (runs_plain m words none (runs_of (name_of m) words (is ∙ ap (λ (k : ModeName). Some k) same) told.1))
+plain_some m n words None same none is reported = tt
+plain_some m n words (Some x) same none is reported =
+    subst (λ (y : Mode). Runs y words) (sym reported.0) (runs_plain m words none (runs_of (name_of m) words (is ∙ ap (λ (k : ModeName). Some k) same) reported.1))
 
 pub plain_none : (n : ModeName) (words : List (List ℕ)) (r : Option Mode) → HasNone n → mode_of words ≡ Some n → IfNone r (IsAlone words → ⊥) → IfNone r ((m : Mode) → Runs m words → ⊥)
-plain_none n words None none is told = λ m runs.
+plain_none n words None none is reported = λ m runs.
     let same : n ≡ name_of m = the_some n (name_of m) (sym is ∙ mode_of_runs m words runs) in
-    told (alone_of_runs m words (subst HasNone same none) runs)
-plain_none n words (Some x) none is told = tt
+    reported (alone_of_runs m words (subst HasNone same none) runs)
+plain_none n words (Some x) none is reported = tt
 
 -- the answer of the mode `serve`
 pub serve_some : (n : ModeName) (words : List (List ℕ)) (rows : List Row) (r : Option Mode) → n ≡ name.Serve → mode_of words ≡ Some n → kinds_at (Some n) words ≡ [] → rows ≡ matches_of (app_for (Some n)) words → IfSome r (IsServeBy rows) → IfSome r (λ x. Runs x words)
-serve_some n words rows None same is taken matches told = tt
-serve_some n words rows (Some (mode.Serve port links)) same is taken matches told = record {
+serve_some n words rows None same is taken matches reported = tt
+serve_some n words rows (Some (mode.Serve port links)) same is taken matches reported = record {
   named = is ∙ ap (λ (k : ModeName). Some k) same;
   taken = subst (λ (k : ModeName). kinds_at (Some k) words ≡ []) same taken;
   given = subst (λ (k : ModeName). IsServeBy (matches_of (app_for (Some k)) words) (mode.Serve port links)) same
-      (subst (λ (rs : List Row). IsServeBy rs (mode.Serve port links)) matches told);
+      (subst (λ (rs : List Row). IsServeBy rs (mode.Serve port links)) matches reported);
 }
-serve_some n words rows (Some m) same is taken matches told = absurd told
+serve_some n words rows (Some m) same is taken matches reported = absurd reported
 
 pub serve_none : (n : ModeName) (words : List (List ℕ)) (rows : List Row) (r : Option Mode) → n ≡ name.Serve → mode_of words ≡ Some n → rows ≡ matches_of (app_for (Some n)) words → IfNone r ((m : Mode) → IsServeBy rows m → ⊥) → IfNone r ((m : Mode) → Runs m words → ⊥)
-serve_none n words rows (Some x) same is matches told = tt
-serve_none n words rows None same is matches told = by_mode
+serve_none n words rows (Some x) same is matches reported = tt
+serve_none n words rows None same is matches reported = by_mode
   where
     other : (k : ModeName) → (name.Serve ≡ k → ⊥) → Some n ≡ Some k → ⊥
     other k apart e = apart (sym same ∙ the_some n k e)
 
     by_mode : (m : Mode) → Runs m words → ⊥
     by_mode (mode.Serve port links) runs =
-        told (mode.Serve port links) (subst (λ (rs : List Row). IsServeBy rs (mode.Serve port links)) (sym matches)
+        reported (mode.Serve port links) (subst (λ (rs : List Row). IsServeBy rs (mode.Serve port links)) (sym matches)
         (subst (λ (k : ModeName). IsServeBy (matches_of (app_for (Some k)) words) (mode.Serve port links)) (sym same) runs.given))
     by_mode mode.Replay runs = other name.Replay (λ e. absurd (cc)) (sym is ∙ mode_of_runs mode.Replay words runs)
     by_mode mode.Config runs = other name.Config (λ e. absurd (cc)) (sym is ∙ mode_of_runs mode.Config words runs)
@@ -299,25 +299,25 @@ serve_none n words rows None same is matches told = by_mode
 
 -- the answer of the mode `load`
 pub load_some : (n : ModeName) (words : List (List ℕ)) (rows : List Row) (r : Option Mode) → n ≡ name.Load → mode_of words ≡ Some n → kinds_at (Some n) words ≡ [] → rows ≡ matches_of (app_for (Some n)) words → IfSome r (IsLoadBy rows) → IfSome r (λ x. Runs x words)
-load_some n words rows None same is taken matches told = tt
-load_some n words rows (Some (mode.Load load)) same is taken matches told = record {
+load_some n words rows None same is taken matches reported = tt
+load_some n words rows (Some (mode.Load load)) same is taken matches reported = record {
   named = is ∙ ap (λ (k : ModeName). Some k) same;
   taken = subst (λ (k : ModeName). kinds_at (Some k) words ≡ []) same taken;
   given = subst (λ (k : ModeName). IsLoadBy (matches_of (app_for (Some k)) words) (mode.Load load)) same
-      (subst (λ (rs : List Row). IsLoadBy rs (mode.Load load)) matches told);
+      (subst (λ (rs : List Row). IsLoadBy rs (mode.Load load)) matches reported);
 }
-load_some n words rows (Some m) same is taken matches told = absurd told
+load_some n words rows (Some m) same is taken matches reported = absurd reported
 
 pub load_none : (n : ModeName) (words : List (List ℕ)) (rows : List Row) (r : Option Mode) → n ≡ name.Load → mode_of words ≡ Some n → rows ≡ matches_of (app_for (Some n)) words → IfNone r ((m : Mode) → IsLoadBy rows m → ⊥) → IfNone r ((m : Mode) → Runs m words → ⊥)
-load_none n words rows (Some x) same is matches told = tt
-load_none n words rows None same is matches told = by_mode
+load_none n words rows (Some x) same is matches reported = tt
+load_none n words rows None same is matches reported = by_mode
   where
     other : (k : ModeName) → (name.Load ≡ k → ⊥) → Some n ≡ Some k → ⊥
     other k apart e = apart (sym same ∙ the_some n k e)
 
     by_mode : (m : Mode) → Runs m words → ⊥
     by_mode (mode.Load load) runs =
-        told (mode.Load load) (subst (λ (rs : List Row). IsLoadBy rs (mode.Load load)) (sym matches)
+        reported (mode.Load load) (subst (λ (rs : List Row). IsLoadBy rs (mode.Load load)) (sym matches)
         (subst (λ (k : ModeName). IsLoadBy (matches_of (app_for (Some k)) words) (mode.Load load)) (sym same) runs.given))
     by_mode mode.Replay runs = other name.Replay (λ e. absurd (cc)) (sym is ∙ mode_of_runs mode.Replay words runs)
     by_mode mode.Config runs = other name.Config (λ e. absurd (cc)) (sym is ∙ mode_of_runs mode.Config words runs)
@@ -328,25 +328,25 @@ load_none n words rows None same is matches told = by_mode
 
 -- the answer of the mode `live`
 pub live_some : (n : ModeName) (words : List (List ℕ)) (rows : List Row) (r : Option Mode) → n ≡ name.Live → mode_of words ≡ Some n → kinds_at (Some n) words ≡ [] → rows ≡ matches_of (app_for (Some n)) words → IfSome r (IsLiveBy rows) → IfSome r (λ x. Runs x words)
-live_some n words rows None same is taken matches told = tt
-live_some n words rows (Some (mode.Live settings)) same is taken matches told = record {
+live_some n words rows None same is taken matches reported = tt
+live_some n words rows (Some (mode.Live settings)) same is taken matches reported = record {
   named = is ∙ ap (λ (k : ModeName). Some k) same;
   taken = subst (λ (k : ModeName). kinds_at (Some k) words ≡ []) same taken;
   given = subst (λ (k : ModeName). IsLiveBy (matches_of (app_for (Some k)) words) (mode.Live settings)) same
-      (subst (λ (rs : List Row). IsLiveBy rs (mode.Live settings)) matches told);
+      (subst (λ (rs : List Row). IsLiveBy rs (mode.Live settings)) matches reported);
 }
-live_some n words rows (Some m) same is taken matches told = absurd told
+live_some n words rows (Some m) same is taken matches reported = absurd reported
 
 pub live_none : (n : ModeName) (words : List (List ℕ)) (rows : List Row) (r : Option Mode) → n ≡ name.Live → mode_of words ≡ Some n → rows ≡ matches_of (app_for (Some n)) words → IfNone r ((m : Mode) → IsLiveBy rows m → ⊥) → IfNone r ((m : Mode) → Runs m words → ⊥)
-live_none n words rows (Some x) same is matches told = tt
-live_none n words rows None same is matches told = by_mode
+live_none n words rows (Some x) same is matches reported = tt
+live_none n words rows None same is matches reported = by_mode
   where
     other : (k : ModeName) → (name.Live ≡ k → ⊥) → Some n ≡ Some k → ⊥
     other k apart e = apart (sym same ∙ the_some n k e)
 
     by_mode : (m : Mode) → Runs m words → ⊥
     by_mode (mode.Live settings) runs =
-        told (mode.Live settings) (subst (λ (rs : List Row). IsLiveBy rs (mode.Live settings)) (sym matches)
+        reported (mode.Live settings) (subst (λ (rs : List Row). IsLiveBy rs (mode.Live settings)) (sym matches)
         (subst (λ (k : ModeName). IsLiveBy (matches_of (app_for (Some k)) words) (mode.Live settings)) (sym same) runs.given))
     by_mode mode.Replay runs = other name.Replay (λ e. absurd (cc)) (sym is ∙ mode_of_runs mode.Replay words runs)
     by_mode mode.Config runs = other name.Config (λ e. absurd (cc)) (sym is ∙ mode_of_runs mode.Config words runs)
@@ -357,25 +357,25 @@ live_none n words rows None same is matches told = by_mode
 
 -- the answer of the mode `relay`
 pub relay_some : (n : ModeName) (words : List (List ℕ)) (rows : List Row) (r : Option Mode) → n ≡ name.Relay → mode_of words ≡ Some n → kinds_at (Some n) words ≡ [] → rows ≡ matches_of (app_for (Some n)) words → IfSome r (IsRelayBy rows) → IfSome r (λ x. Runs x words)
-relay_some n words rows None same is taken matches told = tt
-relay_some n words rows (Some (mode.Relay settings)) same is taken matches told = record {
+relay_some n words rows None same is taken matches reported = tt
+relay_some n words rows (Some (mode.Relay settings)) same is taken matches reported = record {
   named = is ∙ ap (λ (k : ModeName). Some k) same;
   taken = subst (λ (k : ModeName). kinds_at (Some k) words ≡ []) same taken;
   given = subst (λ (k : ModeName). IsRelayBy (matches_of (app_for (Some k)) words) (mode.Relay settings)) same
-      (subst (λ (rs : List Row). IsRelayBy rs (mode.Relay settings)) matches told);
+      (subst (λ (rs : List Row). IsRelayBy rs (mode.Relay settings)) matches reported);
 }
-relay_some n words rows (Some m) same is taken matches told = absurd told
+relay_some n words rows (Some m) same is taken matches reported = absurd reported
 
 pub relay_none : (n : ModeName) (words : List (List ℕ)) (rows : List Row) (r : Option Mode) → n ≡ name.Relay → mode_of words ≡ Some n → rows ≡ matches_of (app_for (Some n)) words → IfNone r ((m : Mode) → IsRelayBy rows m → ⊥) → IfNone r ((m : Mode) → Runs m words → ⊥)
-relay_none n words rows (Some x) same is matches told = tt
-relay_none n words rows None same is matches told = by_mode
+relay_none n words rows (Some x) same is matches reported = tt
+relay_none n words rows None same is matches reported = by_mode
   where
     other : (k : ModeName) → (name.Relay ≡ k → ⊥) → Some n ≡ Some k → ⊥
     other k apart e = apart (sym same ∙ the_some n k e)
 
     by_mode : (m : Mode) → Runs m words → ⊥
     by_mode (mode.Relay settings) runs =
-        told (mode.Relay settings) (subst (λ (rs : List Row). IsRelayBy rs (mode.Relay settings)) (sym matches)
+        reported (mode.Relay settings) (subst (λ (rs : List Row). IsRelayBy rs (mode.Relay settings)) (sym matches)
         (subst (λ (k : ModeName). IsRelayBy (matches_of (app_for (Some k)) words) (mode.Relay settings)) (sym same) runs.given))
     by_mode mode.Replay runs = other name.Replay (λ e. absurd (cc)) (sym is ∙ mode_of_runs mode.Replay words runs)
     by_mode mode.Config runs = other name.Config (λ e. absurd (cc)) (sym is ∙ mode_of_runs mode.Config words runs)

@@ -3,8 +3,8 @@ use Rattle.std.proofs.Common.{◌≡◌, ℕ, Option, List, inl, inr, subst, sym
 use Rattle.lb_policy.specs.Table.{PolicySeen}
 use Rattle.policy_rack.specs.Kinds.{kinds_of}
 use Rattle.load_plan.specs.declared.load.Load.{Load}
-use Rattle.gate_io.specs.Outside.{AppendsFront}
-use Rattle.script_text.proofs.Passing.{AppendsFront-none}
+use Rattle.gate_io.specs.Outside.{AppendsPrefix}
+use Rattle.script_text.proofs.Passing.{AppendsPrefix-none}
 use Rattle.channel_top.specs.Load.{FillsLoad, IsLoadDone, IsLoadText, RefusesLoad}
 use Rattle.channel_top.specs.Modes.{FillsIn, IsDoneIn, IsOutput, IsOutputIn, RefusesIn}
 use Rattle.channel_top.specs.Live.{EndsFullAsPromised, IsLivedAsPromised, IsPromisedLiveText}
@@ -17,9 +17,9 @@ use Rattle.channel_top.specs.Words.{Runs}
 use Rattle.channel_top.specs.declared.words.Mode.{Mode}
 use Rattle.channel_top.specs.declared.words.Mode.TheVariants as mode
 
--- nothing written is a front of any text
-pub none_written : (taken : Option (List ℕ)) (text : List ℕ) → AppendsFront taken taken text
-none_written taken text = AppendsFront-none taken text
+-- nothing written is a prefix of any text
+pub none_written : (taken : Option (List ℕ)) (text : List ℕ) → AppendsPrefix taken taken text
+none_written taken text = AppendsPrefix-none taken text
 
 -- the output of the mode that the words run is that of the program
 pub output_of : (policies : List PolicySeen) (held : List (Option (List (List ℕ)))) (m : Mode) (words : List (List ℕ)) (left left' : Option (List ℕ)) → Runs m words → (text : List ℕ) → IsOutputIn policies held m left left' text → IsOutput policies held words left left' text
@@ -50,15 +50,15 @@ pub replay_full : (policies : List PolicySeen) (held : List (Option (List (List 
 replay_full policies held m left left' is text full = subst (λ (x : Mode). FillsIn policies held x left left' text) (sym is) full
 
 pub replay_output : (policies : List PolicySeen) (held : List (Option (List (List ℕ)))) (m : Mode) (left left' : Option (List ℕ)) → m ≡ mode.Replay → (text : List ℕ) → IsReplayText policies left left' text → IsOutputIn policies held m left left' text
-replay_output policies held m left left' is text told = subst (λ (x : Mode). IsOutputIn policies held x left left' text) (sym is) told
+replay_output policies held m left left' is text reported = subst (λ (x : Mode). IsOutputIn policies held x left left' text) (sym is) reported
 
 -- so is that of the mode `migrate`
 pub migrate_output : (policies : List PolicySeen) (held : List (Option (List (List ℕ)))) (m : Mode) (left left' : Option (List ℕ)) → m ≡ mode.Migrate → (text : List ℕ) → IsMigrateText left left' text → IsOutputIn policies held m left left' text
-migrate_output policies held m left left' is text told = subst (λ (x : Mode). IsOutputIn policies held x left left' text) (sym is) told
+migrate_output policies held m left left' is text reported = subst (λ (x : Mode). IsOutputIn policies held x left left' text) (sym is) reported
 
 -- what the mode `load` writes is that of its mode
 pub load_output : (policies : List PolicySeen) (held : List (Option (List (List ℕ)))) (m : Mode) (load : Load) (left left' : Option (List ℕ)) → m ≡ mode.Load load → left' ≡ left → (text : List ℕ) → IsLoadText policies load text → IsOutputIn policies held m left left' text
-load_output policies held m load left left' is same text told = subst (λ (x : Mode). IsOutputIn policies held x left left' text) (sym is) (same, told)
+load_output policies held m load left left' is same text reported = subst (λ (x : Mode). IsOutputIn policies held x left left' text) (sym is) (same, reported)
 
 pub load_done : (policies : List PolicySeen) (held : List (Option (List (List ℕ)))) (m : Mode) (load : Load) (left left' : Option (List ℕ)) → m ≡ mode.Load load → left' ≡ left → (text : List ℕ) → IsLoadDone policies load text → IsDoneIn policies held m left left' text
 load_done policies held m load left left' is same text done = subst (λ (x : Mode). IsDoneIn policies held x left left' text) (sym is) (same, done)
@@ -71,7 +71,7 @@ load_full policies held m load left left' is same text full = subst (λ (x : Mod
 
 -- the output of the mode `live` is that of its mode
 pub live_output : (policies : List PolicySeen) (held : List (Option (List (List ℕ)))) (m : Mode) (settings : LiveSettings) (left left' : Option (List ℕ)) → m ≡ mode.Live settings → (text : List ℕ) → IsPromisedLiveText policies held left left' text → IsOutputIn policies held m left left' text
-live_output policies held m settings left left' is text told = subst (λ (x : Mode). IsOutputIn policies held x left left' text) (sym is) told
+live_output policies held m settings left left' is text reported = subst (λ (x : Mode). IsOutputIn policies held x left left' text) (sym is) reported
 
 pub live_done : (policies : List PolicySeen) (held : List (Option (List (List ℕ)))) (m : Mode) (settings : LiveSettings) (left left' : Option (List ℕ)) → m ≡ mode.Live settings → (text : List ℕ) → IsLivedAsPromised policies held left left' text → IsDoneIn policies held m left left' text
 live_done policies held m settings left left' is text done = subst (λ (x : Mode). IsDoneIn policies held x left left' text) (sym is) done
@@ -81,7 +81,7 @@ live_full policies held m settings left left' is text full = subst (λ (x : Mode
 
 -- the output of the mode `relay` is that of its mode
 pub relay_output : (policies : List PolicySeen) (held : List (Option (List (List ℕ)))) (m : Mode) (settings : RelaySettings) (left left' : Option (List ℕ)) → m ≡ mode.Relay settings → (text : List ℕ) → IsPromisedRelayText policies held settings.links left left' text → IsOutputIn policies held m left left' text
-relay_output policies held m settings left left' is text told = subst (λ (x : Mode). IsOutputIn policies held x left left' text) (sym is) told
+relay_output policies held m settings left left' is text reported = subst (λ (x : Mode). IsOutputIn policies held x left left' text) (sym is) reported
 
 pub relay_done : (policies : List PolicySeen) (held : List (Option (List (List ℕ)))) (m : Mode) (settings : RelaySettings) (left left' : Option (List ℕ)) → m ≡ mode.Relay settings → (text : List ℕ) → IsRelayedAsPromised policies held settings.links left left' text → IsDoneIn policies held m left left' text
 relay_done policies held m settings left left' is text done = subst (λ (x : Mode). IsDoneIn policies held x left left' text) (sym is) done

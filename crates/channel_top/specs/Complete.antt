@@ -13,12 +13,12 @@ use Rattle.resolver_core.specs.declared.any_target.Target.{Target}
 use Rattle.script_input.specs.Scripts.{IsScript}
 use Rattle.script_input.specs.declared.form.Form.TheVariants as form
 
--- a session within the limits: the journal of a session by these policies and with this authority, to which the events in front of one were
+-- a session within the limits: the journal of a session by these policies and with this authority, to which the events before one were
 -- given, has room for that one
 abbrev pub HaveRoom : List PolicySeen → List ℕ → List Stamped → Type 0
 HaveRoom policies authority events =
-    (front : List Stamped) (next : Stamped) (behind : List Stamped) (journal : Journal) (ledger : Ledger)
-    → events ≡ front ++ next ∷ behind → IsSession authority policies front journal ledger → HasRoom journal.entries next.event
+    (prefix : List Stamped) (next : Stamped) (afterwards : List Stamped) (journal : Journal) (ledger : Ledger)
+    → events ≡ prefix ++ next ∷ afterwards → IsSession authority policies prefix journal ledger → HasRoom journal.entries next.event
 
 -- the input is known, and is a script whose session is within the limits
 pub record IsRunnable (policies : List PolicySeen) (left : Option (List ℕ)) : Type 0 where
@@ -32,8 +32,8 @@ pub record IsRunnable (policies : List PolicySeen) (left : Option (List ℕ)) : 
 
 -- the same without a word of the channel: as many events as a journal can hold, which have no more bytes than it can hold, where each counts
 -- with the most that it can add
-abbrev pub AreFew : List Stamped → Type 0
-AreFew events = (length events ≤ 1048576) × (sum_by (λ s. event_bytes s.event) events ≤ 268435456)
+abbrev pub EventsFit : List Stamped → Type 0
+EventsFit events = (length events ≤ 1048576) × (sum_by (λ s. event_bytes s.event) events ≤ 268435456)
 
 -- the input is known, and is a script of so few events
 pub record IsShortScript (left : Option (List ℕ)) : Type 0 where
@@ -43,4 +43,4 @@ pub record IsShortScript (left : Option (List ℕ)) : Type 0 where
   pub events : List Stamped
   pub left_is : left ≡ Some input
   pub script : IsScript form.Script input target value events
-  pub few : AreFew events
+  pub few : EventsFit events

@@ -10,7 +10,7 @@ use Rattle.service_config.specs.Reading.{config_of}
 use Rattle.service_config.specs.Text.{config_text, fault_text}
 use Rattle.service_config.specs.declared.config.Config.{Config}
 
--- how many bytes of a config are judged: one more than a config may have, so that the longest and those above it are told apart
+-- how many bytes of a config are judged: one more than a config may have, so that the longest and those above it are distinguished
 abbrev pub judged_bytes : ℕ
 judged_bytes = config_limit + 1
 
@@ -32,8 +32,8 @@ abbrev pub HasFault : KindsSeen → Option (List ℕ) → List ℕ → ConfigFau
 HasFault kinds left' input f =
     (IsAtEnd left' × (config_of kinds input ≡ Err f)) ⊎ ((rest : List ℕ) → config_of kinds (input ++ rest) ≡ Err f)
 
--- status 3: the text tells the first fault of the input, with its number and what it names
-pub record TellsConfigFault (kinds : KindsSeen) (left left' : Option (List ℕ)) (text : List ℕ) : Type 0 where
+-- status 3: the text reports the first fault of the input, with its number and what it names
+pub record ReportsConfigFault (kinds : KindsSeen) (left left' : Option (List ℕ)) (text : List ℕ) : Type 0 where
   pub input : List ℕ
   pub fault : ConfigFault
   pub read : Takes left left' input
@@ -44,7 +44,7 @@ pub record TellsConfigFault (kinds : KindsSeen) (left left' : Option (List ℕ))
 
 -- the output of the mode
 abbrev pub IsConfigText : KindsSeen → Option (List ℕ) → Option (List ℕ) → List ℕ → Type 0
-IsConfigText kinds left left' text = IsConfigDone kinds left left' text ⊎ TellsConfigFault kinds left left' text
+IsConfigText kinds left left' text = IsConfigDone kinds left left' text ⊎ ReportsConfigFault kinds left left' text
 
 -- status 4: a read failed before the input's end, where no more bytes had come than a config may have; nothing was written
 pub record StopsInConfig (left left' taken taken' : Option (List ℕ)) (faults faults' : ℕ) : Type 0 where

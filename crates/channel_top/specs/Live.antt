@@ -1,7 +1,7 @@
 -- What the mode `live` writes where its session was reported: the report is that of a session that keeps the promise.
 use Rattle.std.specs.Prelude.{◌⊎◌, ℕ, Option, List}
 use Rattle.lb_policy.specs.Table.{PolicySeen}
-use Rattle.live_mode.specs.Live.{EndsLiveFull, IsLived, TellsBadCall}
+use Rattle.live_mode.specs.Live.{EndsLiveFull, IsLived, ReportsBadCall}
 use Rattle.resolver_core.specs.AnyTargets.{authority_of}
 use Rattle.channel_top.specs.Promise.{KeepsThePromise}
 
@@ -16,7 +16,7 @@ pub record EndsFullAsPromised (policies : List PolicySeen) (held : List (Option 
   pub ends : EndsLiveFull policies held left left' text
   pub promise : KeepsThePromise (authority_of ends.script.value) policies ends.report.events ends.report.journal ends.report.ledger
 
--- the output of the mode: such a report, or the line that tells the first bad line
+-- the output of the mode: such a report, or the line that reports the first bad line
 abbrev pub IsPromisedLiveText : List PolicySeen → List (Option (List (List ℕ))) → Option (List ℕ) → Option (List ℕ) → List ℕ → Type 0
 IsPromisedLiveText policies held left left' text =
-    (IsLivedAsPromised policies held left left' text ⊎ EndsFullAsPromised policies held left left' text) ⊎ TellsBadCall left left' text
+    (IsLivedAsPromised policies held left left' text ⊎ EndsFullAsPromised policies held left left' text) ⊎ ReportsBadCall left left' text

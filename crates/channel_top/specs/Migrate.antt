@@ -28,8 +28,8 @@ pub record IsMigrated (left left' : Option (List ℕ)) (text : List ℕ) : Type 
   pub at_end : IsAtEnd left'
   pub done : ((input ≡ []) × (text ≡ [])) ⊎ ((input ≡ [] → ⊥) × Migrates input text)
 
--- status 3: the text tells the first bad line
-pub record TellsBadReport (left left' : Option (List ℕ)) (text : List ℕ) : Type 0 where
+-- status 3: the text reports the first bad line
+pub record ReportsBadReport (left left' : Option (List ℕ)) (text : List ℕ) : Type 0 where
   pub line : ℕ
   pub cause : ℕ
   pub bad : FindsBad form.Report left left' line cause
@@ -37,7 +37,7 @@ pub record TellsBadReport (left left' : Option (List ℕ)) (text : List ℕ) : T
 
 -- the output of the mode
 abbrev pub IsMigrateText : Option (List ℕ) → Option (List ℕ) → List ℕ → Type 0
-IsMigrateText left left' text = IsMigrated left left' text ⊎ TellsBadReport left left' text
+IsMigrateText left left' text = IsMigrated left left' text ⊎ ReportsBadReport left left' text
 
 -- status 4: a read failed before the input's end and before its first bad line; nothing was written
 pub record StopsInReport (left left' taken taken' : Option (List ℕ)) (faults faults' : ℕ) : Type 0 where

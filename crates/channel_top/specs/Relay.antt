@@ -1,7 +1,7 @@
 -- What the mode `relay` writes where its session was reported: the report is that of a session that keeps the promise.
 use Rattle.std.specs.Prelude.{◌⊎◌, ℕ, Option, List}
 use Rattle.lb_policy.specs.Table.{PolicySeen}
-use Rattle.relay_mode.specs.Relayed.{EndsRelayFull, IsRelayed, TellsBadRelay}
+use Rattle.relay_mode.specs.Relayed.{EndsRelayFull, IsRelayed, ReportsBadRelay}
 use Rattle.resolver_core.specs.AnyTargets.{authority_of}
 use Rattle.channel_top.specs.Promise.{KeepsThePromise}
 
@@ -19,4 +19,4 @@ pub record EndsRelayAsPromised (policies : List PolicySeen) (held : List (Option
 -- the output of the mode: such a report, or the line that names the first bad line
 abbrev pub IsPromisedRelayText : List PolicySeen → List (Option (List (List ℕ))) → ℕ → Option (List ℕ) → Option (List ℕ) → List ℕ → Type 0
 IsPromisedRelayText policies held links left left' text =
-    (IsRelayedAsPromised policies held links left left' text ⊎ EndsRelayAsPromised policies held links left left' text) ⊎ TellsBadRelay left left' text
+    (IsRelayedAsPromised policies held links left left' text ⊎ EndsRelayAsPromised policies held links left left' text) ⊎ ReportsBadRelay left left' text

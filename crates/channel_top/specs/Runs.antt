@@ -1,4 +1,4 @@
--- A channel that is given events, one behind another, each where its journal has room for it.
+-- A channel that is given events, one after another, each where its journal has room for it.
 use Rattle.std.specs.Prelude.{◌≡◌, List, ◌∷◌, ◌++◌, ℕ}
 use Rattle.grpc_base.specs.declared.event.Reply.{Reply}
 use Rattle.grpc_base.specs.declared.event.Stamped.{Stamped}
@@ -19,11 +19,11 @@ StepsTo ran.Full old s new = LacksRoom s.event old × (new ≡ old)
 
 -- a channel was given the first of these events, and its journal has no room for the next one
 pub record FillsUp (old : CoreSeen) (events : List Stamped) (new : CoreSeen) : Type 0 where
-  pub front : List Stamped
+  pub prefix : List Stamped
   pub next : Stamped
-  pub behind : List Stamped
-  pub parts : events ≡ front ++ next ∷ behind
-  pub goes_on : GoesOn old front new
+  pub afterwards : List Stamped
+  pub parts : events ≡ prefix ++ next ∷ afterwards
+  pub goes_on : GoesOn old prefix new
   pub full : LacksRoom next.event new
 
 -- events are given to a channel: all of them, or up to one for which its journal has no room
@@ -33,11 +33,11 @@ RunsTo ran.Full old events new = FillsUp old events new
 
 -- the same of a channel that was new with this authority and these policies
 pub record HasFilled (authority : List ℕ) (policies : List PolicySeen) (events : List Stamped) (core : CoreSeen) : Type 0 where
-  pub front : List Stamped
+  pub prefix : List Stamped
   pub next : Stamped
-  pub behind : List Stamped
-  pub parts : events ≡ front ++ next ∷ behind
-  pub run : HasRunBy authority policies front core
+  pub afterwards : List Stamped
+  pub parts : events ≡ prefix ++ next ∷ afterwards
+  pub run : HasRunBy authority policies prefix core
   pub full : LacksRoom next.event core
 
 abbrev pub HasRun : Ran → List ℕ → List PolicySeen → List Stamped → CoreSeen → Type 0

@@ -38,14 +38,14 @@ pub record IsReport (policies : List PolicySeen) (target : List ℕ) (value : Ta
 -- the text is the report of a session of the first of these events, which keeps the promise too, and the line that says that the journal has
 -- no room for the next
 pub record IsFullReport (policies : List PolicySeen) (target : List ℕ) (value : Target) (events : List Stamped) (text : List ℕ) : Type 0 where
-  pub front : List Stamped
+  pub prefix : List Stamped
   pub next : Stamped
-  pub behind : List Stamped
-  pub parts : events ≡ front ++ next ∷ behind
+  pub afterwards : List Stamped
+  pub parts : events ≡ prefix ++ next ∷ afterwards
   pub journal : Journal
   pub ledger : Ledger
-  pub session : IsSession (authority_of value) policies front journal ledger
-  pub promise : KeepsThePromise (authority_of value) policies front journal ledger
+  pub session : IsSession (authority_of value) policies prefix journal ledger
+  pub promise : KeepsThePromise (authority_of value) policies prefix journal ledger
   pub full : HasNoRoom (length journal.entries) (journal_bytes journal.entries) next.event
   pub text_is : text ≡ report_of target journal ledger ++ session_full_text
 
@@ -87,8 +87,8 @@ pub record EndsFull (policies : List PolicySeen) (left left' : Option (List ℕ)
   pub only : IsOnlyScript form.Script input target value events
   pub report : IsFullReport policies target value events text
 
--- status 3: the text tells the first bad line
-pub record TellsBadLine (left left' : Option (List ℕ)) (text : List ℕ) : Type 0 where
+-- status 3: the text reports the first bad line
+pub record ReportsBadLine (left left' : Option (List ℕ)) (text : List ℕ) : Type 0 where
   pub line : ℕ
   pub cause : ℕ
   pub bad : FindsBad form.Script left left' line cause
@@ -96,7 +96,7 @@ pub record TellsBadLine (left left' : Option (List ℕ)) (text : List ℕ) : Typ
 
 -- the output of the mode
 abbrev pub IsReplayText : List PolicySeen → Option (List ℕ) → Option (List ℕ) → List ℕ → Type 0
-IsReplayText policies left left' text = (IsDone policies left left' text ⊎ EndsFull policies left left' text) ⊎ TellsBadLine left left' text
+IsReplayText policies left left' text = (IsDone policies left left' text ⊎ EndsFull policies left left' text) ⊎ ReportsBadLine left left' text
 
 -- status 4: a read failed before the input's end and before its first bad line; nothing was written
 pub record StopsAtRead (left left' taken taken' : Option (List ℕ)) (faults faults' : ℕ) : Type 0 where

@@ -44,11 +44,11 @@ abbrev pub mode_of : List (List ℕ) → Option ModeName
 mode_of [] = None
 mode_of (word ∷ words) = mode_named word
 
--- the word behind which no option stands
+-- the word after which no option stands
 abbrev pub dashes : List ℕ
 dashes = codes "--"
 
--- nothing stands behind the first word but the end of the options
+-- nothing stands after the first word but the end of the options
 abbrev pub IsAlone : List (List ℕ) → Type 0
 IsAlone [] = ⊥
 IsAlone (word ∷ []) = Unit {0}
@@ -56,20 +56,20 @@ IsAlone (word ∷ (last ∷ [])) = last ≡ dashes
 IsAlone (word ∷ (last ∷ (more ∷ rest))) = ⊥
 
 -- a simple command without options of its own, which has a version: that of a mode begins at the mode's name; that of the
--- program, where no mode is named, begins behind the program's name
+-- program, where no mode is named, begins after the program's name
 abbrev pub app_named : List ℕ → App
 app_named name = record (new_app name) { top = record (new_app name).top { has_version = true } }
 
 -- the command of a mode without its options
-unfoldable pub bare_for : Option ModeName → App
-bare_for (Some name.Replay) = app_named (codes "grpcc replay")
-bare_for (Some name.Config) = app_named (codes "grpcc config")
-bare_for (Some name.Migrate) = app_named (codes "grpcc migrate")
-bare_for (Some name.Serve) = app_named (codes "grpcc serve")
-bare_for (Some name.Load) = app_named (codes "grpcc load")
-bare_for (Some name.Live) = app_named (codes "grpcc live")
-bare_for (Some name.Relay) = app_named (codes "grpcc relay")
-bare_for None = record (app_named (codes "grpcc")) { top = record (app_named (codes "grpcc")).top { no_binary_name = true } }
+unfoldable pub mode_command : Option ModeName → App
+mode_command (Some name.Replay) = app_named (codes "grpcc replay")
+mode_command (Some name.Config) = app_named (codes "grpcc config")
+mode_command (Some name.Migrate) = app_named (codes "grpcc migrate")
+mode_command (Some name.Serve) = app_named (codes "grpcc serve")
+mode_command (Some name.Load) = app_named (codes "grpcc load")
+mode_command (Some name.Live) = app_named (codes "grpcc live")
+mode_command (Some name.Relay) = app_named (codes "grpcc relay")
+mode_command None = record (app_named (codes "grpcc")) { top = record (app_named (codes "grpcc")).top { no_binary_name = true } }
 
 -- an option that has to be there and takes one value
 abbrev pub option_rule : List ℕ → Rule
@@ -96,11 +96,11 @@ with_relay app =
 
 -- the command of a mode: options are those of `serve`, `load`, `live` and `relay`
 unfoldable pub app_for : Option ModeName → App
-app_for (Some name.Serve) = with_rule (with_rule (bare_for (Some name.Serve)) (option_rule (codes "port"))) (option_rule (codes "links"))
-app_for (Some name.Load) = with_rule (with_rule (bare_for (Some name.Load)) (option_rule (codes "seed"))) (option_rule (codes "calls"))
-app_for (Some name.Live) = with_live (bare_for (Some name.Live))
-app_for (Some name.Relay) = with_relay (bare_for (Some name.Relay))
-app_for m = bare_for m
+app_for (Some name.Serve) = with_rule (with_rule (mode_command (Some name.Serve)) (option_rule (codes "port"))) (option_rule (codes "links"))
+app_for (Some name.Load) = with_rule (with_rule (mode_command (Some name.Load)) (option_rule (codes "seed"))) (option_rule (codes "calls"))
+app_for (Some name.Live) = with_live (mode_command (Some name.Live))
+app_for (Some name.Relay) = with_relay (mode_command (Some name.Relay))
+app_for m = mode_command m
 
 -- the kinds of error that clap gives for the words at such a command, by clap's own definitions; none where it takes them
 unfoldable pub kinds_at : Option ModeName → List (List ℕ) → Kinds
@@ -116,11 +116,11 @@ pub record IsOption (id : List ℕ) (low high : ℕ) (rows : List Row) (n : ℕ)
   pub within : IsUnsignedIn low high text
   pub value : n ≡ digits_value 10 (without_leading_plus text)
 
--- the line that tells wrong words
+-- the line that reports wrong words
 abbrev pub words_fault_text : List ℕ
 words_fault_text = codes "fault words" ++ 10 ∷ []
 
--- the words run a mode without options: its name, behind which at most the word stands that ends the options
+-- the words run a mode without options: its name, after which at most the word stands that ends the options
 abbrev pub RunsPlain : ModeName → List (List ℕ) → Type 0
 RunsPlain m words = (words ≡ name_text m ∷ []) ⊎ (words ≡ name_text m ∷ dashes ∷ [])
 
@@ -207,12 +207,12 @@ abbrev pub AskPlainly : List (List ℕ) → Type 0
 AskPlainly words = (word : List ℕ) × IsAskWord word × ((words ≡ word ∷ []) ⊎ ((m : ModeName) × (words ≡ name_text m ∷ word ∷ [])))
 
 -- the words are wrong: they run no mode, and ask for no text in the plain way
-abbrev pub AreWrong : List (List ℕ) → Type 0
-AreWrong words = ((m : Mode) → Runs m words → ⊥) × (AskPlainly words → ⊥)
+abbrev pub WordsAreWrong : List (List ℕ) → Type 0
+WordsAreWrong words = ((m : Mode) → Runs m words → ⊥) × (AskPlainly words → ⊥)
 
--- what is told of the words
+-- what is reported of the words
 abbrev pub IsAskedBy : List (List ℕ) → Result Asked WordsFault → Type 0
 IsAskedBy words (Ok (asked.Run m)) = Runs m words
 IsAskedBy words (Ok (asked.Print text)) = AskForText words
-IsAskedBy words (Err fault.Wrong) = AreWrong words
+IsAskedBy words (Err fault.Wrong) = WordsAreWrong words
 IsAskedBy words (Err fault.NoMemory) = Unit {0}

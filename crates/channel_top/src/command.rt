@@ -1,7 +1,7 @@
 // The commands of `clap`, one for each mode.
 ghost use Rattle.std.specs.Prelude.{◌≡◌, IfOk};
 ghost use Rattle.clap.specs.Words.{app_of, with_rule};
-ghost use Rattle.channel_top.specs.Words.{app_for, bare_for, choice_rule, option_rule, with_keepalives, with_live, with_relay, with_workers};
+ghost use Rattle.channel_top.specs.Words.{app_for, mode_command, choice_rule, option_rule, with_keepalives, with_live, with_relay, with_workers};
 
 use crate::help;
 use crate::words::ModeName;
@@ -15,7 +15,7 @@ const VERSION: &str = "0.1.0";
 pub fn command<'a>(alloc: Global, name: Option<ModeName>) -> Result<Command<'a>, AllocError>
     ensures { IfOk result (λ c. app_of c ≡ app_for name) }
 {
-    let command = bare(alloc, name);
+    let command = command_of_mode(alloc, name);
     match name {
         Some(ModeName::Serve) => {
             let command = with_number(alloc, command, "port", "The port, from 0 to 65535")?;
@@ -32,9 +32,9 @@ pub fn command<'a>(alloc: Global, name: Option<ModeName>) -> Result<Command<'a>,
 }
 
 /// The command of a mode without its options.
-#[tactic(auto, unfolding(crate::specs::Words::bare_for))]
-fn bare<'a>(alloc: Global, name: Option<ModeName>) -> Command<'a>
-    ensures { app_of result ≡ bare_for name }
+#[tactic(auto, unfolding(crate::specs::Words::mode_command))]
+fn command_of_mode<'a>(alloc: Global, name: Option<ModeName>) -> Command<'a>
+    ensures { app_of result ≡ mode_command name }
 {
     match name {
         Some(ModeName::Replay) => Command::new(alloc, "grpcc replay")

@@ -14,10 +14,10 @@ mod migrate;
 mod promise;
 mod relay;
 mod replay;
+mod reporting;
 mod run;
 mod serve;
 mod session;
-mod tell;
 mod top;
 mod words;
 

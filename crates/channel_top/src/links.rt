@@ -24,7 +24,7 @@ pub enum Served {
     /// Each link has ended.
     Whole,
     /// The next link was not accepted.
-    Unheard,
+    NotListening,
     /// The server found no memory for a link.
     NoMemory,
 }
@@ -39,12 +39,12 @@ pub fn serve_at<R: Threads + Wait + Sync, L: Listener>(
     ensures { ServesSo result (L.faults listener.old) (L.faults listener.new) }
 {
     if !listener.open(place.port) {
-        return Served::Unheard;
+        return Served::NotListening;
     }
     serve_links(rt, core, listener, 1, place.links)
 }
 
-/// Accepts the links from this number on, and serves each as soon as it is accepted: a thread of its own accepts those behind
+/// Accepts the links from this number on, and serves each as soon as it is accepted: a thread of its own accepts those after
 /// it meanwhile. Where no thread can be made, the link is served to its end before the next one is accepted.
 fn serve_links<R: Threads + Wait + Sync, L: Listener>(
     rt: &R,
@@ -61,7 +61,7 @@ fn serve_links<R: Threads + Wait + Sync, L: Listener>(
     match listener.accept() {
         Dialed::Open(mut input, mut output) => {
             let next = number.saturating_add(1);
-            let (behind, done) = join_mut(
+            let (afterwards, done) = join_mut(
                 rt,
                 &mut || -> Served
                     requires { IsSync R.row × (0 < left) }
@@ -71,9 +71,9 @@ fn serve_links<R: Threads + Wait + Sync, L: Listener>(
                     requires { IsSync R.row }
                 { serve_one(rt, core, number, &mut input, &mut output) },
             );
-            with_link(done, behind)
+            with_link(done, afterwards)
         }
-        Dialed::Failed => Served::Unheard,
+        Dialed::Failed => Served::NotListening,
     }
 }
 
@@ -88,12 +88,12 @@ fn serve_one<R: Wait, I: LinkIn, O: LinkOut>(
     serve_link(rt, &mut SharedServer::new(rt, core), number, input, output)
 }
 
-/// How the serving ended of a link and of those behind it.
-fn with_link(done: LinkDone, behind: Served) -> Served
-    ensures { (result ≡ Served.NoMemory) ⊎ (result ≡ behind) }
+/// How the serving ended of a link and of those after it.
+fn with_link(done: LinkDone, afterwards: Served) -> Served
+    ensures { (result ≡ Served.NoMemory) ⊎ (result ≡ afterwards) }
 {
     match done {
         LinkDone::NoMemory => Served::NoMemory,
-        _ => behind,
+        _ => afterwards,
     }
 }

@@ -1,13 +1,13 @@
 // The mode `load`.
 ghost use Rattle.std.specs.Prelude.{◌≡◌, ◌≢◌, ◌⊎◌, ◌++◌, ◌∷◌, [], Err, IfOk, OnErr, OnOk, map, true};
-ghost use Rattle.gate_io.specs.Outside.{Appends, AppendsFront, Rises};
+ghost use Rattle.gate_io.specs.Outside.{Appends, AppendsPrefix, Rises};
 ghost use Rattle.channel_top.specs.Load.{FillsLoad, IsLoadDone, IsLoadText, RefusesLoad};
-ghost use Rattle.session_text.specs.Writing.{WritesAll, WritesFront, WritesSome};
+ghost use Rattle.session_text.specs.Writing.{WritesAll, WritesPrefix, WritesSome};
 ghost use Rattle.load_plan.specs.Lines.{summary_line};
 ghost use Rattle.policy_rack.specs.Kinds.{are_ready, kinds_of};
 
 use crate::promise::sessions_keep_the_promise;
-use crate::tell::WORDS_FAULT;
+use crate::reporting::WORDS_FAULT;
 use gate_io::{Sink, write_whole};
 use grpc_base::{Kind, NoMemory, Text};
 use lb_policy::Balancer;
@@ -25,8 +25,8 @@ use std::alloc::Global;
 /// |---|---|---|
 /// | 0 | done | the line |
 /// | 2 | `round_robin` is not among the policies | `fault words` |
-/// | 5 | a write failed | a front of the output |
-/// | 6 | out of memory | nothing, or a front of the output |
+/// | 5 | a write failed | a prefix of the output |
+/// | 6 | out of memory | nothing, or a prefix of the output |
 /// | 7 | the journal has no room for an event | `fault session full` |
 pub fn run_load<P: Balancer, K: Sink>(
     alloc: Global,
@@ -37,31 +37,31 @@ pub fn run_load<P: Balancer, K: Sink>(
     requires { are_ready (map P.seen policies.items) ≡ true }
     ensures done { result ≡ 0 → WritesAll (IsLoadDone (map P.seen policies.items) load) (K.taken report.old) (K.taken report.new) }
     ensures refused { result ≡ 2 → WritesAll (RefusesLoad (kinds_of (map P.seen policies.items))) (K.taken report.old) (K.taken report.new) }
-    ensures writing { result ≡ 5 → Rises (K.faults report.old) (K.faults report.new) × WritesFront (IsLoadText (map P.seen policies.items) load) (K.taken report.old) (K.taken report.new) }
+    ensures writing { result ≡ 5 → Rises (K.faults report.old) (K.faults report.new) × WritesPrefix (IsLoadText (map P.seen policies.items) load) (K.taken report.old) (K.taken report.new) }
     ensures memory { result ≡ 6 → WritesSome (IsLoadText (map P.seen policies.items) load) (K.taken report.old) (K.taken report.new) }
     ensures full { result ≡ 7 → WritesAll (FillsLoad (map P.seen policies.items) load) (K.taken report.old) (K.taken report.new) }
     ensures known { (result ≡ 0) ⊎ (result ≡ 2) ⊎ (result ≡ 5) ⊎ (result ≡ 6) ⊎ (result ≡ 7) }
 {
     let kinds = set_of(policies.as_slice());
     if !kinds.has(Kind::RoundRobin) {
-        return tell_line(report, WORDS_FAULT, 2);
+        return report_line(report, WORDS_FAULT, 2);
     }
     sessions_keep_the_promise();
     match summarize(alloc, load, policies) {
-        Ok(summary) => tell_summary(alloc, &summary, report),
+        Ok(summary) => report_summary(alloc, &summary, report),
         Err(fault) => match fault {
-            LoadFault::SessionFull => tell_line(report, SESSION_FULL, 7),
+            LoadFault::SessionFull => report_line(report, SESSION_FULL, 7),
             LoadFault::NoMemory => 6,
         },
     }
 }
 
-/// Tells a fault by its line, and gives the status of the program: this one, or that of a write that failed.
-fn tell_line<K: Sink>(report: &mut K, line: &[u8], status: u8) -> u8
+/// Reports a fault by its line, and gives the status of the program: this one, or that of a write that failed.
+fn report_line<K: Sink>(report: &mut K, line: &[u8], status: u8) -> u8
     requires { status ≢ 5 }
     ensures whole { result ≡ status → Appends (K.taken report.old) (K.taken report.new) line.now }
     ensures writing { result ≡ 5 → Rises (K.faults report.old) (K.faults report.new) }
-    ensures front { result ≡ 5 → AppendsFront (K.taken report.old) (K.taken report.new) line.now }
+    ensures prefix { result ≡ 5 → AppendsPrefix (K.taken report.old) (K.taken report.new) line.now }
     ensures known { (result ≡ status) ⊎ (result ≡ 5) }
 {
     if write_whole(report, line) {
@@ -71,10 +71,10 @@ fn tell_line<K: Sink>(report: &mut K, line: &[u8], status: u8) -> u8
 }
 
 /// Writes the line of a load, and gives the status of the program.
-fn tell_summary<K: Sink>(alloc: Global, summary: &LoadSummary, report: &mut K) -> u8
+fn report_summary<K: Sink>(alloc: Global, summary: &LoadSummary, report: &mut K) -> u8
     ensures done { result ≡ 0 → Appends (K.taken report.old) (K.taken report.new) (summary_line summary.now ++ 10 ∷ []) }
     ensures writing { result ≡ 5 → Rises (K.faults report.old) (K.faults report.new) }
-    ensures front { (result ≡ 5) ⊎ (result ≡ 6) → AppendsFront (K.taken report.old) (K.taken report.new) (summary_line summary.now ++ 10 ∷ []) }
+    ensures prefix { (result ≡ 5) ⊎ (result ≡ 6) → AppendsPrefix (K.taken report.old) (K.taken report.new) (summary_line summary.now ++ 10 ∷ []) }
     ensures known { (result ≡ 0) ⊎ (result ≡ 5) ⊎ (result ≡ 6) }
 {
     match write_summary(alloc, summary, report) {
@@ -91,7 +91,7 @@ fn write_summary<K: Sink>(
     report: &mut K,
 ) -> Result<(), ReportFault>
     ensures ok { OnOk result (Appends (K.taken report.old) (K.taken report.new) (summary_line summary.now ++ 10 ∷ [])) }
-    ensures err { OnErr result (AppendsFront (K.taken report.old) (K.taken report.new) (summary_line summary.now ++ 10 ∷ [])) }
+    ensures err { OnErr result (AppendsPrefix (K.taken report.old) (K.taken report.new) (summary_line summary.now ++ 10 ∷ [])) }
     ensures write { (result ≡ Err ReportFault.Write) → Rises (K.faults report.old) (K.faults report.new) }
 {
     let text = summary_text(alloc, summary)?;

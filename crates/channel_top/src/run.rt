@@ -1,4 +1,4 @@
-// A session: a channel is given the events of a script, one behind another.
+// A session: a channel is given the events of a script, one after another.
 ghost use Rattle.std.specs.Prelude.{◌≡◌, ℕ, Err, IfOk};
 ghost use Rattle.channel_top.specs.Runs.{RunsTo, StepsTo};
 

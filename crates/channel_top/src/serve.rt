@@ -1,17 +1,17 @@
 // The mode `serve`.
 ghost use Rattle.std.specs.Prelude.{◌≡◌, ◌⊎◌, ◌≢◌};
-ghost use Rattle.gate_io.specs.Outside.{Appends, AppendsFront, Rises, one_more};
+ghost use Rattle.gate_io.specs.Outside.{Appends, AppendsPrefix, Rises, one_more};
 ghost use Rattle.grpc_base.specs.Scripts.{IsServerScript};
-ghost use Rattle.channel_top.specs.Serve.{EndsUnheard, IsServeText, IsServed, StopsInServer, TellsBadAnswer, served_text};
-ghost use Rattle.session_text.specs.Writing.{WritesAll, WritesFront, WritesSome};
+ghost use Rattle.channel_top.specs.Serve.{EndsNotListening, IsServeText, IsServed, StopsInServer, ReportsBadAnswer, served_text};
+ghost use Rattle.session_text.specs.Writing.{WritesAll, WritesPrefix, WritesSome};
 
 use crate::links::{Place, Served, serve_at};
-use crate::tell::tell_served;
+use crate::reporting::report_served;
 use gate_io::{Listener, Sink, Source};
 use grpc_base::ServerScript;
 use loop_server::ServerCore;
 use script_input::{InputFault, read_server};
-use session_text::{tell_bad, unwritten};
+use session_text::{report_bad, unwritten};
 use std::alloc::Global;
 use std::sync::{Mutex, Wait};
 use std::thread::Threads;
@@ -24,8 +24,8 @@ use std::thread::Threads;
 /// | 0 | each link was accepted and has ended | `served <links>` |
 /// | 3 | a line of the script is bad | `fault line <n> cause <c>` |
 /// | 4 | a read failed before the input's end and its first bad line | nothing |
-/// | 5 | a write failed | a front of the output |
-/// | 6 | out of memory, also for one link | nothing, or a front of the output |
+/// | 5 | a write failed | a prefix of the output |
+/// | 6 | out of memory, also for one link | nothing, or a prefix of the output |
 /// | 8 | the listener did not open, or did not accept a link | nothing |
 pub fn run_serve<R: Threads + Wait + Sync, S: Source, K: Sink, L: Listener>(
     rt: &R,
@@ -36,19 +36,19 @@ pub fn run_serve<R: Threads + Wait + Sync, S: Source, K: Sink, L: Listener>(
     listener: &mut L,
 ) -> u8
     ensures done { result ≡ 0 → WritesAll (IsServed place.links (S.left script.old) (S.left script.new)) (K.taken report.old) (K.taken report.new) }
-    ensures line { result ≡ 3 → WritesAll (TellsBadAnswer (S.left script.old) (S.left script.new)) (K.taken report.old) (K.taken report.new) }
+    ensures line { result ≡ 3 → WritesAll (ReportsBadAnswer (S.left script.old) (S.left script.new)) (K.taken report.old) (K.taken report.new) }
     ensures reading { result ≡ 4 → StopsInServer (S.left script.old) (S.left script.new) (K.taken report.old) (K.taken report.new) (S.faults script.old) (S.faults script.new) }
-    ensures writing { result ≡ 5 → Rises (K.faults report.old) (K.faults report.new) × WritesFront (IsServeText place.links (S.left script.old) (S.left script.new)) (K.taken report.old) (K.taken report.new) }
+    ensures writing { result ≡ 5 → Rises (K.faults report.old) (K.faults report.new) × WritesPrefix (IsServeText place.links (S.left script.old) (S.left script.new)) (K.taken report.old) (K.taken report.new) }
     ensures memory { result ≡ 6 → WritesSome (IsServeText place.links (S.left script.old) (S.left script.new)) (K.taken report.old) (K.taken report.new) }
-    ensures unheard { result ≡ 8 → EndsUnheard (S.left script.old) (S.left script.new) (K.taken report.old) (K.taken report.new) (L.faults listener.old) (L.faults listener.new) }
-    ensures heard { result ≢ 6 → result ≢ 8 → L.faults listener.new ≡ L.faults listener.old }
+    ensures not_listening { result ≡ 8 → EndsNotListening (S.left script.old) (S.left script.new) (K.taken report.old) (K.taken report.new) (L.faults listener.old) (L.faults listener.new) }
+    ensures listened { result ≢ 6 → result ≢ 8 → L.faults listener.new ≡ L.faults listener.old }
     ensures known { (result ≡ 0) ⊎ (result ≡ 3) ⊎ (result ≡ 4) ⊎ (result ≡ 5) ⊎ (result ≡ 6) ⊎ (result ≡ 8) }
 {
     match read_server(alloc, script) {
         Ok(read) => serve_script(rt, alloc, place, read, report, listener),
         Err(fault) => match fault {
             InputFault::Empty => unreachable!(),
-            InputFault::BadLine { line, cause } => tell_bad(alloc, line, cause, report),
+            InputFault::BadLine { line, cause } => report_bad(alloc, line, cause, report),
             InputFault::ReadFailed => 4,
             InputFault::NoMemory => 6,
         },
@@ -67,29 +67,29 @@ fn serve_script<R: Threads + Wait + Sync, K: Sink, L: Listener>(
     requires { IsServerScript script }
     ensures done { result ≡ 0 → Appends (K.taken report.old) (K.taken report.new) (served_text place.links) }
     ensures writing { result ≡ 5 → Rises (K.faults report.old) (K.faults report.new) }
-    ensures front { (result ≡ 5) ⊎ (result ≡ 6) → AppendsFront (K.taken report.old) (K.taken report.new) (served_text place.links) }
-    ensures unheard { result ≡ 8 → (K.taken report.new ≡ K.taken report.old) × (L.faults listener.new ≡ one_more (L.faults listener.old)) }
-    ensures heard { result ≢ 6 → result ≢ 8 → L.faults listener.new ≡ L.faults listener.old }
+    ensures prefix { (result ≡ 5) ⊎ (result ≡ 6) → AppendsPrefix (K.taken report.old) (K.taken report.new) (served_text place.links) }
+    ensures not_listening { result ≡ 8 → (K.taken report.new ≡ K.taken report.old) × (L.faults listener.new ≡ one_more (L.faults listener.old)) }
+    ensures listened { result ≢ 6 → result ≢ 8 → L.faults listener.new ≡ L.faults listener.old }
     ensures known { (result ≡ 0) ⊎ (result ≡ 5) ⊎ (result ≡ 6) ⊎ (result ≡ 8) }
 {
     let Ok(core) = ServerCore::new(alloc, script) else {
         return 6;
     };
     match serve_at(rt, &Mutex::new(core), place, listener) {
-        Served::Whole => tell_whole(alloc, place.links, report),
-        Served::Unheard => 8,
+        Served::Whole => report_whole(alloc, place.links, report),
+        Served::NotListening => 8,
         Served::NoMemory => 6,
     }
 }
 
-/// Tells that so many links were served, and gives the status of the program.
-fn tell_whole<K: Sink>(alloc: Global, links: u32, report: &mut K) -> u8
+/// Reports that so many links were served, and gives the status of the program.
+fn report_whole<K: Sink>(alloc: Global, links: u32, report: &mut K) -> u8
     ensures done { result ≡ 0 → Appends (K.taken report.old) (K.taken report.new) (served_text links) }
     ensures writing { result ≡ 5 → Rises (K.faults report.old) (K.faults report.new) }
-    ensures front { (result ≡ 5) ⊎ (result ≡ 6) → AppendsFront (K.taken report.old) (K.taken report.new) (served_text links) }
+    ensures prefix { (result ≡ 5) ⊎ (result ≡ 6) → AppendsPrefix (K.taken report.old) (K.taken report.new) (served_text links) }
     ensures known { (result ≡ 0) ⊎ (result ≡ 5) ⊎ (result ≡ 6) }
 {
-    match tell_served(alloc, links, report) {
+    match report_served(alloc, links, report) {
         Ok(()) => 0,
         Err(fault) => unwritten(fault),
     }

@@ -4,7 +4,7 @@ ghost use Rattle.gate_io.specs.Outside.{Rises};
 ghost use Rattle.grpc_base.specs.Authorities.{IsAuthority};
 ghost use Rattle.channel_top.specs.Runs.{HasRun};
 ghost use Rattle.channel_top.specs.Top.{IsReportBy, IsRunReport};
-ghost use Rattle.session_text.specs.Writing.{WritesAll, WritesFront, WritesSome};
+ghost use Rattle.session_text.specs.Writing.{WritesAll, WritesPrefix, WritesSome};
 ghost use Rattle.policy_rack.specs.Kinds.{are_ready};
 ghost use Rattle.resolver_core.specs.AnyTargets.{IsTarget, authority_of};
 
@@ -39,7 +39,7 @@ pub fn report_session<P: Balancer, K: Sink>(
     requires target { IsTarget script.value }
     ensures ok { IfOk result (λ ran. WritesAll (IsReportBy ran (map P.seen policies.items) script.target script.value script.events.items) (K.taken report.old) (K.taken report.new)) }
     ensures err { OnErr result (WritesSome (IsRunReport (map P.seen policies.items) script.target script.value script.events.items) (K.taken report.old) (K.taken report.new)) }
-    ensures write { (result ≡ Err ReportFault.Write) → Rises (K.faults report.old) (K.faults report.new) × WritesFront (IsRunReport (map P.seen policies.items) script.target script.value script.events.items) (K.taken report.old) (K.taken report.new) }
+    ensures write { (result ≡ Err ReportFault.Write) → Rises (K.faults report.old) (K.faults report.new) × WritesPrefix (IsRunReport (map P.seen policies.items) script.target script.value script.events.items) (K.taken report.old) (K.taken report.new) }
 {
     let Script {
         target,

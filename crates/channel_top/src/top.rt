@@ -6,8 +6,8 @@ ghost use Rattle.channel_top.specs.Inputs.{HasSession, IsGivenItsInput, IsGivenO
 ghost use Rattle.channel_top.specs.Words.{AskForText, AskPlainly, Runs, RunsPlain, name_of};
 ghost use Rattle.channel_top.specs.declared.words.Mode.{Mode};
 ghost use Rattle.channel_top.specs.declared.words.ModeName.TheVariants as name;
-ghost use Rattle.channel_top.specs.Modes.{EndsSession, FillsIn, Finishes, IsDoneIn, IsOutput, IsOutputIn, RefusesIn, RefusesWords, StopsIn, StopsReading, TellsFault, TellsFaultIn, Unheard, UnheardIn};
-ghost use Rattle.session_text.specs.Writing.{WritesAll, WritesFront, WritesSome};
+ghost use Rattle.channel_top.specs.Modes.{EndsSession, FillsIn, Finishes, IsDoneIn, IsOutput, IsOutputIn, RefusesIn, RefusesWords, StopsIn, StopsReading, ReportsFault, ReportsFaultIn, NotListening, NotListeningIn};
+ghost use Rattle.session_text.specs.Writing.{WritesAll, WritesPrefix, WritesSome};
 ghost use Rattle.policy_rack.specs.Kinds.{are_ready};
 
 use crate::config_mode::run_config;
@@ -18,8 +18,8 @@ use crate::migrate::run_migrate;
 use crate::promise::sessions_keep_the_promise;
 use crate::relay::relay_as_promised;
 use crate::replay::run_replay;
+use crate::reporting::WORDS_FAULT;
 use crate::serve::run_serve;
-use crate::tell::WORDS_FAULT;
 use crate::words::{Asked, Mode, WordsFault, read_words};
 use dns_watch::NamedWorld;
 use gate_io::{Listener, Sink, Source, SteadySink, SteadySource, write_whole};
@@ -29,7 +29,7 @@ use std::alloc::Global;
 use std::sync::Wait;
 use std::thread::Threads;
 
-/// Runs the program on the words behind its name, with these policies, of which no two are of one kind and one is `pick_first`.
+/// Runs the program on the words after its name, with these policies, of which no two are of one kind and one is `pick_first`.
 ///
 /// | Words | What it does |
 /// |---|---|
@@ -40,18 +40,18 @@ use std::thread::Threads;
 /// | `load --seed <n> --calls <1..10000>` | reads nothing, plays the session that is made from the seed in memory, on both links of a scripted server, and writes the line that sums it up |
 /// | `live [--seed <n>] [--nets <1..4>] [--keepalive <ms>] [--keepalive-timeout <ms>]` | reads a live script, makes its calls over the world's links, and writes the report of the session; it may never return |
 /// | `relay --port <n> --links <1..1024> --seed <n> --nets <1..4>` | reads a live script without calls, makes each call that comes over so many links of the listener over the world's links, and writes the report of the session; it may never return |
-/// | `--help`, `--version`, alone or behind a mode | writes that text, and reads nothing |
+/// | `--help`, `--version`, alone or after a mode | writes that text, and reads nothing |
 ///
 /// | Status | When | Written |
 /// |---|---|---|
 /// | 0 | done | the whole output of the mode; nothing for a script or a report of no bytes |
-/// | 2 | there is no first word, it is no mode, `clap` refuses the words behind it, or `load` finds no `round_robin` among the policies | `fault words` |
+/// | 2 | there is no first word, it is no mode, `clap` refuses the words after it, or `load` finds no `round_robin` among the policies | `fault words` |
 /// | 3 | a line of the script or report is bad, or the config has a fault | `fault line <n> cause <c>`, or `fault config <n> <detail>` |
 /// | 4 | a read failed before the input's end and its first fault | nothing |
-/// | 5 | a write failed | a front of the output of status 0, 2, 3 or 7 |
-/// | 6 | out of memory | nothing, or such a front |
+/// | 5 | a write failed | a prefix of the output of status 0, 2, 3 or 7 |
+/// | 6 | out of memory | nothing, or such a prefix |
 /// | 7 | the journal of the session has no room for an event | the report of the events before it, but for `load`, and `fault session full` |
-/// | 8 | the listener's `open` or `accept` failed; no call of it was made behind that one | nothing |
+/// | 8 | the listener's `open` or `accept` failed; no call of it was made after that one | nothing |
 pub fn run_channel<R: Threads + Wait + Sync, S: Source, K: Sink, W: NamedWorld, L: Listener>(
     rt: &R,
     alloc: Global,
@@ -65,13 +65,13 @@ pub fn run_channel<R: Threads + Wait + Sync, S: Source, K: Sink, W: NamedWorld, 
     requires { are_ready (map (λ b. seen b) boxes.items) ≡ true }
     ensures done { result ≡ 0 → WritesAll (Finishes (map (λ b. seen b) boxes.items) (W.held world) (map string_bytes words.now) (S.left script.old) (S.left script.new)) (K.taken report.old) (K.taken report.new) }
     ensures words { result ≡ 2 → WritesAll (RefusesWords (map (λ b. seen b) boxes.items) (map string_bytes words.now) (S.left script.old) (S.left script.new)) (K.taken report.old) (K.taken report.new) }
-    ensures fault { result ≡ 3 → WritesAll (TellsFault (map (λ b. seen b) boxes.items) (map string_bytes words.now) (S.left script.old) (S.left script.new)) (K.taken report.old) (K.taken report.new) }
+    ensures fault { result ≡ 3 → WritesAll (ReportsFault (map (λ b. seen b) boxes.items) (map string_bytes words.now) (S.left script.old) (S.left script.new)) (K.taken report.old) (K.taken report.new) }
     ensures reading { result ≡ 4 → StopsReading (map string_bytes words.now) (S.left script.old) (S.left script.new) (K.taken report.old) (K.taken report.new) (S.faults script.old) (S.faults script.new) }
-    ensures writing { result ≡ 5 → Rises (K.faults report.old) (K.faults report.new) × WritesFront (IsOutput (map (λ b. seen b) boxes.items) (W.held world) (map string_bytes words.now) (S.left script.old) (S.left script.new)) (K.taken report.old) (K.taken report.new) }
+    ensures writing { result ≡ 5 → Rises (K.faults report.old) (K.faults report.new) × WritesPrefix (IsOutput (map (λ b. seen b) boxes.items) (W.held world) (map string_bytes words.now) (S.left script.old) (S.left script.new)) (K.taken report.old) (K.taken report.new) }
     ensures memory { result ≡ 6 → WritesSome (IsOutput (map (λ b. seen b) boxes.items) (W.held world) (map string_bytes words.now) (S.left script.old) (S.left script.new)) (K.taken report.old) (K.taken report.new) }
     ensures full { result ≡ 7 → WritesAll (EndsSession (map (λ b. seen b) boxes.items) (W.held world) (map string_bytes words.now) (S.left script.old) (S.left script.new)) (K.taken report.old) (K.taken report.new) }
-    ensures unheard { result ≡ 8 → Unheard (map string_bytes words.now) (S.left script.old) (S.left script.new) (K.taken report.old) (K.taken report.new) (L.faults listener.old) (L.faults listener.new) }
-    ensures heard { result ≢ 6 → result ≢ 8 → L.faults listener.new ≡ L.faults listener.old }
+    ensures not_listening { result ≡ 8 → NotListening (map string_bytes words.now) (S.left script.old) (S.left script.new) (K.taken report.old) (K.taken report.new) (L.faults listener.old) (L.faults listener.new) }
+    ensures listened { result ≢ 6 → result ≢ 8 → L.faults listener.new ≡ L.faults listener.old }
     ensures known { (result ≡ 0) ⊎ (result ≡ 2) ⊎ (result ≡ 3) ⊎ (result ≡ 4) ⊎ (result ≡ 5) ⊎ (result ≡ 6) ⊎ (result ≡ 7) ⊎ (result ≡ 8) }
     // A script whose session is within the limits is run to its end, if no read or write fails and memory does not end.
     ensures complete { RunsPlain name.Replay (map string_bytes words.now) → IsRunnable (map (λ b. seen b) boxes.items) (S.left script.old) → (Rises (S.faults script.old) (S.faults script.new) → ⊥) → (Rises (K.faults report.old) (K.faults report.new) → ⊥) → (result ≡ 0) ⊎ (result ≡ 6) }
@@ -79,7 +79,7 @@ pub fn run_channel<R: Threads + Wait + Sync, S: Source, K: Sink, W: NamedWorld, 
     ensures short { RunsPlain name.Replay (map string_bytes words.now) → IsShortScript (S.left script.old) → (Rises (S.faults script.old) (S.faults script.new) → ⊥) → (Rises (K.faults report.old) (K.faults report.new) → ⊥) → (result ≡ 0) ⊎ (result ≡ 6) }
     // A mode that is given what it reads is done, if no device fails and memory does not end; the journal of its session may get full.
     ensures good { (given : IsGivenItsInput (map (λ b. seen b) boxes.items) (map string_bytes words.now) (S.left script.old)) → (Rises (S.faults script.old) (S.faults script.new) → ⊥) → (Rises (K.faults report.old) (K.faults report.new) → ⊥) → (L.faults listener.new ≡ one_more (L.faults listener.old) → ⊥) → (result ≡ 0) ⊎ (result ≡ 6) ⊎ ((result ≡ 7) × HasSession (name_of given.mode)) }
-    // One that is given anything else tells its fault.
+    // One that is given anything else reports its fault.
     ensures bad { IsGivenOther (map (λ b. seen b) boxes.items) (map string_bytes words.now) (S.left script.old) → (Rises (S.faults script.old) (S.faults script.new) → ⊥) → (Rises (K.faults report.old) (K.faults report.new) → ⊥) → (result ≡ 3) ⊎ (result ≡ 6) }
     // Words that ask for help or the version in the plain way get that text.
     ensures asked { AskPlainly (map string_bytes words.now) → (Rises (K.faults report.old) (K.faults report.new) → ⊥) → (result ≡ 0) ⊎ (result ≡ 6) }
@@ -111,13 +111,13 @@ fn run_words<
     requires { are_ready (map P.seen policies.items) ≡ true }
     ensures done { result ≡ 0 → WritesAll (Finishes (map P.seen policies.items) (W.held world) (map string_bytes words.now) (S.left script.old) (S.left script.new)) (K.taken report.old) (K.taken report.new) }
     ensures words { result ≡ 2 → WritesAll (RefusesWords (map P.seen policies.items) (map string_bytes words.now) (S.left script.old) (S.left script.new)) (K.taken report.old) (K.taken report.new) }
-    ensures fault { result ≡ 3 → WritesAll (TellsFault (map P.seen policies.items) (map string_bytes words.now) (S.left script.old) (S.left script.new)) (K.taken report.old) (K.taken report.new) }
+    ensures fault { result ≡ 3 → WritesAll (ReportsFault (map P.seen policies.items) (map string_bytes words.now) (S.left script.old) (S.left script.new)) (K.taken report.old) (K.taken report.new) }
     ensures reading { result ≡ 4 → StopsReading (map string_bytes words.now) (S.left script.old) (S.left script.new) (K.taken report.old) (K.taken report.new) (S.faults script.old) (S.faults script.new) }
-    ensures writing { result ≡ 5 → Rises (K.faults report.old) (K.faults report.new) × WritesFront (IsOutput (map P.seen policies.items) (W.held world) (map string_bytes words.now) (S.left script.old) (S.left script.new)) (K.taken report.old) (K.taken report.new) }
+    ensures writing { result ≡ 5 → Rises (K.faults report.old) (K.faults report.new) × WritesPrefix (IsOutput (map P.seen policies.items) (W.held world) (map string_bytes words.now) (S.left script.old) (S.left script.new)) (K.taken report.old) (K.taken report.new) }
     ensures memory { result ≡ 6 → WritesSome (IsOutput (map P.seen policies.items) (W.held world) (map string_bytes words.now) (S.left script.old) (S.left script.new)) (K.taken report.old) (K.taken report.new) }
     ensures full { result ≡ 7 → WritesAll (EndsSession (map P.seen policies.items) (W.held world) (map string_bytes words.now) (S.left script.old) (S.left script.new)) (K.taken report.old) (K.taken report.new) }
-    ensures unheard { result ≡ 8 → Unheard (map string_bytes words.now) (S.left script.old) (S.left script.new) (K.taken report.old) (K.taken report.new) (L.faults listener.old) (L.faults listener.new) }
-    ensures heard { result ≢ 6 → result ≢ 8 → L.faults listener.new ≡ L.faults listener.old }
+    ensures not_listening { result ≡ 8 → NotListening (map string_bytes words.now) (S.left script.old) (S.left script.new) (K.taken report.old) (K.taken report.new) (L.faults listener.old) (L.faults listener.new) }
+    ensures listened { result ≢ 6 → result ≢ 8 → L.faults listener.new ≡ L.faults listener.old }
     ensures known { (result ≡ 0) ⊎ (result ≡ 2) ⊎ (result ≡ 3) ⊎ (result ≡ 4) ⊎ (result ≡ 5) ⊎ (result ≡ 6) ⊎ (result ≡ 7) ⊎ (result ≡ 8) }
 {
     match read_words(alloc, words) {
@@ -165,13 +165,13 @@ fn run_mode<
     requires { are_ready (map P.seen policies.items) ≡ true }
     ensures done { result ≡ 0 → WritesAll (IsDoneIn (map P.seen policies.items) (W.held world) mode (S.left script.old) (S.left script.new)) (K.taken report.old) (K.taken report.new) }
     ensures words { result ≡ 2 → WritesAll (RefusesIn (map P.seen policies.items) mode (S.left script.old) (S.left script.new)) (K.taken report.old) (K.taken report.new) }
-    ensures fault { result ≡ 3 → WritesAll (TellsFaultIn (map P.seen policies.items) mode (S.left script.old) (S.left script.new)) (K.taken report.old) (K.taken report.new) }
+    ensures fault { result ≡ 3 → WritesAll (ReportsFaultIn (map P.seen policies.items) mode (S.left script.old) (S.left script.new)) (K.taken report.old) (K.taken report.new) }
     ensures reading { result ≡ 4 → StopsIn mode (S.left script.old) (S.left script.new) (K.taken report.old) (K.taken report.new) (S.faults script.old) (S.faults script.new) }
-    ensures writing { result ≡ 5 → Rises (K.faults report.old) (K.faults report.new) × WritesFront (IsOutputIn (map P.seen policies.items) (W.held world) mode (S.left script.old) (S.left script.new)) (K.taken report.old) (K.taken report.new) }
+    ensures writing { result ≡ 5 → Rises (K.faults report.old) (K.faults report.new) × WritesPrefix (IsOutputIn (map P.seen policies.items) (W.held world) mode (S.left script.old) (S.left script.new)) (K.taken report.old) (K.taken report.new) }
     ensures memory { result ≡ 6 → WritesSome (IsOutputIn (map P.seen policies.items) (W.held world) mode (S.left script.old) (S.left script.new)) (K.taken report.old) (K.taken report.new) }
     ensures full { result ≡ 7 → WritesAll (FillsIn (map P.seen policies.items) (W.held world) mode (S.left script.old) (S.left script.new)) (K.taken report.old) (K.taken report.new) }
-    ensures unheard { result ≡ 8 → UnheardIn mode (S.left script.old) (S.left script.new) (K.taken report.old) (K.taken report.new) (L.faults listener.old) (L.faults listener.new) }
-    ensures heard { result ≢ 6 → result ≢ 8 → L.faults listener.new ≡ L.faults listener.old }
+    ensures not_listening { result ≡ 8 → NotListeningIn mode (S.left script.old) (S.left script.new) (K.taken report.old) (K.taken report.new) (L.faults listener.old) (L.faults listener.new) }
+    ensures listened { result ≢ 6 → result ≢ 8 → L.faults listener.new ≡ L.faults listener.old }
     ensures known { (result ≡ 0) ⊎ (result ≡ 2) ⊎ (result ≡ 3) ⊎ (result ≡ 4) ⊎ (result ≡ 5) ⊎ (result ≡ 6) ⊎ (result ≡ 7) ⊎ (result ≡ 8) }
 {
     match mode {
@@ -205,9 +205,9 @@ pub fn run_steady<R: Threads + Wait + Sync, W: NamedWorld, L: Listener>(
     requires { are_ready (map (λ b. seen b) boxes.items) ≡ true }
     ensures done { result ≡ 0 → WritesAll (Finishes (map (λ b. seen b) boxes.items) (W.held world) (map string_bytes words.now) (Some script.old) (Some script.new)) None None }
     ensures words { result ≡ 2 → WritesAll (RefusesWords (map (λ b. seen b) boxes.items) (map string_bytes words.now) (Some script.old) (Some script.new)) None None }
-    ensures fault { result ≡ 3 → WritesAll (TellsFault (map (λ b. seen b) boxes.items) (map string_bytes words.now) (Some script.old) (Some script.new)) None None }
+    ensures fault { result ≡ 3 → WritesAll (ReportsFault (map (λ b. seen b) boxes.items) (map string_bytes words.now) (Some script.old) (Some script.new)) None None }
     ensures full { result ≡ 7 → WritesAll (EndsSession (map (λ b. seen b) boxes.items) (W.held world) (map string_bytes words.now) (Some script.old) (Some script.new)) None None }
-    ensures unheard { result ≡ 8 → Unheard (map string_bytes words.now) (Some script.old) (Some script.new) None None (L.faults listener.old) (L.faults listener.new) }
+    ensures not_listening { result ≡ 8 → NotListening (map string_bytes words.now) (Some script.old) (Some script.new) None None (L.faults listener.old) (L.faults listener.new) }
     ensures known { (result ≡ 0) ⊎ (result ≡ 2) ⊎ (result ≡ 3) ⊎ (result ≡ 6) ⊎ (result ≡ 7) ⊎ (result ≡ 8) }
     ensures complete { RunsPlain name.Replay (map string_bytes words.now) → IsRunnable (map (λ b. seen b) boxes.items) (Some script.old) → (result ≡ 0) ⊎ (result ≡ 6) }
     ensures short { RunsPlain name.Replay (map string_bytes words.now) → IsShortScript (Some script.old) → (result ≡ 0) ⊎ (result ≡ 6) }

@@ -105,7 +105,7 @@ fn is_dashes(word: &[u8]) -> bool
     word == b"--".as_slice()
 }
 
-/// Whether nothing stands behind the first word but the end of the options.
+/// Whether nothing stands after the first word but the end of the options.
 fn is_alone(words: &[String]) -> bool
     ensures { IsTrue result ↔ IsAlone (map string_bytes words.now) }
 {
@@ -266,7 +266,7 @@ fn taken_mode(name: ModeName, words: &[String], matches: &ArgMatches<'_>) -> Opt
     }
 }
 
-/// The text for the user that an answer of `clap` has, as what is told of any words that ask for a text.
+/// The text for the user that an answer of `clap` has, as what is reported of any words that ask for a text.
 fn printed(alloc: Global, answer: &Error) -> Result<Asked, WordsFault>
     ensures { (words : List (List ℕ)) → AskForText words → IsAskedBy words result }
 {
@@ -276,7 +276,7 @@ fn printed(alloc: Global, answer: &Error) -> Result<Asked, WordsFault>
     }
 }
 
-/// Reads the words behind the program's name. What they ask for is exact; only which further words ask for a text is left to
+/// Reads the words after the program's name. What they ask for is exact; only which further words ask for a text is left to
 /// the definitions of `clap`.
 pub fn read_words(alloc: Global, words: &[String]) -> Result<Asked, WordsFault>
     ensures { IsAskedBy (map string_bytes words.now) result }

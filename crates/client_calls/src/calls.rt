@@ -17,7 +17,7 @@ pub enum Received {
     /// The initial metadata of the response.
     Head(Metadata),
     Message(Octets),
-    /// The end, behind which nothing more comes.
+    /// The end, after which nothing more comes.
     End(Status),
 }
 

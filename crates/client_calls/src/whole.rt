@@ -19,7 +19,7 @@ use grpc_base::{Caller, Octets, Request};
 use std::alloc::Global;
 use std::sync::Wait;
 
-/// The first message, and those behind it.
+/// The first message, and those after it.
 fn first_message(messages: &[Octets]) -> Option<(&Octets, &[Octets])>
     ensures { MatchOption result (messages.now ≡ []) (λ x. messages.now ≡ x.0.now ∷ x.1.now) }
 {
@@ -162,7 +162,7 @@ fn transfer<W: Wait, P: Caller>(
 }
 
 /// A call whose requests and responses are all at hand: it is begun, each message is sent, it is finished, and the response is received to
-/// its end. A message that comes too late for a call that has ended is passed over. On an error behind the Begin the call is cancelled.
+/// its end. A message that comes too late for a call that has ended is passed over. On an error after the Begin the call is cancelled.
 pub fn exchange<W: Wait, P: Caller>(
     rt: &W,
     alloc: Global,
@@ -178,7 +178,7 @@ pub fn exchange<W: Wait, P: Caller>(
     let call = begin(post, request)?;
     let answer = transfer(rt, alloc, post, call, messages);
     if answer.is_err() {
-        // The error is told already; where the Cancel fails too, the call goes on to its deadline.
+        // The error is reported already; where the Cancel fails too, the call goes on to its deadline.
         let _ = cancel(post, call);
     }
     answer

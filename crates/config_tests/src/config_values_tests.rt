@@ -1,7 +1,7 @@
 // The values of a config: the examples of gRFC A6, fields that are there, absent or wrong, and a path.
 use config_values::{
-    Fault, Field, Object, Place, duration, fields_at, flag, plan_in, size, text, throttle_in, told,
-    value_of,
+    Fault, Field, Object, Place, duration, fields_at, flag, plan_in, reported, size, text,
+    throttle_in, value_of,
 };
 use grpc_base::{
     CallPlan, Code, CodeSet, ConfigFault, Duration, HedgePolicy, RetryPolicy, Throttle,
@@ -102,9 +102,9 @@ fn reads_fields_that_may_be_absent(rt: HostRuntime) -> Result<(), Fail> {
 }
 
 #[test]
-fn tells_the_path_of_a_fault(rt: HostRuntime) -> Result<(), Fail> {
+fn reports_the_path_of_a_fault(rt: HostRuntime) -> Result<(), Fail> {
     let place = Place::Element(Object::RetryPolicy(1), Field::RetryableStatusCodes, 20);
-    let ConfigFault::Field { path } = told(rt.alloc(), Fault::Wrong(place)) else {
+    let ConfigFault::Field { path } = reported(rt.alloc(), Fault::Wrong(place)) else {
         return Err("a fault of a field".into());
     };
     assert_eq!(rt;

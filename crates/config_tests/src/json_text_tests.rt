@@ -5,7 +5,7 @@ use std::alloc::Global;
 use std::test::Fail;
 
 /// The number of the fault and its place, and 0 for none.
-fn tells(alloc: Global, text: &[u8]) -> (u64, u64) {
+fn reports_that(alloc: Global, text: &[u8]) -> (u64, u64) {
     match read_json(alloc, text) {
         Ok(_) => (0, 0),
         Err(JsonFault::Syntax { at }) => (1, at),
@@ -80,7 +80,7 @@ fn reads_the_longest_list(rt: HostRuntime) -> Result<(), Fail> {
     Ok(())
 }
 
-/// 32 levels are read whole, and the bracket that opens one more is told.
+/// 32 levels are read whole, and the bracket that opens one more is reported.
 #[test]
 fn reads_the_deepest_text(rt: HostRuntime) -> Result<(), Fail> {
     let mut text = b"{\"a\":".to_vec(rt.alloc())?;
@@ -97,13 +97,13 @@ fn reads_the_deepest_text(rt: HostRuntime) -> Result<(), Fail> {
     }
     assert_eq!(rt; level.as_list().map(<[Json]>::len), Some(0));
     text.truncate(36);
-    assert_eq!(rt; tells(rt.alloc(), &text), (1, 36));
+    assert_eq!(rt; reports_that(rt.alloc(), &text), (1, 36));
     text.push(b'{')?;
-    assert_eq!(rt; tells(rt.alloc(), &text), (3, 36));
+    assert_eq!(rt; reports_that(rt.alloc(), &text), (3, 36));
     Ok(())
 }
 
-/// 7,281 names in one object, the greatest first; one of them once more is told.
+/// 7,281 names in one object, the greatest first; one of them once more is reported.
 #[test]
 fn reads_the_most_names(rt: HostRuntime) -> Result<(), Fail> {
     let alloc = rt.alloc();
@@ -111,7 +111,7 @@ fn reads_the_most_names(rt: HostRuntime) -> Result<(), Fail> {
     for name in (1721..9001u64).rev() {
         text.extend_from_slice(format!(in alloc; "\"{name}\":{},", name % 10)?.as_bytes())?;
     }
-    let front = text.len();
+    let prefix = text.len();
     text.extend_from_slice(b"\"\":0}")?;
     text.resize(65536, b' ')?;
     let value = read(alloc, &text)?;
@@ -123,9 +123,9 @@ fn reads_the_most_names(rt: HostRuntime) -> Result<(), Fail> {
         assert_eq!(rt; name.as_slice(), want.as_bytes());
         assert_eq!(rt; number.as_number(), Some(digit.as_bytes()), "{want}");
     }
-    text.truncate(front);
+    text.truncate(prefix);
     text.extend_from_slice(b"\"5000\"")?;
-    assert_eq!(rt; tells(alloc, &text), (2, front as u64));
+    assert_eq!(rt; reports_that(alloc, &text), (2, prefix as u64));
     Ok(())
 }
 

@@ -93,7 +93,7 @@ fn counts_items_with_repeats(rt: HostRuntime) -> Result<(), Fail> {
 }
 
 /// The scheme and the authority of a target, or the name of its fault.
-fn told(alloc: Global, text: &[u8]) -> Result<String, Fail> {
+fn reported(alloc: Global, text: &[u8]) -> Result<String, Fail> {
     let target = match read_any_target(alloc, text) {
         Ok(target) => target,
         Err(fault) => return Ok(format!(in alloc; "{fault:?}")?),
@@ -166,13 +166,13 @@ dns:x,y> BadHost";
 fn reads_targets_of_either_scheme(rt: HostRuntime) -> Result<(), Fail> {
     for line in ANY_TARGETS.lines() {
         let (text, want) = line.split_once("> ").ok_or("a line")?;
-        let got = told(rt.alloc(), text.as_bytes())?;
+        let got = reported(rt.alloc(), text.as_bytes())?;
         assert_eq!(rt; got.as_str(), want, "of {text}");
     }
     Ok(())
 }
 
-/// A text of `a` with a dot behind each label of this many bytes.
+/// A text of `a` with a dot after each label of this many bytes.
 fn host_of(alloc: Global, label: u32, size: u32) -> Result<String, AllocError> {
     let mut host = String::new(alloc);
     let mut left = label;
@@ -210,7 +210,7 @@ fn hosts_have_their_bounds(rt: HostRuntime) -> Result<(), Fail> {
             } else {
                 String::from_str(alloc, "BadHost")?
             };
-            let got = told(alloc, text.as_bytes())?;
+            let got = reported(alloc, text.as_bytes())?;
             assert_eq!(rt;
                 got.as_str(),
                 want.as_str(),
@@ -226,7 +226,7 @@ fn counts_items_of_either_reader_alike(rt: HostRuntime) -> Result<(), Fail> {
     let alloc = rt.alloc();
     for (count, want) in [(64, "ipv4 10.0.0.0:443"), (65, "TooMany")] {
         let text = many(&rt, count, false)?;
-        let got = told(alloc, text.as_bytes())?;
+        let got = reported(alloc, text.as_bytes())?;
         assert_eq!(rt; got.as_str(), want, "{count} items");
     }
     Ok(())

@@ -4,16 +4,16 @@ use service_config::{Config, append_config, append_fault, config_text, fault_tex
 use std::alloc::Global;
 use std::test::Fail;
 
-/// What is told of a text: the lines of its reading, or that of its fault.
-fn told_for(alloc: Global, text: &[u8], kinds: KindSet) -> Result<Vec<u8>, Fail> {
+/// What is reported of a text: the lines of its reading, or that of its fault.
+fn reported_for(alloc: Global, text: &[u8], kinds: KindSet) -> Result<Vec<u8>, Fail> {
     match read_config(alloc, text, kinds) {
         Ok(config) => Ok(config_text(alloc, &config)?),
         Err(fault) => Ok(fault_text(alloc, &fault)?),
     }
 }
 
-fn told(alloc: Global, text: &[u8]) -> Result<Vec<u8>, Fail> {
-    told_for(alloc, text, KindSet::all())
+fn reported(alloc: Global, text: &[u8]) -> Result<Vec<u8>, Fail> {
+    reported_for(alloc, text, KindSet::all())
 }
 
 /// The kinds that are supported decide.
@@ -34,8 +34,8 @@ fn reads_for_the_kinds_that_are_supported(rt: HostRuntime) -> Result<(), Fail> {
         (r#"{"loadBalancingPolicy":"pick_first"}"#, second, none),
         (r#"{"loadBalancingPolicy":"round_robin"}"#, second, other),
     ] {
-        let told = told_for(rt.alloc(), text.as_bytes(), kinds)?;
-        assert_eq!(rt; std::str::from_utf8(&told)?, want, "{text}");
+        let reported = reported_for(rt.alloc(), text.as_bytes(), kinds)?;
+        assert_eq!(rt; std::str::from_utf8(&reported)?, want, "{text}");
     }
     Ok(())
 }
@@ -44,12 +44,12 @@ fn reads_for_the_kinds_that_are_supported(rt: HostRuntime) -> Result<(), Fail> {
 fn reads_no_field_of_the_empty_config(rt: HostRuntime) -> Result<(), Fail> {
     let mut text = Vec::new(rt.alloc());
     append_config(&mut text, &Config::empty(rt.alloc()))?;
-    assert_eq!(rt; text.as_slice(), told(rt.alloc(), b"{}")?.as_slice());
+    assert_eq!(rt; text.as_slice(), reported(rt.alloc(), b"{}")?.as_slice());
     Ok(())
 }
 
 #[test]
-fn writes_a_fault_behind_other_text(rt: HostRuntime) -> Result<(), Fail> {
+fn writes_a_fault_after_other_text(rt: HostRuntime) -> Result<(), Fail> {
     let fault = ConfigFault::Json {
         fault: JsonFault::TooDeep { at: 17 },
     };

@@ -24,12 +24,12 @@ found_within m n e =
     let same = arm_of (nat_le m (10 ^ 18)) (Some m) n e in
     grind (arith, nat_tests)
 
-by_within : (front : List ℕ) (digits : Option (List ℕ)) (n : ℕ) → nanos_by front digits ≡ Some n → n ≤ 10 ^ 18
-by_within front None n e =
-    found_within (number_of front * 10 ^ 9) n (arm_of (is_number front) (nanos_found (number_of front * 10 ^ 9)) n e)
-by_within front (Some digits) n e =
-    found_within (number_of front * 10 ^ 9 + fraction_of (10 ^ 9) digits) n
-    (arm_of (is_number front && is_number digits && nat_le (length digits) 9) (nanos_found (number_of front * 10 ^ 9 + fraction_of (10 ^ 9) digits)) n e)
+by_within : (prefix : List ℕ) (digits : Option (List ℕ)) (n : ℕ) → nanos_by prefix digits ≡ Some n → n ≤ 10 ^ 18
+by_within prefix None n e =
+    found_within (number_of prefix * 10 ^ 9) n (arm_of (is_number prefix) (nanos_found (number_of prefix * 10 ^ 9)) n e)
+by_within prefix (Some digits) n e =
+    found_within (number_of prefix * 10 ^ 9 + fraction_of (10 ^ 9) digits) n
+    (arm_of (is_number prefix && is_number digits && nat_le (length digits) 9) (nanos_found (number_of prefix * 10 ^ 9 + fraction_of (10 ^ 9) digits)) n e)
 
 pub nanos_within : (text : List ℕ) (n : ℕ) → nanos_of text ≡ Some n → n ≤ 10 ^ 18
 nanos_within text n e =
@@ -44,35 +44,35 @@ both false b e = absurd (cc)
 milli_within : (m n : ℕ) (b : Bool) → milli_found m b ≡ Some n → n ≡ m
 milli_within m n b e = let same = arm_of (b && nat_lt 0 m) (Some m) n e in cc
 
-ratio_by : (front : List ℕ) (digits : Option (List ℕ)) (n : ℕ) → within_thousand front digits ≡ true → milli_by front digits ≡ Some n → n < 2 ^ 32
-ratio_by front None n w e =
-    let is = milli_within (number_of front * 1000) n (nat_le (number_of front) 1000000)
-    (arm_of (is_number front && is_canonical front) (milli_found (number_of front * 1000) (nat_le (number_of front) 1000000)) n e) in
+ratio_by : (prefix : List ℕ) (digits : Option (List ℕ)) (n : ℕ) → within_thousand prefix digits ≡ true → milli_by prefix digits ≡ Some n → n < 2 ^ 32
+ratio_by prefix None n w e =
+    let is = milli_within (number_of prefix * 1000) n (nat_le (number_of prefix) 1000000)
+    (arm_of (is_number prefix && is_canonical prefix) (milli_found (number_of prefix * 1000) (nat_le (number_of prefix) 1000000)) n e) in
     grind (arith, nat_tests)
-ratio_by front (Some digits) n w e = small (nat_lt (number_of front) 1000000 || ((number_of front == 1000000) && list_all (λ d. d == 48) digits)) e
+ratio_by prefix (Some digits) n w e = small (nat_lt (number_of prefix) 1000000 || ((number_of prefix == 1000000) && list_all (λ d. d == 48) digits)) e
   where
-    front_bound : (v : ℕ) (zeros : Bool) → (nat_lt v 1000 || ((v == 1000) && zeros)) ≡ true → v ≤ 1000
-    front_bound v zeros e = grind (arith, nat_tests)
+    prefix_bound : (v : ℕ) (zeros : Bool) → (nat_lt v 1000 || ((v == 1000) && zeros)) ≡ true → v ≤ 1000
+    prefix_bound v zeros e = grind (arith, nat_tests)
 
-    digits_are : (is_number front && is_canonical front && is_number digits) ≡ true → is_number digits ≡ true
-    digits_are t = (both (is_number front && is_canonical front) (is_number digits) t).1
+    digits_are : (is_number prefix && is_canonical prefix && is_number digits) ≡ true → is_number digits ≡ true
+    digits_are t = (both (is_number prefix && is_canonical prefix) (is_number digits) t).1
 
-    small : (b : Bool) → (if is_number front && is_canonical front && is_number digits then milli_found (number_of front * 1000 + fraction_of 1000 digits) b else None) ≡ Some n → n < 2 ^ 32
+    small : (b : Bool) → (if is_number prefix && is_canonical prefix && is_number digits then milli_found (number_of prefix * 1000 + fraction_of 1000 digits) b else None) ≡ Some n → n < 2 ^ 32
     small b e =
-        let tests = test_of (is_number front && is_canonical front && is_number digits) (milli_found (number_of front * 1000 + fraction_of 1000 digits) b) n e in
-        let is = milli_within (number_of front * 1000 + fraction_of 1000 digits) n b
-        (arm_of (is_number front && is_canonical front && is_number digits) (milli_found (number_of front * 1000 + fraction_of 1000 digits) b) n e) in
-        omega (arith, is, front_bound (number_of front) (list_all (λ d. d == 48) digits) w, fraction_below 1000 digits (digits_are tests))
+        let tests = test_of (is_number prefix && is_canonical prefix && is_number digits) (milli_found (number_of prefix * 1000 + fraction_of 1000 digits) b) n e in
+        let is = milli_within (number_of prefix * 1000 + fraction_of 1000 digits) n b
+        (arm_of (is_number prefix && is_canonical prefix && is_number digits) (milli_found (number_of prefix * 1000 + fraction_of 1000 digits) b) n e) in
+        omega (arith, is, prefix_bound (number_of prefix) (list_all (λ d. d == 48) digits) w, fraction_below 1000 digits (digits_are tests))
 
 pub ratio_within : (text : List ℕ) (n : ℕ) → within_thousand (parts_of text).0 (parts_of text).1 ≡ true → milli_of text ≡ Some n → n < 2 ^ 32
 ratio_within text n w e = ratio_by (parts_of text).0 (parts_of text).1 n w e
 
 -- a text that is a multiplier has a number before its point
-number_by : (front : List ℕ) (digits : Option (List ℕ)) (n : ℕ) → milli_by front digits ≡ Some n → is_number front ≡ true
-number_by front None n e =
-    (both (is_number front) (is_canonical front) (test_of (is_number front && is_canonical front) _ n e)).0
-number_by front (Some digits) n e =
-    (both (is_number front) (is_canonical front) (both (is_number front && is_canonical front) (is_number digits) (test_of (is_number front && is_canonical front && is_number digits) _ n e)).0).0
+number_by : (prefix : List ℕ) (digits : Option (List ℕ)) (n : ℕ) → milli_by prefix digits ≡ Some n → is_number prefix ≡ true
+number_by prefix None n e =
+    (both (is_number prefix) (is_canonical prefix) (test_of (is_number prefix && is_canonical prefix) _ n e)).0
+number_by prefix (Some digits) n e =
+    (both (is_number prefix) (is_canonical prefix) (both (is_number prefix && is_canonical prefix) (is_number digits) (test_of (is_number prefix && is_canonical prefix && is_number digits) _ n e)).0).0
 
 pub multiplier_number : (text : List ℕ) (n : ℕ) → milli_of text ≡ Some n → is_number (parts_of text).0 ≡ true
 multiplier_number text n e = number_by (parts_of text).0 (parts_of text).1 n e

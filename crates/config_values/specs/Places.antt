@@ -2,7 +2,7 @@
 -- of elements from 0 in brackets.
 use Rattle.std.specs.Prelude.{ℕ, List, [], ◌∷◌, ◌++◌, codes, decimal}
 use Rattle.grpc_base.specs.declared.event.ConfigFault.{ConfigFault}
-use Rattle.grpc_base.specs.declared.event.ConfigFault.TheVariants as told
+use Rattle.grpc_base.specs.declared.event.ConfigFault.TheVariants as reported
 use Rattle.config_values.specs.declared.place.Field.{Field}
 use Rattle.config_values.specs.declared.place.Field.TheVariants as field
 use Rattle.config_values.specs.declared.place.Object.{Object}
@@ -66,10 +66,10 @@ path_of (place.Whole o) = object_path o
 path_of (place.Field o f) = member_path o f
 path_of (place.Element o f i) = member_path o f ++ element_step i
 
--- a fault as it is told, with its path
-abbrev pub told_of : Fault → ConfigFault
-told_of (fault.Wrong p) = told.Field (path_of p)
-told_of (fault.BothPolicies i) = told.BothPolicies (path_of (place.Whole (object.Entry i)))
-told_of (fault.RepeatedName i j) = told.RepeatedName (path_of (place.Whole (object.Name i j)))
-told_of fault.NoSupportedPolicy = told.NoSupportedPolicy
-told_of fault.NoMemory = told.NoMemory
+-- a fault as it is reported, with its path
+abbrev pub reported_of : Fault → ConfigFault
+reported_of (fault.Wrong p) = reported.Field (path_of p)
+reported_of (fault.BothPolicies i) = reported.BothPolicies (path_of (place.Whole (object.Entry i)))
+reported_of (fault.RepeatedName i j) = reported.RepeatedName (path_of (place.Whole (object.Name i j)))
+reported_of fault.NoSupportedPolicy = reported.NoSupportedPolicy
+reported_of fault.NoMemory = reported.NoMemory

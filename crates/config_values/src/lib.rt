@@ -9,6 +9,6 @@ mod plan;
 mod value;
 
 pub use field::{duration, fields_at, flag, size, text, value_of};
-pub use path::told;
+pub use path::reported;
 pub use place::{Fault, Field, Object, Place};
 pub use plan::{plan_in, throttle_in};

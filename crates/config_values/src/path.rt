@@ -1,7 +1,7 @@
 // The paths of values that are at fault.
 ghost use Rattle.std.specs.Prelude.{◌≡◌, ◌++◌, ◌⊎◌, IfOk, OnOk};
-ghost use Rattle.config_values.specs.Places.{member_step, element_step, entry_path, object_path, member_path, path_of, told_of};
-ghost use Rattle.grpc_base.specs.declared.event.ConfigFault.TheVariants as told;
+ghost use Rattle.config_values.specs.Places.{member_step, element_step, entry_path, object_path, member_path, path_of, reported_of};
+ghost use Rattle.grpc_base.specs.declared.event.ConfigFault.TheVariants as reported;
 
 use crate::place::{Fault, Field, Object, Place};
 use grpc_base::{ConfigFault, NoMemory, Text, append_decimal};
@@ -94,9 +94,9 @@ fn path_of(alloc: Global, place: Place) -> Result<Text, NoMemory>
 
 /// A fault with its path.
 fn with_path(alloc: Global, fault: Fault) -> Result<ConfigFault, NoMemory>
-    ensures { IfOk result (λ f. f ≡ told_of fault) }
+    ensures { IfOk result (λ f. f ≡ reported_of fault) }
 {
-    let told = match fault {
+    let reported = match fault {
         Fault::Wrong(place) => ConfigFault::Field {
             path: path_of(alloc, place)?,
         },
@@ -109,15 +109,15 @@ fn with_path(alloc: Global, fault: Fault) -> Result<ConfigFault, NoMemory>
         Fault::NoSupportedPolicy => ConfigFault::NoSupportedPolicy,
         Fault::NoMemory => ConfigFault::NoMemory,
     };
-    Ok(told)
+    Ok(reported)
 }
 
-/// A fault as it is told, or that memory ran out.
-pub fn told(alloc: Global, fault: Fault) -> ConfigFault
-    ensures { (result ≡ told_of fault) ⊎ (result ≡ told.NoMemory) }
+/// A fault as it is reported, or that memory ran out.
+pub fn reported(alloc: Global, fault: Fault) -> ConfigFault
+    ensures { (result ≡ reported_of fault) ⊎ (result ≡ reported.NoMemory) }
 {
     match with_path(alloc, fault) {
-        Ok(told) => told,
+        Ok(reported) => reported,
         Err(_) => ConfigFault::NoMemory,
     }
 }

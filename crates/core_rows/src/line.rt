@@ -17,7 +17,7 @@ pub fn read(alloc: Global, line: &str) -> Result<Given, Wrong> {
     Ok(Given { times, bytes })
 }
 
-/// The beginning of a line, for what is told of it.
+/// The beginning of a line, for what is reported of it.
 pub fn beginning(line: &str) -> &str {
     line.get(..40).unwrap_or(line)
 }

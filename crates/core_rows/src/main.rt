@@ -2,20 +2,20 @@
 #![tactic(auto)]
 
 mod line;
+mod reported;
 mod stepped;
-mod told;
 
 use std::io;
 use stepped::Stepped;
 
-/// Standard input has the scripts, one behind another.
+/// Standard input has the scripts, one after another.
 fn main(rt: HostRuntime) -> io::Result<()> {
     let Ok(mut stepped) = Stepped::new(rt.alloc()) else {
         return println!(rt; "no channel");
     };
     for line in rt.lines(rt.alloc()) {
         let line = line?;
-        told::print_line(&rt, &mut stepped, line.as_str())?;
+        reported::print_line(&rt, &mut stepped, line.as_str())?;
     }
     Ok(())
 }

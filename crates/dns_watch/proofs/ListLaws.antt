@@ -13,7 +13,7 @@ begins_by : (kept : List Address) (a : Address) (rest : List Address) (b : Bool)
 begins_by kept a rest true same longer = same
 begins_by kept a rest false same longer = (a ∷ longer.0, longer.1 ∙ append_assoc kept (a ∷ []) longer.0)
 
--- what is kept stays at the front
+-- what is kept stays at the start
 begins : (kept rest : List Address) → (more : List Address) × (fold with_address kept rest ≡ kept ++ more)
 begins kept [] = ([], sym (append-nil kept))
 begins kept (a ∷ rest) = begins_by kept a rest (has_address kept a) (begins kept rest) (begins (kept ++ a ∷ []) rest)

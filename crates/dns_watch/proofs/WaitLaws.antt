@@ -29,7 +29,7 @@ still_by n word false beyond =
 wait_still : (n word : ℕ) → connect_wait (min n 4294967295) word ≡ connect_wait n word
 wait_still n word = still_by n word (nat_le n 4294967295) refl
 
--- by what is kept of an answer behind f failures, and by the list
+-- by what is kept of an answer after f failures, and by the list
 abbrev by_kept : DnsAnswer → ℕ → ℕ → Bool → Bool → Bool
 by_kept a f moment wanted found =
     if min (if found then 0 else f + 1) 4294967295 == 0 then wanted && nat_le (a.moment + 30000000000) moment

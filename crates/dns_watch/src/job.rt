@@ -1,11 +1,11 @@
-// The job that looks a name up and tells the channel of it.
+// The job that looks a name up and reports to the channel of it.
 ghost use Rattle.std.specs.Prelude.{◌≡◌, ◌≤◌, ℕ, List, Some, IfOk, true, false};
 ghost use Rattle.grpc_base.specs.Counts.{one_more};
 ghost use Rattle.grpc_base.specs.Limits.{moment_limit};
 ghost use Rattle.grpc_base.specs.declared.event.Event.{Event};
 ghost use Rattle.grpc_base.specs.declared.post.Look.TheVariants as look;
 ghost use Rattle.grpc_base.specs.declared.post.View.{View};
-ghost use Rattle.dns_watch.specs.Turns.{HandleSeen, JobSeen, LooksUp, PostsOne, SearchSeen, Tells, Turns, TurnsIf, TurnsUnless, event_of, is_shut, once_of};
+ghost use Rattle.dns_watch.specs.Turns.{HandleSeen, JobSeen, LooksUp, PostsOne, SearchSeen, ReportsThat, Turns, TurnsIf, TurnsUnless, event_of, is_shut, once_of};
 
 use crate::lookup::is_found;
 use crate::{DnsWatch, Looked, Lookup};
@@ -28,7 +28,7 @@ pub enum DnsOnce {
     Failed(PostError),
 }
 
-/// Looks the name up, and tells the schedule of the answer.
+/// Looks the name up, and reports the schedule of the answer.
 fn look_up<L: Lookup, D: Draws>(
     watch: &mut DnsWatch,
     lookup: &mut L,
@@ -53,7 +53,7 @@ fn share(config: &Option<Octets>) -> Result<Option<Octets>, NoMemory>
     }
 }
 
-/// The event that tells the channel of an answer.
+/// The event that reports to the channel of an answer.
 fn event_of(alloc: Global, answer: Looked, config: &Option<Octets>) -> Result<Event, NoMemory>
     ensures { IfOk result (λ e. e ≡ event_of answer config.now) }
 {
@@ -80,9 +80,9 @@ fn once_of(came: &Result<Reply, PostError>) -> DnsOnce
     }
 }
 
-/// Tells the channel of an answer.
-fn tell<P: Post>(alloc: Global, post: &mut P, answer: Looked, config: &Option<Octets>) -> DnsOnce
-    ensures told { let before : HandleSeen = record { made = P.made post.old; errors = P.errors post.old; last = P.last_error post.old } in let after : HandleSeen = record { made = P.made post.new; errors = P.errors post.new; last = P.last_error post.new } in Tells (event_of answer config.now) before after result }
+/// reports to the channel of an answer.
+fn report<P: Post>(alloc: Global, post: &mut P, answer: Looked, config: &Option<Octets>) -> DnsOnce
+    ensures reported { let before : HandleSeen = record { made = P.made post.old; errors = P.errors post.old; last = P.last_error post.old } in let after : HandleSeen = record { made = P.made post.new; errors = P.errors post.new; last = P.last_error post.new } in ReportsThat (event_of answer config.now) before after result }
     ensures looks { (P.looks post.new ≡ P.looks post.old) × (P.last_look post.new ≡ P.last_look post.old) }
     ensures share { P.share post.new ≡ P.share post.old }
 {
@@ -125,5 +125,5 @@ pub fn dns_once<P: Post + Glance, L: Lookup, C: Clock, D: Draws>(
         return DnsOnce::Nothing;
     }
     let answer = look_up(watch, lookup, moment, draws);
-    tell(alloc, post, answer, config)
+    report(alloc, post, answer, config)
 }

@@ -55,7 +55,7 @@ fn addresses_at(port: u16, ips: &[u32]) -> AddressList
     addresses
 }
 
-/// The first address, and those behind it.
+/// The first address, and those after it.
 fn first_ip(ips: &[u32]) -> Option<(u32, &[u32])>
     ensures { MatchOption result (ips.now ≡ []) (λ x. ips.now ≡ x.0 ∷ x.1.now) }
 {

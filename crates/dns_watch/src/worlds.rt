@@ -76,7 +76,7 @@ impl World for MemNamedWorld {
 impl NamedWorld for MemNamedWorld {
     type Lookup = MemLookup;
 
-    /// The world's lookup. It is handed out once; a later one has no answers.
+    /// The world's lookup. It is passed out once; a later one has no answers.
     fn lookup(&mut self) -> MemLookup
         ensures held { held_by self.new.world.dialers ≡ held_by self.old.world.dialers }
         ensures lookup { result ≡ self.old.lookup }

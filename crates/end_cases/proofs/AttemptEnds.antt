@@ -32,7 +32,7 @@ pub mod Own
 pub mod Picks
 pub mod Rising
 pub mod Sets
-pub mod Told
-pub mod ToldEnd
+pub mod Report
+pub mod ReportedEnd
 pub mod Unowed
 pub mod Whole

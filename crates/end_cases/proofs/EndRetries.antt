@@ -7,5 +7,5 @@ pub mod Next
 pub mod Sets
 pub mod Step
 pub mod Taken
-pub mod ToldQueue
+pub mod ReportedQueue
 pub mod Whole

@@ -1,4 +1,4 @@
-pub mod Behind
+pub mod After
 pub mod Buckets
 pub mod Read
 pub mod Still

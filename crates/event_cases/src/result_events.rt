@@ -1,7 +1,7 @@
 // Results of the resolver and shutdowns that leave the net as it is; nothing runs.
 ghost use Rattle.event_cases.specs.ResultEvents.Laws.{FirstBadConfigsAreAnswered, SecondShutdownsAreAnswered};
 
-use session_order::{boards_stir, calm_is_exact};
+use session_order::{boards_stir, quiescence_is_exact};
 
 /// A Shutdown of a channel that was shut down changes nothing; nor does an invalid config, where none was ever held, change policies or subchannels (gRPC,
 /// "Service Config in gRPC").
@@ -10,5 +10,5 @@ pub fn some_results_are_answered()
     ensures bad { FirstBadConfigsAreAnswered }
 {
     boards_stir();
-    calm_is_exact();
+    quiescence_is_exact();
 }

@@ -6,7 +6,7 @@ use call_cases::other_calls::{calls_stay, sets_stay};
 use channel_actions::kept_sessions::sessions_are_kept;
 use channel_actions::link_frames::links_stay;
 use net_actions::subchannel_steps_are_actions;
-use session_order::{boards_stir, calm_is_exact, policies_stir_apart};
+use session_order::{boards_stir, policies_stir_apart, quiescence_is_exact};
 
 /// In a settling a pending policy takes over, where it may, and wished subchannels connect, until neither is left, alike in channel and session ("gRPC Connectivity
 /// Semantics and API"; "Load Balancing in gRPC").
@@ -15,7 +15,7 @@ pub fn nets_are_settled()
 {
     boards_stir();
     calls_stay();
-    calm_is_exact();
+    quiescence_is_exact();
     chains_are_next();
     links_stay();
     policies_stir_apart();

@@ -1,6 +1,6 @@
 // What is wrong, or strange, with the fields of a config.
 use crate::finding::Finding;
-use crate::json::{place_in, say_end, say_front, say_json};
+use crate::json::{place_in, say_end, say_json, say_prefix};
 use crate::table::{config_fields, nearest, policies, row};
 use crate::walk::{Event, Walk};
 use crate::words::Words;
@@ -25,13 +25,13 @@ pub fn say_config(alloc: Global, out: &mut Words, text: &[u8], fault: &[u8], det
 
 /// Says what stands at a path, and what it takes; or that an entry has both policies.
 fn say_field(alloc: Global, out: &mut Words, text: &[u8], fault: &[u8], path: &[u8]) {
-    let (front, _name) = cut(path);
+    let (prefix, _name) = cut(path);
     let place = place_in(alloc, text, Event::Value, path);
     let at = match place {
         Some(at) => at,
-        None => place_in(alloc, text, Event::Value, front).unwrap_or(0),
+        None => place_in(alloc, text, Event::Value, prefix).unwrap_or(0),
     };
-    say_front(out, text, at);
+    say_prefix(out, text, at);
     if fault == b"3".as_slice() {
         out.finding(&Finding::with(b"both", path, b""));
         return say_end(out, text, at);
@@ -84,7 +84,7 @@ fn say_value(alloc: Global, out: &mut Words, text: &[u8], at: usize) {
 fn say_name(alloc: Global, out: &mut Words, text: &[u8], path: &[u8]) {
     let at = place_in(alloc, text, Event::Value, path).unwrap_or(0);
     let (service, method) = name_at(alloc, text, at);
-    say_front(out, text, at);
+    say_prefix(out, text, at);
     out.finding(&Finding::with(b"name-twice", path, b""));
     out.shown(or_star(service), 60);
     out.text(b"/");
@@ -140,7 +140,7 @@ fn say_policy(alloc: Global, out: &mut Words, text: &[u8]) {
     let (value, _count) = value_at(alloc, text, at);
     let quote = value.iter().position(|b| *b == b'"');
     let asked = value_at(alloc, value, quote.unwrap_or(0)).0;
-    say_front(out, text, at.saturating_add(quote.unwrap_or(0)));
+    say_prefix(out, text, at.saturating_add(quote.unwrap_or(0)));
     let near = nearest(policies(), b"", unquoted(asked)).unwrap_or(b"");
     if quote.is_none() {
         out.finding(&Finding::of(b"no-policy"));
@@ -174,26 +174,26 @@ pub fn warn_config(alloc: Global, out: &mut Words, text: &[u8]) {
 /// Warns of a field that is passed over in an object whose other fields are read.
 fn warn_name(alloc: Global, out: &mut Words, path: &[u8]) {
     let kind = kind_of(alloc, path);
-    let (front, name) = cut(kind.as_slice());
-    if row(config_fields(), b"", kind.as_slice()).is_some() || !has_fields(front) {
+    let (prefix, name) = cut(kind.as_slice());
+    if row(config_fields(), b"", kind.as_slice()).is_some() || !has_fields(prefix) {
         return;
     }
-    let front = if front.is_empty() {
-        front
+    let prefix = if prefix.is_empty() {
+        prefix
     } else {
-        kind.as_slice().get(0..front.len() + 1).unwrap_or(front)
+        kind.as_slice().get(0..prefix.len() + 1).unwrap_or(prefix)
     };
-    let near = nearest(config_fields(), front, name).unwrap_or(b"");
+    let near = nearest(config_fields(), prefix, name).unwrap_or(b"");
     out.line(b"warning:", &Finding::with(b"passed", path, near));
 }
 
 /// Whether fields are read of the objects at a path; at the top they are.
-fn has_fields(front: &[u8]) -> bool {
-    if front.is_empty() {
+fn has_fields(prefix: &[u8]) -> bool {
+    if prefix.is_empty() {
         return true;
     }
     for line in config_fields().as_bytes().split(|b| *b == b'\n') {
-        if let Some(rest) = line.strip_prefix(front)
+        if let Some(rest) = line.strip_prefix(prefix)
             && rest.starts_with(b".")
         {
             return true;

@@ -28,7 +28,7 @@ pub struct Ended<'a> {
     pub words: &'a [String],
     /// Whether all words of the command were text; where one was not, `words` is empty.
     pub are_text: bool,
-    /// The front of what was written to standard output: its first line, if that tells a fault.
+    /// The prefix of what was written to standard output: its first line, if that reports a fault.
     pub output: &'a [u8],
     pub input: &'a Remembered,
     /// Why the last read that failed did.
@@ -77,13 +77,13 @@ pub fn explain(alloc: Global, ended: &Ended<'_>) -> Result<Vec<u8>, NoMemory> {
 /// The warnings about a server script that was read to its end.
 pub fn warn(alloc: Global, input: &Remembered) -> Result<Vec<u8>, NoMemory> {
     let mut out = Words::new(alloc);
-    warn_answers(&mut out, input.front());
+    warn_answers(&mut out, input.prefix());
     out.done()
 }
 
 fn say_done(alloc: Global, out: &mut Words, ended: &Ended<'_>) {
     match mode_of(ended.words) {
-        b"config" => warn_config(alloc, out, ended.input.front()),
+        b"config" => warn_config(alloc, out, ended.input.prefix()),
         b"replay" | b"migrate" if ended.input.bytes() == 0 && ended.words.len() == 1 => {
             out.line(b"warning:", &Finding::of(b"no-input"));
         }
@@ -103,7 +103,7 @@ fn say_fault(alloc: Global, out: &mut Words, ended: &Ended<'_>) {
     if let Some(rest) = line.strip_prefix(b"fault config ")
         && let Some((fault, detail)) = split_at_byte(rest, b' ')
     {
-        say_config(alloc, out, ended.input.front(), fault, detail);
+        say_config(alloc, out, ended.input.prefix(), fault, detail);
     }
 }
 

@@ -39,7 +39,7 @@ fn say_place(out: &mut Words, place: &Place<'_>) {
 }
 
 /// Says the beginning of a sentence about a byte of a text.
-pub fn say_front(out: &mut Words, text: &[u8], at: usize) {
+pub fn say_prefix(out: &mut Words, text: &[u8], at: usize) {
     out.text(b"error: ");
     say_place(out, &place_of(text, at));
     out.text(b":");
@@ -59,7 +59,7 @@ pub fn say_json(alloc: Global, out: &mut Words, text: &[u8], detail: &[u8]) {
         return out.line(b"error:", &Finding::of(b"json-long"));
     }
     let at = read_number(at).unwrap_or(0) as usize;
-    say_front(out, text, at);
+    say_prefix(out, text, at);
     match fault {
         b"2" => say_twice(alloc, out, text, at),
         b"3" => out.finding(&Finding::of(b"json-deep")),

@@ -6,10 +6,10 @@ use std::mem::swap;
 /// How many bytes of its end are remembered at least.
 const LAST: usize = 32_768;
 
-/// An input as far as it is remembered: its front, its last bytes, and how many lines and bytes were read.
+/// An input as far as it is remembered: its prefix, its last bytes, and how many lines and bytes were read.
 #[derive(Debug, Drop)]
 pub struct Remembered {
-    front: Vec<u8>,
+    prefix: Vec<u8>,
     /// The bytes before `last` that are remembered.
     before: Vec<u8>,
     last: Vec<u8>,
@@ -38,7 +38,7 @@ impl Remembered {
     /// Nothing was read yet.
     pub fn new(alloc: Global) -> Remembered {
         Remembered {
-            front: Vec::new(alloc),
+            prefix: Vec::new(alloc),
             before: Vec::new(alloc),
             last: Vec::new(alloc),
             feeds: 0,
@@ -52,13 +52,13 @@ impl Remembered {
         let feeds = piece.iter().filter(|b| **b == b'\n').count();
         self.feeds = self.feeds.saturating_add(feeds as u64);
         self.bytes = self.bytes.saturating_add(piece.len() as u64);
-        let room = CONFIG_BYTES.saturating_sub(self.front.len());
-        let front = piece.get(0..room).unwrap_or(piece);
+        let room = CONFIG_BYTES.saturating_sub(self.prefix.len());
+        let prefix = piece.get(0..room).unwrap_or(piece);
         if self.last.len() >= LAST {
             swap(&mut self.before, &mut self.last);
             self.last.clear();
         }
-        if self.front.extend_from_slice(front).is_err()
+        if self.prefix.extend_from_slice(prefix).is_err()
             || self.last.extend_from_slice(piece).is_err()
         {
             self.lost = true;
@@ -66,11 +66,11 @@ impl Remembered {
     }
 
     /// The first bytes, all of a config.
-    pub fn front(&self) -> &[u8] {
+    pub fn prefix(&self) -> &[u8] {
         if self.lost {
             return b"";
         }
-        self.front.as_slice()
+        self.prefix.as_slice()
     }
 
     /// The last bytes.
@@ -102,7 +102,7 @@ impl Remembered {
                 return last;
             }
         }
-        match line_in(self.front(), number, 1) {
+        match line_in(self.prefix(), number, 1) {
             Some(line) => Some(Line {
                 ends: line.is_fed,
                 ..line

@@ -253,10 +253,10 @@ pub fn policies() -> &'static str {
     "pick_first:\nround_robin:\npriority:"
 }
 
-/// The words of the row whose key is this front and this rest.
-pub fn row(table: &'static str, front: &[u8], key: &[u8]) -> Option<&'static [u8]> {
+/// The words of the row whose key is this prefix and this rest.
+pub fn row(table: &'static str, prefix: &[u8], key: &[u8]) -> Option<&'static [u8]> {
     for line in table.as_bytes().split(|b| *b == b'\n') {
-        if let Some(rest) = line.strip_prefix(front)
+        if let Some(rest) = line.strip_prefix(prefix)
             && let Some(rest) = rest.strip_prefix(key)
             && let Some(words) = rest.strip_prefix(b":")
         {
@@ -266,10 +266,10 @@ pub fn row(table: &'static str, front: &[u8], key: &[u8]) -> Option<&'static [u8
     None
 }
 
-/// The rest of the first key with this front that is spelled nearly so.
-pub fn nearest(table: &'static str, front: &[u8], word: &[u8]) -> Option<&'static [u8]> {
+/// The rest of the first key with this prefix that is spelled nearly so.
+pub fn nearest(table: &'static str, prefix: &[u8], word: &[u8]) -> Option<&'static [u8]> {
     for line in table.as_bytes().split(|b| *b == b'\n') {
-        if let Some(rest) = line.strip_prefix(front) {
+        if let Some(rest) = line.strip_prefix(prefix) {
             let (key, _words) = first_piece(rest, b':');
             if is_near(word, key) {
                 return Some(key);
@@ -281,12 +281,12 @@ pub fn nearest(table: &'static str, front: &[u8], word: &[u8]) -> Option<&'stati
 
 /// Whether two words differ in two letters at most that stand together, and in the case of letters.
 fn is_near(word: &[u8], key: &[u8]) -> bool {
-    let mut front = 0usize;
+    let mut prefix = 0usize;
     for (a, b) in word.iter().zip(key.iter()) {
         if !a.eq_ignore_ascii_case(b) {
             break;
         }
-        front = front.saturating_add(1);
+        prefix = prefix.saturating_add(1);
     }
     let mut back = 0usize;
     for (a, b) in word.iter().rev().zip(key.iter().rev()) {
@@ -295,6 +295,6 @@ fn is_near(word: &[u8], key: &[u8]) -> bool {
         }
         back = back.saturating_add(1);
     }
-    let same = front.saturating_add(back);
+    let same = prefix.saturating_add(back);
     same >= 2 && same.saturating_add(2) >= word.len().max(key.len())
 }

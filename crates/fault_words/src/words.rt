@@ -98,16 +98,16 @@ impl Words {
     }
 
     /// The sentence of a finding that is of no line, after `error:` or `warning:`.
-    pub fn line(&mut self, front: &[u8], finding: &Finding<'_>) {
-        self.text(front);
+    pub fn line(&mut self, prefix: &[u8], finding: &Finding<'_>) {
+        self.text(prefix);
         self.finding(finding);
         self.text(b"\n");
     }
 
-    /// The rests of the keys of a table that have this front.
-    pub fn keys(&mut self, table: &'static str, front: &[u8]) {
+    /// The rests of the keys of a table that have this prefix.
+    pub fn keys(&mut self, table: &'static str, prefix: &[u8]) {
         for line in table.as_bytes().split(|b| *b == b'\n') {
-            if let Some(key) = line.strip_prefix(front) {
+            if let Some(key) = line.strip_prefix(prefix) {
                 self.text(b" ");
                 self.text(first_piece(key, b':').0);
             }

@@ -1,5 +1,5 @@
 pub mod Deaf
-pub mod Heard
+pub mod Received
 pub mod Starts
 pub mod Unheeded
 pub mod Waits

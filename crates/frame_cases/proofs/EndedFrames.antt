@@ -1,9 +1,9 @@
 pub mod Comes
 pub mod Gains
-pub mod Heard
+pub mod Received
 pub mod KeptSlots
 pub mod OneEnd
 pub mod Owed
 pub mod Endings
 pub mod Starts
-pub mod Told
+pub mod Report

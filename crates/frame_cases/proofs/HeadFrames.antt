@@ -1,7 +1,7 @@
 pub mod Alone
 pub mod Come
 pub mod First
-pub mod Heard
+pub mod Received
 pub mod Late
 pub mod Lists
-pub mod Told
+pub mod Report

@@ -2,9 +2,9 @@ pub mod Apart
 pub mod Comes
 pub mod Gains
 pub mod Gone
-pub mod Heard
+pub mod Received
 pub mod Links
 pub mod Next
 pub mod Reset
 pub mod Starts
-pub mod Told
+pub mod Report

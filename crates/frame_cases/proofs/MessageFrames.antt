@@ -1,3 +1,3 @@
 pub mod Alone
-pub mod Heard
-pub mod Told
+pub mod Received
+pub mod Report

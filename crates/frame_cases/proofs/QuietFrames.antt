@@ -1,4 +1,4 @@
-pub mod Heard
+pub mod Received
 pub mod Lines
 pub mod Read
 pub mod ReadStill

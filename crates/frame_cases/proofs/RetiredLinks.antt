@@ -5,7 +5,7 @@ pub mod Downed
 pub mod Ends
 pub mod Firsts
 pub mod Going
-pub mod Heard
+pub mod Received
 pub mod Lines
 pub mod Meant
 pub mod News
@@ -16,5 +16,5 @@ pub mod RowsThen
 pub mod Shapes
 pub mod Starts
 pub mod Step
-pub mod Told
+pub mod Report
 pub mod Walk

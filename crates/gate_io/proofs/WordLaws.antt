@@ -4,10 +4,10 @@ use Rattle.rand_pcg.specs.Lcg.{Lcg, next, state_after}
 use Rattle.rand_pcg.specs.Pcg.{multiplier_128, pcg64}
 use Rattle.gate_io.specs.Words.{word_at}
 
--- the words after one step are those behind the first
-word_behind : (g : Lcg) (k : ℕ) → word_at (next 128 multiplier_128 g) k ≡ word_at g (suc k)
+-- the words after one step are those after the first
+word_after : (g : Lcg) (k : ℕ) → word_at (next 128 multiplier_128 g) k ≡ word_at g (suc k)
 unfolding state_after
-word_behind g k = refl
+word_after g k = refl
 
 pub word_first : (g : Lcg) → word_at g 0 ≡ (pcg64 g).0
 unfolding state_after
@@ -21,4 +21,4 @@ pub rest_of_step : (g inside after : Lcg) (word k : ℕ) → inside ≡ g → �
 rest_of_step g inside after word k is step =
     let stepped : after ≡ next 128 multiplier_128 inside = ap (λ (p : ℕ × Lcg). p.1) step in
     let more : suc k ≡ k + 1 = omega arith in
-    ap (λ (h : Lcg). word_at h k) stepped ∙ word_behind inside k ∙ ap (λ (n : ℕ). word_at inside n) more ∙ ap (λ (h : Lcg). word_at h (k + 1)) is
+    ap (λ (h : Lcg). word_at h k) stepped ∙ word_after inside k ∙ ap (λ (n : ℕ). word_at inside n) more ∙ ap (λ (h : Lcg). word_at h (k + 1)) is

@@ -38,7 +38,7 @@ abbrev pub TakesMost : SinkSeen → ℕ → WriteAnswer → Type 0
 TakesMost before size (write.Took n) = n ≡ min size before.most
 TakesMost before size _ = Unit {0}
 
--- what comes on a link: where its bytes come from, whether the link ends behind them or stays quiet, and how often it was quiet
+-- what comes on a link: where its bytes come from, whether the link ends after them or stays quiet, and how often it was quiet
 pub record LinkInSeen : Type 0 where
   pub source : SourceSeen
   pub ends : Bool

@@ -1,13 +1,13 @@
 -- How long one waits who tries again and again.
 use Rattle.std.specs.Prelude.{ℕ, ◌+◌, ◌==◌, nat_le, if◌then◌else◌}
-use Rattle.gate_io.specs.declared.patience.Pause.{Pause}
-use Rattle.gate_io.specs.declared.patience.Pause.TheVariants as pause
+use Rattle.gate_io.specs.declared.poll_delay.Pause.{Pause}
+use Rattle.gate_io.specs.declared.poll_delay.Pause.TheVariants as pause
 
--- so many tries that found nothing are each behind a brief pause
+-- so many tries that found nothing are each after a brief pause
 abbrev pub brief_tries : ℕ
 brief_tries = 8
 
--- so many more are each behind a short pause, and all further ones behind a long one
+-- so many more are each after a short pause, and all further ones after a long one
 abbrev pub short_tries : ℕ
 short_tries = 20
 

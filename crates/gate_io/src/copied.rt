@@ -1,10 +1,10 @@
-// The front of some bytes, copied into a buffer.
+// The prefix of some bytes, copied into a buffer.
 ghost use Rattle.std.specs.Prelude.{◌≡◌, length, take, min};
 
-/// Copies as many bytes from the front as fit, at most `most`, and says how many.
-pub fn copy_front(bytes: &[u8], most: usize, buf: &mut [u8]) -> usize
+/// Copies as many bytes from the start as fit, at most `most`, and says how many.
+pub fn copy_prefix(bytes: &[u8], most: usize, buf: &mut [u8]) -> usize
     ensures count { result ≡ min (min (length bytes.now) (length buf.old)) most }
-    ensures front { take result buf.new ≡ take result bytes.now }
+    ensures prefix { take result buf.new ≡ take result bytes.now }
     ensures same { length buf.new ≡ length buf.old }
 {
     let count = bytes.len().min(buf.len()).min(most);

@@ -2,7 +2,7 @@
 use std::sync::Arc;
 use std::sync::atomic::{AtomicBool, Ordering};
 
-/// How many bytes stand in front of a frame's payload: three of its length, one of its type, and five further ones (RFC 9113, section 4.1).
+/// How many bytes stand before a frame's payload: three of its length, one of its type, and five further ones (RFC 9113, section 4.1).
 const HEAD_BYTES: u32 = 9;
 
 /// The type of a HEADERS frame, with which each answer begins (RFC 9113, section 6.2).
@@ -18,34 +18,34 @@ pub(crate) struct FirstAnswer {
     length: u32,
     kind: u8,
     is_there: bool,
-    /// Where it is told that an answer began.
-    told: Option<Arc<AtomicBool>>,
+    /// Where it is notified that an answer began.
+    reported: Option<Arc<AtomicBool>>,
 }
 
 impl FirstAnswer {
     /// For a connection on which nothing came so far.
-    pub(crate) fn new(told: Option<Arc<AtomicBool>>) -> FirstAnswer {
+    pub(crate) fn new(reported: Option<Arc<AtomicBool>>) -> FirstAnswer {
         FirstAnswer {
             payload: 0,
             came: 0,
             length: 0,
             kind: 0,
             is_there: false,
-            told,
+            reported,
         }
     }
 
-    /// Bytes came. Nothing is read of those behind the first answer.
-    pub(crate) fn hear(&mut self, piece: &[u8]) {
+    /// Bytes came. Nothing is read of those after the first answer.
+    pub(crate) fn receive(&mut self, piece: &[u8]) {
         for byte in piece.iter() {
             if self.is_there {
                 return;
             }
-            self.hear_byte(*byte);
+            self.receive_byte(*byte);
         }
     }
 
-    fn hear_byte(&mut self, byte: u8) {
+    fn receive_byte(&mut self, byte: u8) {
         if let Some(left) = self.payload.checked_sub(1) {
             self.payload = left;
             return;
@@ -65,8 +65,8 @@ impl FirstAnswer {
     fn end_head(&mut self) {
         if self.kind == HEADERS {
             self.is_there = true;
-            if let Some(told) = &self.told {
-                told.store(true, Ordering::SeqCst);
+            if let Some(reported) = &self.reported {
+                reported.store(true, Ordering::SeqCst);
             }
         }
         self.payload = self.length;

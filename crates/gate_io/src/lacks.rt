@@ -3,7 +3,7 @@ ghost use Rattle.std.specs.Prelude.{◌≡◌};
 
 use grpc_base::{Glance, Post};
 
-/// A channel whose waiting callers can be told that a worker beside them ended for want of memory: what they wait for may never come.
+/// A channel whose waiting callers can be notified that a worker beside them ended for want of memory: what they wait for may never come.
 pub trait NotesLack: Post + Glance {
     /// Lets those know that wait in the channel that a worker beside them ended for want of memory. No entry is made.
     fn note_lack(&mut self)

@@ -10,7 +10,7 @@ const FIRST_WAIT: u64 = 1_000_000_000;
 /// A connection to an address that is dialled anew so many nanoseconds after it, and on which no answer came, was of no use.
 const BRIEF: u64 = 250_000_000;
 
-/// After so many connections of no use, one behind another, the next dial to their address is not made.
+/// After so many connections of no use, one after another, the next dial to their address is not made.
 const MOST_BRIEF: u32 = 3;
 
 /// The last dial to an address.
@@ -22,9 +22,9 @@ struct LastDial {
     until: u64,
     /// Whether an answer came on its connection.
     answered: Arc<AtomicBool>,
-    /// How many connections were of no use before it, one behind another.
+    /// How many connections were of no use before it, one after another.
     brief: u32,
-    /// Whether the dial behind it was not made.
+    /// Whether the dial after it was not made.
     is_passed: bool,
 }
 
@@ -68,7 +68,7 @@ pub(crate) struct Lately {
 /// What becomes of a dial.
 #[derive(Drop)]
 pub(crate) enum Turn {
-    /// It is made, and told whether an answer comes, where there was memory for a note of it.
+    /// It is made, and reported whether an answer comes, where there was memory for a note of it.
     Made(Option<Arc<AtomicBool>>),
     /// It is not made.
     TooSoon,
@@ -84,7 +84,7 @@ impl Lately {
 
     /// Whether a dial to an address is made at a moment, which is given up at the moment `until`. It is not where the last one has just run to
     /// its end, or where the last three connections to it were of no use: so an address that answers nothing, or that ends each connection
-    /// right behind its SETTINGS, is seen to fail. Only one dial behind such an end is not made.
+    /// right after its SETTINGS, is seen to fail. Only one dial after such an end is not made.
     pub(crate) fn dial(&mut self, to: Address, until: u64, now: u64) -> Turn {
         for last in self.dials.iter_mut() {
             if last.to == to {
@@ -97,10 +97,10 @@ impl Lately {
         let Ok(dial) = LastDial::new(self.alloc, to, now, until) else {
             return Turn::Made(None);
         };
-        let told = told_by(&dial);
+        let reported = reported_by(&dial);
         // Where there is no memory for the note, the next dial is made.
         let _ = self.dials.push(dial);
-        Turn::Made(told)
+        Turn::Made(reported)
     }
 }
 
@@ -110,12 +110,12 @@ fn again(alloc: Global, last: &mut LastDial, until: u64, now: u64) -> Turn {
         return Turn::Made(None);
     };
     dial.brief = last.brief;
-    let told = told_by(&dial);
+    let reported = reported_by(&dial);
     *last = dial;
-    Turn::Made(told)
+    Turn::Made(reported)
 }
 
-/// Where the connection of a dial tells that an answer came; None where there is no memory.
-fn told_by(dial: &LastDial) -> Option<Arc<AtomicBool>> {
+/// Where the connection of a dial reports that an answer came; None where there is no memory.
+fn reported_by(dial: &LastDial) -> Option<Arc<AtomicBool>> {
     dial.answered.clone().ok()
 }

@@ -29,7 +29,7 @@ pub enum Dialed<I, O> {
 
 /// What comes on a link.
 pub trait LinkIn: Send + Drop {
-    /// The bytes that are left, where the link tells them. Memory does, and a socket does not.
+    /// The bytes that are left, where the link reports them. Memory does, and a socket does not.
     ghost left: { Self → Option (List ℕ) };
 
     /// How often a read has failed.
@@ -38,7 +38,7 @@ pub trait LinkIn: Send + Drop {
     /// How often a read was quiet.
     ghost quiet: { Self → ℕ };
 
-    /// Reads into the front of a buffer that is not empty.
+    /// Reads into the prefix of a buffer that is not empty.
     fn read(&mut self, buf: &mut [u8]) -> LinkRead
         requires { 0 < length buf.old }
         ensures bytes { LinkReads (left self.old) (left self.new) (length buf.old) buf.new result }
@@ -55,7 +55,7 @@ pub trait LinkIn: Send + Drop {
 
 /// What goes on a link.
 pub trait LinkOut: Send + Drop {
-    /// The bytes that were taken, where the link tells them. Memory does, and a socket does not.
+    /// The bytes that were taken, where the link reports them. Memory does, and a socket does not.
     ghost taken: { Self → Option (List ℕ) };
 
     /// How often a write has failed.
@@ -64,7 +64,7 @@ pub trait LinkOut: Send + Drop {
     /// Whether the link was closed.
     ghost closed: { Self → Bool };
 
-    /// Takes some bytes from the front of a piece that is not empty.
+    /// Takes some bytes from the start of a piece that is not empty.
     fn write(&mut self, piece: &[u8]) -> WriteAnswer
         requires { 0 < length piece.now }
         ensures bytes { Writes (taken self.old) (taken self.new) piece.now result }
@@ -84,7 +84,7 @@ pub trait Dialer: Send + Drop {
 
     type Out: LinkOut;
 
-    /// The bytes that each link which is still to be opened will have left, in order, where the dialer tells them.
+    /// The bytes that each link which is still to be opened will have left, in order, where the dialer reports them.
     ghost coming: { Self → Option (List (List ℕ)) };
 
     /// How often a dial has failed.
@@ -95,7 +95,7 @@ pub trait Dialer: Send + Drop {
         ensures { DialGives Self.In.LinkIn.left (coming self.old) (coming self.new) (faults self.old) (faults self.new) result };
 
     /// Waits until bytes come on a link that it opened, until one takes some again, until the clock of the same world says that there is
-    /// news, or until a moment comes, if there is one. It waits at most for 50 ms, and for less behind a try that was not long in vain. False
+    /// news, or until a moment comes, if there is one. It waits at most for 50 ms, and for less after a try that was not long in vain. False
     /// where it can't wait, so that its user pauses otherwise.
     fn wait(&self, _pause: Pause, _due: Option<u64>) -> bool {
         false

@@ -1,9 +1,9 @@
-// A source and a sink in memory, which fail at the calls that they are told to fail at.
+// A source and a sink in memory, which fail at the calls that they are reported to fail at.
 ghost use Rattle.std.specs.Prelude.{◌≡◌, ◌<◌, ◌↔◌, ◌⊎◌, [], Some, false, true, length};
 ghost use Rattle.gate_io.specs.Memory.{FailsNext, GivesMost, TakesMost};
 ghost use Rattle.gate_io.specs.Outside.{Reads, CountsRead, Writes, CountsWrite, one_more};
 
-use crate::copied::copy_front;
+use crate::copied::copy_prefix;
 use crate::{ReadAnswer, Sink, Source, WriteAnswer};
 use std::alloc::Global;
 use std::marker::Model;
@@ -53,7 +53,7 @@ impl Source for MemSource {
 
     ghost faults = { λ s. s.faults };
 
-    #[tactic(auto, using(crate::proofs::ReadLaws::front_and_rest, crate::proofs::ReadLaws::nothing_left))]
+    #[tactic(auto, using(crate::proofs::ReadLaws::prefix_and_rest, crate::proofs::ReadLaws::nothing_left))]
     fn read(&mut self, buf: &mut [u8]) -> ReadAnswer
         requires { 0 < length buf.old }
         ensures bytes { Reads (Some self.old.left) (Some self.new.left) (length buf.old) buf.new result }
@@ -68,7 +68,7 @@ impl Source for MemSource {
             self.faults = self.faults.saturating_add(1);
             return ReadAnswer::Failed;
         }
-        let count = copy_front(&self.bytes.as_slice()[self.at..], self.most, buf);
+        let count = copy_prefix(&self.bytes.as_slice()[self.at..], self.most, buf);
         if count == 0 {
             return ReadAnswer::End;
         }

@@ -1,4 +1,4 @@
-// A dialer and a listener in memory, whose links are made before, and which fail at the calls that they are told to fail at.
+// A dialer and a listener in memory, whose links are made before, and which fail at the calls that they are reported to fail at.
 ghost use Rattle.std.specs.Prelude.{◌≡◌, ◌↔◌, ◌⊎◌, ◌∷◌, [], ℕ, Some, None, IfSome, IfNone, false, true, map};
 ghost use Rattle.gate_io.specs.Memory.{FailsNext, LinkInSeen, LinkOutSeen};
 ghost use Rattle.gate_io.specs.MemoryLinks.{lefts_of, opened_of};
@@ -165,7 +165,7 @@ impl Listener for MemListener {
     fn open(&mut self, _port: u16) -> bool
         ensures open { result ≡ true → self.new.links.faults ≡ self.old.links.faults }
         ensures failed { result ≡ false → self.new.links.faults ≡ one_more self.old.links.faults }
-        ensures told { result ≡ self.old.opens }
+        ensures reported { result ≡ self.old.opens }
         ensures same { (self.new.opens ≡ self.old.opens) × (self.new.links.links ≡ self.old.links.links) }
         ensures calls { (self.new.links.calls ≡ self.old.links.calls) × (self.new.links.failing ≡ self.old.links.failing) }
     {

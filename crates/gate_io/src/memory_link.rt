@@ -1,4 +1,4 @@
-// Links in memory, which fail at the calls that they are told to fail at.
+// Links in memory, which fail at the calls that they are reported to fail at.
 ghost use Rattle.std.specs.Prelude.{◌≡◌, ◌<◌, ◌↔◌, ◌⊎◌, [], Some, false, true, length};
 ghost use Rattle.gate_io.specs.Memory.{FailsNext, TakesMost};
 ghost use Rattle.gate_io.specs.Outside.{Writes, CountsWrite, one_more};
@@ -25,7 +25,7 @@ impl Model for MemLinkIn {
 }
 
 impl MemLinkIn {
-    /// What comes are the bytes of this source, and reads fail where its reads do. Behind the bytes the link
+    /// What comes are the bytes of this source, and reads fail where its reads do. After the bytes the link
     /// ends, or stays quiet for good.
     pub fn new(source: MemSource, ends: bool) -> MemLinkIn
         ensures { result ≡ record { source = source; ends = ends; quiet = 0 } }

@@ -52,7 +52,7 @@ impl Sleeper {
     }
 
     /// There is news for it: if it waits, the wait ends, and else its next one is none.
-    pub(crate) fn hear(&self) {
+    pub(crate) fn receive(&self) {
         self.news.fetch_add(1, Ordering::SeqCst);
         if self.is_asleep.swap(false, Ordering::SeqCst) {
             self.end_wait();

@@ -88,7 +88,7 @@ fn any_has_links(sleepers: &[Arc<Sleeper>]) -> bool {
 fn wake_some(sleepers: &[Arc<Sleeper>], everyone: bool) {
     for sleeper in sleepers.iter() {
         if everyone || sleeper.has_links() {
-            sleeper.hear();
+            sleeper.receive();
         }
     }
 }

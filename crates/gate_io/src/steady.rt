@@ -1,7 +1,7 @@
 // A source and a sink that never fail: their count of faults is always 0.
 ghost use Rattle.std.specs.Prelude.{◌≡◌, ◌+◌, Some, None, length, min};
 
-use crate::copied::copy_front;
+use crate::copied::copy_prefix;
 use crate::{ReadAnswer, Sink, Source, WriteAnswer};
 use std::marker::Model;
 
@@ -36,9 +36,9 @@ impl Source for SteadySource {
 
     ghost faults = { λ _. 0 };
 
-    #[tactic(auto, using(crate::proofs::ReadLaws::front_and_rest, crate::proofs::ReadLaws::nothing_left))]
+    #[tactic(auto, using(crate::proofs::ReadLaws::prefix_and_rest, crate::proofs::ReadLaws::nothing_left))]
     fn read(&mut self, buf: &mut [u8]) -> ReadAnswer {
-        let count = copy_front(&self.bytes.as_slice()[self.at..], usize::MAX, buf);
+        let count = copy_prefix(&self.bytes.as_slice()[self.at..], usize::MAX, buf);
         if count == 0 {
             return ReadAnswer::End;
         }

@@ -41,8 +41,8 @@ impl<R: Net<Stream = TcpStream> + time::Clock> TcpDialer<R> {
     }
 
     /// One of several dialers, which know together what was dialled: a dial that nobody answered to its end is followed by one that fails at
-    /// once, and so are three connections that were over right behind their SETTINGS. So such an address is seen to fail: the next one gets
-    /// its turn, and it is dialled again after the wait behind a failed dial. The clock beside them wakes the one that waits for its links.
+    /// once, and so are three connections that were over right after their SETTINGS. So such an address is seen to fail: the next one gets
+    /// its turn, and it is dialled again after the wait after a failed dial. The clock beside them wakes the one that waits for its links.
     pub(crate) fn beside(
         rt: R,
         alloc: Global,
@@ -75,14 +75,14 @@ impl<R: Net<Stream = TcpStream> + time::Clock> TcpDialer<R> {
         if until <= now {
             return Err(io::Error::from(ErrorKind::TimedOut));
         }
-        let Turn::Made(told) = self.turn(to, until, now) else {
+        let Turn::Made(reported) = self.turn(to, until, now) else {
             return Err(io::Error::from(ErrorKind::TimedOut));
         };
         let addr = SocketAddr::V4(SocketAddrV4::new(Ipv4Addr::from_bits(to.ip), to.port));
         let mut stream = mio::net::TcpStream::connect(&self.rt, addr)?;
         // Where it can't be waited for, the link is looked at as often as its user pauses.
         let _ = self.waiting.add(&self.rt, &mut stream);
-        let answer = FirstAnswer::new(told);
+        let answer = FirstAnswer::new(reported);
         let stream = TcpStream::from(stream);
         link_over(self.alloc, stream, false, answer, self.waiting.opened())
     }

@@ -10,7 +10,7 @@ use std::thread::sleep;
 use std::time::Duration;
 use std::{io, time};
 
-/// How many events one wait is told of, at most.
+/// How many events one wait is reported of, at most.
 const EVENTS: usize = 16;
 
 /// The least time of the system's wait for links, in nanoseconds, by whose multiples it waits.
@@ -57,7 +57,7 @@ impl Waiting {
         set.poll.registry().register(stream, Token(0), both)
     }
 
-    /// Notes that a link was opened, and gives who is to be told when it is closed.
+    /// Notes that a link was opened, and gives who is to be notified when it is closed.
     pub(crate) fn opened(&self) -> Option<Arc<Sleeper>> {
         let sleeper = self.sleeper.as_ref()?.clone().ok()?;
         sleeper.opened();

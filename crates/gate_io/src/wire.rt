@@ -23,7 +23,7 @@ const WRITE_WAIT: u64 = 20_000;
 /// So many bytes that a peer did not take are held for it, as many as a session has at most; a write that finds more fails.
 const HELD_BYTES: usize = 268_435_456;
 
-/// So many bytes that were sent may stay in front of those that are held.
+/// So many bytes that were sent may stay before those that are held.
 const FORGOTTEN_BYTES: usize = 1_048_576;
 
 /// What one read of a stream gave.
@@ -98,7 +98,7 @@ impl Wire {
         self.send_held();
         let got = self.receive_within(pause, buf);
         if let Received::Count(count) = got {
-            self.answer.hear(&buf[..count]);
+            self.answer.receive(&buf[..count]);
         }
         got
     }

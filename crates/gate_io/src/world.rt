@@ -16,7 +16,7 @@ pub enum ReadAnswer {
 /// What a write answers.
 #[derive(Clone, Copy, Debug, PartialEq, Eq)]
 pub enum WriteAnswer {
-    /// So many bytes from the front were taken, at least one.
+    /// So many bytes from the start were taken, at least one.
     Took(usize),
     /// The write failed; nothing was taken.
     Failed,
@@ -24,13 +24,13 @@ pub enum WriteAnswer {
 
 /// Where bytes come from.
 pub trait Source {
-    /// The bytes that are left, where the source tells them. Memory does, and a standard stream does not.
+    /// The bytes that are left, where the source reports them. Memory does, and a standard stream does not.
     ghost left: { Self → Option (List ℕ) };
 
     /// How often a read has failed.
     ghost faults: { Self → ℕ };
 
-    /// Reads into the front of a buffer that is not empty.
+    /// Reads into the prefix of a buffer that is not empty.
     fn read(&mut self, buf: &mut [u8]) -> ReadAnswer
         requires { 0 < length buf.old }
         ensures bytes { Reads (left self.old) (left self.new) (length buf.old) buf.new result }
@@ -39,13 +39,13 @@ pub trait Source {
 
 /// Where bytes go.
 pub trait Sink {
-    /// The bytes that were taken, where the sink tells them. Memory does, and a standard stream does not.
+    /// The bytes that were taken, where the sink reports them. Memory does, and a standard stream does not.
     ghost taken: { Self → Option (List ℕ) };
 
     /// How often a write has failed.
     ghost faults: { Self → ℕ };
 
-    /// Takes some bytes from the front of a piece that is not empty.
+    /// Takes some bytes from the start of a piece that is not empty.
     fn write(&mut self, piece: &[u8]) -> WriteAnswer
         requires { 0 < length piece.now }
         ensures bytes { Writes (taken self.old) (taken self.new) piece.now result }

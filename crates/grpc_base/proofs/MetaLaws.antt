@@ -19,7 +19,7 @@ IsRequestMetadata-push old new name value e named valued room kept =
       within = omega (arith, meta_size-push old f);
     })
 
--- a pair that does not fit behind those in front of it makes the whole too long
+-- a pair that does not fit after those before it makes the whole too long
 pub too_long : (pairs : List Field) (i room : ℕ) (f : Field) → i < length pairs → f ≡ get_or pairs i f → room + meta_size (take i pairs) ≡ meta_limit → room < pair_size f → meta_limit < meta_size pairs
 too_long pairs i room f within is sum past =
     let more : meta_size (take i pairs) + pair_size f ≤ meta_size pairs =

@@ -4,7 +4,7 @@ use Rattle.std.specs.List.{Contains, list_any}
 use Rattle.grpc_base.specs.declared.address.Address.{Address}
 pub use Rattle.grpc_base.specs.Limits.{address_limit}
 
--- no address stands again behind itself
+-- no address stands again after itself
 abbrev pub IsWithoutRepeats : List Address → Type 0
 IsWithoutRepeats [] = Unit {0}
 IsWithoutRepeats (a ∷ rest) = (Contains rest a → ⊥) × IsWithoutRepeats rest

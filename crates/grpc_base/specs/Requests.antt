@@ -41,9 +41,9 @@ is_name_byte b = nat_le 33 b && nat_le b 126 && not (b == 47)
 abbrev pub is_name : List ℕ → Bool
 is_name name = nat_lt 0 (length name) && list_all is_name_byte name
 
--- the service and the method of what stands before, between and behind the slashes of a path: nothing and both names
+-- the service and the method of what stands before, between and after the slashes of a path: nothing and both names
 abbrev pub names_of_pieces : List (List ℕ) → Option (List ℕ × List ℕ)
-names_of_pieces (front ∷ service ∷ method ∷ []) = if bytes_eq front [] && is_name service && is_name method then Some (service, method) else None
+names_of_pieces (prefix ∷ service ∷ method ∷ []) = if bytes_eq prefix [] && is_name service && is_name method then Some (service, method) else None
 names_of_pieces ps = None
 
 -- the service and the method of a path; nothing exactly where a text is no path

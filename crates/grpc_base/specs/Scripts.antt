@@ -34,7 +34,7 @@ abbrev pub is_goaway : AnswerPart → Bool
 is_goaway part.Goaway = true
 is_goaway p = false
 
--- an answer: the path of a method, and at least one part; behind the one that ends the stream there is only GOAWAY
+-- an answer: the path of a method, and at least one part; after the one that ends the stream there is only GOAWAY
 pub record IsAnswer (answer : AnswerLine) : Type 0 where
   pub path_is : IsPath answer.path
   pub not_empty : 1 ≤ length answer.parts
@@ -45,11 +45,11 @@ pub record IsAnswer (answer : AnswerLine) : Type 0 where
 abbrev pub count_of : List ℕ → List AnswerLine → ℕ
 count_of path answers = count_by (λ a. bytes_eq a.path path) answers
 
--- each answer's number is one more than how many in front of it are of its path
-abbrev pub AreNumbered : List AnswerLine → Type 0
-AreNumbered answers = (i : ℕ) (d : AnswerLine) → i < length answers → (slice_index_or answers i d).n ≡ count_of (slice_index_or answers i d).path (take i answers) + 1
+-- each answer's number is one more than how many before it are of its path
+abbrev pub AnswersAreNumbered : List AnswerLine → Type 0
+AnswersAreNumbered answers = (i : ℕ) (d : AnswerLine) → i < length answers → (slice_index_or answers i d).n ≡ count_of (slice_index_or answers i d).path (take i answers) + 1
 
 -- a server script
 pub record IsServerScript (script : ServerScript) : Type 0 where
   pub answers_are : All IsAnswer script.answers
-  pub numbered : AreNumbered script.answers
+  pub numbered : AnswersAreNumbered script.answers

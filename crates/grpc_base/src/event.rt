@@ -1,4 +1,4 @@
-// What the channel is told, what it replies, and how one step is kept.
+// What is reported to the channel, what it replies, and how one step is kept.
 ghost use Rattle.std.specs.Prelude.{◌≡◌, ◌≤◌, IfOk};
 ghost use Rattle.grpc_base.specs.Refusals.{refusal_number};
 ghost use Rattle.grpc_base.specs.Conns.{conn_number};
@@ -119,7 +119,7 @@ pub enum ConfigFault {
     NoMemory,
 }
 
-/// What the channel is told: by the application, the resolver, the links and the clock.
+/// What is reported to the channel: by the application, the resolver, the links and the clock.
 #[derive(Debug, Drop)]
 pub enum Event {
     /// The application begins a call.

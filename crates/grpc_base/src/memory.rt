@@ -3,7 +3,7 @@ use std::alloc::{AllocError, AllocFailed};
 use std::error::Error;
 use std::fmt;
 
-/// The allocator gave no memory. What was handed in is as before, unless the call says otherwise.
+/// The allocator gave no memory. What was passed in is as before, unless the call says otherwise.
 #[derive(Clone, Copy, Debug, PartialEq, Eq)]
 pub struct NoMemory;
 

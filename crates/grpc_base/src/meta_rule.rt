@@ -111,8 +111,8 @@ fn is_text_value(value: &[u8]) -> bool
         && !value.ends_with(b" ")
 }
 
-/// What is left of `room` behind one pair as it is sent, where it fits.
-fn room_behind(room: usize, name: &[u8], value: &[u8]) -> Option<usize>
+/// What is left of `room` after one pair as it is sent, where it fits.
+fn room_after(room: usize, name: &[u8], value: &[u8]) -> Option<usize>
     requires { room ≤ meta_limit }
     ensures { MatchOption result (room < length name.now + sent_length name.now value.now + 32) (λ left. left + (length name.now + sent_length name.now value.now + 32) ≡ room) }
 {
@@ -127,13 +127,13 @@ fn room_behind(room: usize, name: &[u8], value: &[u8]) -> Option<usize>
     room.checked_sub(name.len() + sent + 32)
 }
 
-/// What is left of the limit behind these pairs, where they fit.
-fn room_behind_all(pairs: &[Field]) -> Option<usize>
+/// What is left of the limit after these pairs, where they fit.
+fn room_after_all(pairs: &[Field]) -> Option<usize>
     ensures { MatchOption result (meta_limit < meta_size pairs.now) (λ left. left + meta_size pairs.now ≡ meta_limit) }
 {
     let mut room = METADATA_BYTES;
     for pair in pairs {
-        room = room_behind(room, pair.name.as_slice(), pair.value.as_slice())?;
+        room = room_after(room, pair.name.as_slice(), pair.value.as_slice())?;
     }
     Some(room)
 }
@@ -142,8 +142,8 @@ fn room_behind_all(pairs: &[Field]) -> Option<usize>
 pub fn has_room(pairs: &[Field], name: &[u8], value: &[u8]) -> bool
     ensures { IsTrue result ↔ (meta_size pairs.now + (length name.now + sent_length name.now value.now + 32) ≤ meta_limit) }
 {
-    match room_behind_all(pairs) {
-        Some(room) => room_behind(room, name, value).is_some(),
+    match room_after_all(pairs) {
+        Some(room) => room_after(room, name, value).is_some(),
         None => false,
     }
 }

@@ -140,15 +140,15 @@ pub fn names_of_path(path: &[u8]) -> Option<(&[u8], &[u8])>
     if path.len() > PATH_BYTES {
         return None;
     }
-    let (front, service, method) = three_pieces(path)?;
-    if front.is_empty() && is_name(service) && is_name(method) {
+    let (prefix, service, method) = three_pieces(path)?;
+    if prefix.is_empty() && is_name(service) && is_name(method) {
         Some((service, method))
     } else {
         None
     }
 }
 
-/// What stands before, between and behind the slashes of a text with two of them.
+/// What stands before, between and after the slashes of a text with two of them.
 #[tactic(auto, using(crate::proofs::PathLaws::more_pieces, crate::proofs::PathLaws::pieces_some))]
 fn three_pieces(text: &[u8]) -> Option<(&[u8], &[u8], &[u8])>
     ensures some { IfSome result (λ p. pieces 47 text.now ≡ p.0.now ∷ p.1.now ∷ p.2.now ∷ []) }

@@ -1,7 +1,7 @@
 // What the lines of the scripts for live calls and for the server that answers them say.
 ghost use Rattle.std.specs.Prelude.{◌≡◌, ◌↔◌, ◌+◌, ◌<◌, All, length, position, IfSome, IsTrue};
 ghost use Rattle.std.specs.List.{AllPass, after_first};
-ghost use Rattle.grpc_base.specs.Scripts.{AreNumbered, IsAnswer, IsAnswerPart, IsPushback, IsServerScript, count_of, ends_stream, is_goaway, is_pushback_byte};
+ghost use Rattle.grpc_base.specs.Scripts.{AnswersAreNumbered, IsAnswer, IsAnswerPart, IsPushback, IsServerScript, count_of, ends_stream, is_goaway, is_pushback_byte};
 
 use crate::limits::{MESSAGE_BYTES, PUSHBACK_BYTES};
 use crate::{Items, Octets, Request, Text, is_path};
@@ -48,7 +48,7 @@ pub enum AnswerPart {
 
 impl ServerScript {
     /// Whether a scripted server can answer by it: each answer has the path of a method and at least one part, each part is
-    /// within its limit, behind a status or a reset there is only GOAWAY, and the answers of a path are numbered from 1.
+    /// within its limit, after a status or a reset there is only GOAWAY, and the answers of a path are numbered from 1.
     /// The time grows with the square of the answers.
     pub fn is_valid(&self) -> bool
         ensures { IsTrue result ↔ IsServerScript self.now }
@@ -67,7 +67,7 @@ fn are_answers(answers: &[AnswerLine]) -> bool
 
 /// Whether the answers of each path are numbered from 1.
 fn are_numbered(answers: &[AnswerLine]) -> bool
-    ensures { IsTrue result ↔ AreNumbered answers.now }
+    ensures { IsTrue result ↔ AnswersAreNumbered answers.now }
 {
     for (place, answer) in answers.iter().enumerate() {
         let before = count_of(answer.path.as_slice(), &answers[..place]);
@@ -93,11 +93,11 @@ fn is_answer(answer: &AnswerLine) -> bool
     is_path(answer.path.as_slice())
         && !parts.is_empty()
         && parts.iter().all(is_answer_part)
-        && behind_end(parts).iter().all(is_goaway)
+        && after_end(parts).iter().all(is_goaway)
 }
 
-/// The parts behind the first that ends the stream.
-fn behind_end(parts: &[AnswerPart]) -> &[AnswerPart]
+/// The parts after the first that ends the stream.
+fn after_end(parts: &[AnswerPart]) -> &[AnswerPart]
     ensures { result.now ≡ after_first ends_stream parts.now }
 {
     match first_end(parts) {

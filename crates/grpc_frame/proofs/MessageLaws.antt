@@ -1,4 +1,4 @@
--- The messages of a text: what is told stays told, and a text that is cut has the messages of its pieces.
+-- The messages of a text: what is reported stays reported, and a text that is cut has the messages of its pieces.
 use Rattle.std.proofs.Common.{◌≡◌, ℕ, zero, suc, ◌+◌, ◌-◌, ◌*◌, ◌/◌, ◌%◌, ◌<◌, ◌≤◌, Bool, true, false, cond, Option, Some, None, List, [], ◌∷◌, ◌++◌, length, take, drop, refl, ap, sym, ◌∙◌, subst, arith, append_assoc, length-append, length-drop}
 use Rattle.std.proofs.lemmas.Bool.Decides.{nat_tests}
 use Rattle.std.proofs.lemmas.List.{append-nil, take-append-drop, drop-append-le, take-append-le, length-take-le}
@@ -11,13 +11,13 @@ use Rattle.grpc_frame.specs.declared.next.MessageFault.{MessageFault}
 use Rattle.grpc_frame.specs.declared.next.MessageFault.TheVariants as fault
 use Rattle.grpc_frame.specs.declared.next.NextMessage.{NextMessage}
 use Rattle.grpc_frame.specs.declared.next.NextMessage.TheVariants as next
-use Rattle.grpc_frame.specs.Messages.{AreMessages, Messages, before, framed, framed_all, length_told, messages_by, messages_of, messages_within, next_by, next_of, next_told}
-use Rattle.grpc_frame.specs.Reader.{given, reader_behind, reader_of}
+use Rattle.grpc_frame.specs.Messages.{AreMessages, Messages, before, framed, framed_all, length_reported, messages_by, messages_of, messages_within, next_by, next_of, next_reported}
+use Rattle.grpc_frame.specs.Reader.{given, reader_after, reader_of}
 use Rattle.grpc_frame.specs.Read.{before_all}
 
--- a message at the front of a text
+-- a message at the start of a text
 pub record IsWhole (limit len : ℕ) (text : List ℕ) : Type 0 where
-  pub told : length_told text ≡ Some len
+  pub reported : length_reported text ≡ Some len
   pub within : len ≤ limit
   pub there : 5 + len ≤ length text
 
@@ -35,8 +35,8 @@ whole_by limit size len (Some n) h =
 pub whole_is : (limit len : ℕ) (text : List ℕ) → next_of limit text ≡ next.Whole len → IsWhole limit len text
 whole_is limit len [] h = absurd (cc)
 whole_is limit len (zero ∷ text) h =
-    let parts = whole_by limit (length (zero ∷ text)) len (length_told (zero ∷ text)) h in
-    record { told = parts.0; within = parts.1; there = parts.2 }
+    let parts = whole_by limit (length (zero ∷ text)) len (length_reported (zero ∷ text)) h in
+    record { reported = parts.0; within = parts.1; there = parts.2 }
 whole_is limit len (suc flag ∷ text) h = absurd (cc)
 
 by_length : (limit size len : ℕ) (o : Option ℕ) → o ≡ Some len → len ≤ limit → 5 + len ≤ size → next_by limit size o ≡ next.Whole len
@@ -46,24 +46,24 @@ by_length limit size len o e within there =
     rw (e, low, high) refl
 
 pub is_whole : (limit len : ℕ) (text : List ℕ) → IsWhole limit len text → next_of limit text ≡ next.Whole len
-is_whole limit len [] w = absurd (let no : None ≡ Some len = w.told in (cc))
-is_whole limit len (zero ∷ text) w = by_length limit (length (zero ∷ text)) len (length_told (zero ∷ text)) w.told w.within w.there
-is_whole limit len (suc flag ∷ text) w = absurd (let no : None ≡ Some len = w.told in (cc))
+is_whole limit len [] w = absurd (let no : None ≡ Some len = w.reported in (cc))
+is_whole limit len (zero ∷ text) w = by_length limit (length (zero ∷ text)) len (length_reported (zero ∷ text)) w.reported w.within w.there
+is_whole limit len (suc flag ∷ text) w = absurd (let no : None ≡ Some len = w.reported in (cc))
 
-pub told_stays : (text more : List ℕ) (len : ℕ) → length_told text ≡ Some len → length_told (text ++ more) ≡ Some len
-told_stays [] more len h = absurd (cc)
-told_stays (suc flag ∷ text) more len h = absurd (cc)
-told_stays (zero ∷ []) more len h = absurd (cc)
-told_stays (zero ∷ a ∷ []) more len h = absurd (cc)
-told_stays (zero ∷ a ∷ b ∷ []) more len h = absurd (cc)
-told_stays (zero ∷ a ∷ b ∷ c ∷ []) more len h = absurd (cc)
-told_stays (zero ∷ a ∷ b ∷ c ∷ d ∷ text) more len h = h
+pub reported_stays : (text more : List ℕ) (len : ℕ) → length_reported text ≡ Some len → length_reported (text ++ more) ≡ Some len
+reported_stays [] more len h = absurd (cc)
+reported_stays (suc flag ∷ text) more len h = absurd (cc)
+reported_stays (zero ∷ []) more len h = absurd (cc)
+reported_stays (zero ∷ a ∷ []) more len h = absurd (cc)
+reported_stays (zero ∷ a ∷ b ∷ []) more len h = absurd (cc)
+reported_stays (zero ∷ a ∷ b ∷ c ∷ []) more len h = absurd (cc)
+reported_stays (zero ∷ a ∷ b ∷ c ∷ d ∷ text) more len h = h
 
 pub whole_stays : (limit len : ℕ) (text more : List ℕ) → next_of limit text ≡ next.Whole len → next_of limit (text ++ more) ≡ next.Whole len
 whole_stays limit len text more h =
     let w = whole_is limit len text h in
     is_whole limit len (text ++ more)
-    (record { told = told_stays text more len w.told; within = w.within; there = omega (arith, w.there, length-append text more) })
+    (record { reported = reported_stays text more len w.reported; within = w.within; there = omega (arith, w.there, length-append text more) })
 
 fault_tests : (b c : Bool) (n : ℕ) (f : MessageFault) → cond b (next.Fault (fault.TooLarge n)) (cond c (next.Whole n) next.Partial) ≡ next.Fault f → (b ≡ true) × (f ≡ fault.TooLarge n)
 fault_tests true c n f h = (refl, (cc))
@@ -79,7 +79,7 @@ fault_by limit size size' (Some n) o' f stays h =
 pub fault_stays : (limit : ℕ) (f : MessageFault) (text more : List ℕ) → next_of limit text ≡ next.Fault f → next_of limit (text ++ more) ≡ next.Fault f
 fault_stays limit f [] more h = absurd (cc)
 fault_stays limit f (zero ∷ text) more h =
-    fault_by limit (length (zero ∷ text)) (length (zero ∷ text ++ more)) (length_told (zero ∷ text)) (length_told (zero ∷ text ++ more)) f (told_stays (zero ∷ text) more) h
+    fault_by limit (length (zero ∷ text)) (length (zero ∷ text ++ more)) (length_reported (zero ∷ text)) (length_reported (zero ∷ text ++ more)) f (reported_stays (zero ∷ text) more) h
 fault_stays limit f (suc flag ∷ text) more h = h
 
 -- enough steps are enough
@@ -105,14 +105,14 @@ enough limit (suc m) (suc n) (x ∷ text) p q =
     by_same (next_of limit (x ∷ text)) (x ∷ text) (messages_within limit m) (messages_within limit n)
     (λ len h. enough limit m n (drop len (drop 5 (x ∷ text))) (omega (arith, shorter limit len (x ∷ text) h)) (omega (arith, shorter limit len (x ∷ text) h)))
 
--- the messages of a text, by what stands at its front
+-- the messages of a text, by what stands at its start
 pub messages_are : (limit : ℕ) (text : List ℕ) → messages_of limit text ≡ messages_by (next_of limit text) text (messages_of limit)
 messages_are limit [] = refl
 messages_are limit (x ∷ text) =
     by_same (next_of limit (x ∷ text)) (x ∷ text) (messages_within limit (length text)) (messages_of limit)
     (λ len h. enough limit (length text) (length (drop len (drop 5 (x ∷ text)))) (drop len (drop 5 (x ∷ text))) (omega (arith, shorter limit len (x ∷ text) h)) (omega arith))
 
--- one message in front
+-- one message before
 pub messages_next : (limit len : ℕ) (text : List ℕ) → next_of limit text ≡ next.Whole len → messages_of limit text ≡ before (take len (drop 5 text)) (messages_of limit (drop len (drop 5 text)))
 messages_next limit len text h = messages_are limit text ∙ ap (λ (r : NextMessage). messages_by r text (messages_of limit)) h
 
@@ -122,7 +122,7 @@ messages_none limit text h = messages_are limit text ∙ ap (λ (r : NextMessage
 pub messages_fault : (limit : ℕ) (f : MessageFault) (text : List ℕ) → next_of limit text ≡ next.Fault f → messages_of limit text ≡ record { whole = []; rest = text; fault = Some f }
 messages_fault limit f text h = messages_are limit text ∙ ap (λ (r : NextMessage). messages_by r text (messages_of limit)) h
 
--- the messages of a text with a piece behind it
+-- the messages of a text with a piece after it
 abbrev pub joined_by : ℕ → Option MessageFault → Messages → List ℕ → Messages
 joined_by limit None m piece = before_all m.whole (messages_of limit (m.rest ++ piece))
 joined_by limit (Some f) m piece = record { whole = m.whole; rest = m.rest ++ piece; fault = Some f }
@@ -143,11 +143,11 @@ join_by limit (next.Whole len) text piece h later =
     let size : length (drop 5 text) ≡ length text - 5 = length-drop 5 text in
     let fits : len ≤ length (drop 5 text) = omega (arith, size, w.there) in
     let message : take len (drop 5 (text ++ piece)) ≡ take len (drop 5 text) = ap (take len) five ∙ take-append-le len (drop 5 text) piece fits in
-    let behind : drop len (drop 5 (text ++ piece)) ≡ drop len (drop 5 text) ++ piece = ap (drop len) five ∙ drop-append-le len (drop 5 text) piece fits in
+    let afterwards : drop len (drop 5 (text ++ piece)) ≡ drop len (drop 5 text) ++ piece = ap (drop len) five ∙ drop-append-le len (drop 5 text) piece fits in
     let rest : List ℕ = drop len (drop 5 text) in
     messages_next limit len (text ++ piece) (whole_stays limit len text piece h)
     ∙ ap (λ (xs : List ℕ). before xs (messages_of limit (drop len (drop 5 (text ++ piece))))) message
-    ∙ ap (λ (xs : List ℕ). before (take len (drop 5 text)) (messages_of limit xs)) behind
+    ∙ ap (λ (xs : List ℕ). before (take len (drop 5 text)) (messages_of limit xs)) afterwards
     ∙ ap (before (take len (drop 5 text))) (later len refl)
     ∙ sym (joined_before limit (messages_of limit rest).fault (take len (drop 5 text)) piece (messages_of limit rest))
     ∙ ap (λ (m : Messages). joined limit m piece) (sym (messages_next limit len text h))
@@ -169,17 +169,17 @@ join limit text piece = join_within limit (length text) text piece (omega arith)
 
 -- what a reader gives is what the longer text has more
 more_messages : (limit : ℕ) (o : Option MessageFault) (whole : List (List ℕ)) (rest piece : List ℕ) →
-    (joined limit (record { whole = whole; rest = rest; fault = o }) piece).whole ≡ whole ++ (given (reader_behind limit (record { whole = whole; rest = rest; fault = o })) piece).messages
+    (joined limit (record { whole = whole; rest = rest; fault = o }) piece).whole ≡ whole ++ (given (reader_after limit (record { whole = whole; rest = rest; fault = o })) piece).messages
 more_messages limit None whole rest piece = refl
 more_messages limit (Some f) whole rest piece = sym (append-nil whole)
 
 more_fault : (limit : ℕ) (o : Option MessageFault) (whole : List (List ℕ)) (rest piece : List ℕ) →
-    (joined limit (record { whole = whole; rest = rest; fault = o }) piece).fault ≡ (given (reader_behind limit (record { whole = whole; rest = rest; fault = o })) piece).fault
+    (joined limit (record { whole = whole; rest = rest; fault = o }) piece).fault ≡ (given (reader_after limit (record { whole = whole; rest = rest; fault = o })) piece).fault
 more_fault limit None whole rest piece = refl
 more_fault limit (Some f) whole rest piece = refl
 
 more_reader : (limit : ℕ) (o : Option MessageFault) (whole : List (List ℕ)) (rest piece : List ℕ) →
-    reader_behind limit (joined limit (record { whole = whole; rest = rest; fault = o }) piece) ≡ (given (reader_behind limit (record { whole = whole; rest = rest; fault = o })) piece).reader
+    reader_after limit (joined limit (record { whole = whole; rest = rest; fault = o }) piece) ≡ (given (reader_after limit (record { whole = whole; rest = rest; fault = o })) piece).reader
 more_reader limit None whole rest piece = refl
 more_reader limit (Some f) whole rest piece = refl
 
@@ -196,12 +196,12 @@ pieces_fault limit text piece =
 pub pieces_reader : (limit : ℕ) (text piece : List ℕ) → reader_of limit (text ++ piece) ≡ (given (reader_of limit text) piece).reader
 pieces_reader limit text piece =
     let m = messages_of limit text in
-    ap (reader_behind limit) (join limit text piece) ∙ more_reader limit m.fault m.whole m.rest piece
+    ap (reader_after limit) (join limit text piece) ∙ more_reader limit m.fault m.whole m.rest piece
 
 -- the messages of a text are framed in it
-front_framed : (a b c d : ℕ) (text : List ℕ) (len : ℕ) → a < 256 → b < 256 → c < 256 → d < 256 → a * 16777216 + b * 65536 + c * 256 + d ≡ len → len ≤ length text
+prefix_framed : (a b c d : ℕ) (text : List ℕ) (len : ℕ) → a < 256 → b < 256 → c < 256 → d < 256 → a * 16777216 + b * 65536 + c * 256 + d ≡ len → len ≤ length text
     → framed (take len text) ++ drop len text ≡ 0 ∷ a ∷ b ∷ c ∷ d ∷ text
-front_framed a b c d text len a' b' c' d' e there =
+prefix_framed a b c d text len a' b' c' d' e there =
     let size : length (take len text) ≡ len = length-take-le len text there in
     let p : len / 16777216 ≡ a = omega arith in
     let q : len / 65536 % 256 ≡ b = omega arith in
@@ -211,16 +211,16 @@ front_framed a b c d text len a' b' c' d' e there =
     ap (λ (xs : List ℕ). 0 ∷ (xs ++ take len text) ++ drop len text) four
     ∙ ap (λ (xs : List ℕ). 0 ∷ a ∷ b ∷ c ∷ d ∷ xs) (take-append-drop len text)
 
-no_length : (limit len : ℕ) (text : List ℕ) → next_of limit text ≡ next.Whole len → length_told text ≡ None → ⊥
-no_length limit len text h e = let w = whole_is limit len text h in let no : Some len ≡ None = sym w.told ∙ e in (cc)
+no_length : (limit len : ℕ) (text : List ℕ) → next_of limit text ≡ next.Whole len → length_reported text ≡ None → ⊥
+no_length limit len text h e = let w = whole_is limit len text h in let no : Some len ≡ None = sym w.reported ∙ e in (cc)
 
 pub whole_framed : (limit len : ℕ) (text : List ℕ) → AllByRecursion (λ b. b < 256) text → next_of limit text ≡ next.Whole len
     → framed (take len (drop 5 text)) ++ drop len (drop 5 text) ≡ text
 whole_framed limit len (zero ∷ a ∷ b ∷ c ∷ d ∷ text) bytes h =
     let w = whole_is limit len (zero ∷ a ∷ b ∷ c ∷ d ∷ text) h in
-    let e : Some (a * 16777216 + b * 65536 + c * 256 + d) ≡ Some len = w.told in
+    let e : Some (a * 16777216 + b * 65536 + c * 256 + d) ≡ Some len = w.reported in
     let n : a * 16777216 + b * 65536 + c * 256 + d ≡ len = (cc) in
-    front_framed a b c d text len bytes.1.0 bytes.1.1.0 bytes.1.1.1.0 bytes.1.1.1.1.0 n (omega (arith, w.there))
+    prefix_framed a b c d text len bytes.1.0 bytes.1.1.0 bytes.1.1.1.0 bytes.1.1.1.1.0 n (omega (arith, w.there))
 whole_framed limit len [] bytes h = absurd (no_length limit len [] h refl)
 whole_framed limit len (suc flag ∷ text) bytes h = absurd (no_length limit len (suc flag ∷ text) h refl)
 whole_framed limit len (zero ∷ []) bytes h = absurd (no_length limit len (zero ∷ []) h refl)
@@ -228,18 +228,18 @@ whole_framed limit len (zero ∷ a ∷ []) bytes h = absurd (no_length limit len
 whole_framed limit len (zero ∷ a ∷ b ∷ []) bytes h = absurd (no_length limit len (zero ∷ a ∷ b ∷ []) h refl)
 whole_framed limit len (zero ∷ a ∷ b ∷ c ∷ []) bytes h = absurd (no_length limit len (zero ∷ a ∷ b ∷ c ∷ []) h refl)
 
-bytes_behind : (n : ℕ) (text : List ℕ) → AllByRecursion (λ b. b < 256) text → AllByRecursion (λ b. b < 256) (drop n text)
-bytes_behind zero text h = h
-bytes_behind (suc n) [] h = tt
-bytes_behind (suc n) (x ∷ text) h = bytes_behind n text h.1
+bytes_after : (n : ℕ) (text : List ℕ) → AllByRecursion (λ b. b < 256) text → AllByRecursion (λ b. b < 256) (drop n text)
+bytes_after zero text h = h
+bytes_after (suc n) [] h = tt
+bytes_after (suc n) (x ∷ text) h = bytes_after n text h.1
 
 message_within : (limit len : ℕ) (text : List ℕ) → IsWhole limit len text → length (take len (drop 5 text)) ≤ limit
 message_within limit len text w =
     let size : length (take len (drop 5 text)) ≡ len = length-take-le len (drop 5 text) (omega (arith, w.there, length-drop 5 text)) in
     omega (arith, size, w.within)
 
-are_before : (limit : ℕ) (message behind text : List ℕ) (m : Messages) → framed message ++ behind ≡ text → length message ≤ limit → AreMessages limit behind m → AreMessages limit text (before message m)
-are_before limit message behind text m e within are = record {
+are_before : (limit : ℕ) (message afterwards text : List ℕ) (m : Messages) → framed message ++ afterwards ≡ text → length message ≤ limit → AreMessages limit afterwards m → AreMessages limit text (before message m)
+are_before limit message afterwards text m e within are = record {
   joined = sym e ∙ ap (λ (xs : List ℕ). framed message ++ xs) are.joined
       ∙ sym (append_assoc (framed message) (framed_all m.whole) m.rest)
       ∙ ap (λ (xs : List ℕ). xs ++ m.rest) (sym (flat_map-cons framed message m.whole));
@@ -267,30 +267,30 @@ are_within limit zero [] small bytes = are_by limit (next_of limit []) [] bytes 
 are_within limit zero (x ∷ text) small bytes = let no : ⊥ = omega arith in absurd no
 are_within limit (suc n) text small bytes =
     are_by limit (next_of limit text) text bytes refl
-    (λ len h. are_within limit n (drop len (drop 5 text)) (omega (arith, shorter limit len text h)) (bytes_behind len (drop 5 text) (bytes_behind 5 text bytes)))
+    (λ len h. are_within limit n (drop len (drop 5 text)) (omega (arith, shorter limit len text h)) (bytes_after len (drop 5 text) (bytes_after 5 text bytes)))
 
 pub texts_are_messages : (limit : ℕ) (text : List ℕ) → AllByRecursion (λ b. b < 256) text → AreMessages limit text (messages_of limit text)
 texts_are_messages limit text bytes = are_within limit (length text) text (omega arith) bytes
 
 -- and what is framed is read
-framed_is_whole : (limit : ℕ) (message behind : List ℕ) → length message ≤ limit → next_of limit (framed message ++ behind) ≡ next.Whole (length message)
-framed_is_whole limit message behind within =
+framed_is_whole : (limit : ℕ) (message afterwards : List ℕ) → length message ≤ limit → next_of limit (framed message ++ afterwards) ≡ next.Whole (length message)
+framed_is_whole limit message afterwards within =
     let n = length message in
     let number : n / 16777216 * 16777216 + n / 65536 % 256 * 65536 + n / 256 % 256 * 256 + n % 256 ≡ n = omega arith in
-    is_whole limit n (framed message ++ behind)
-    (record { told = ap Some number; within = within; there = omega (arith, length-append message behind) })
+    is_whole limit n (framed message ++ afterwards)
+    (record { reported = ap Some number; within = within; there = omega (arith, length-append message afterwards) })
 
-framed_next : (limit : ℕ) (message behind : List ℕ) → length message ≤ limit → messages_of limit (framed message ++ behind) ≡ before message (messages_of limit behind)
-framed_next limit message behind within =
-    messages_next limit (length message) (framed message ++ behind) (framed_is_whole limit message behind within)
-    ∙ ap (λ (xs : List ℕ). before xs (messages_of limit (drop (length message) (message ++ behind)))) (take-append_seam message behind)
-    ∙ ap (λ (xs : List ℕ). before message (messages_of limit xs)) (drop-append_seam message behind)
+framed_next : (limit : ℕ) (message afterwards : List ℕ) → length message ≤ limit → messages_of limit (framed message ++ afterwards) ≡ before message (messages_of limit afterwards)
+framed_next limit message afterwards within =
+    messages_next limit (length message) (framed message ++ afterwards) (framed_is_whole limit message afterwards within)
+    ∙ ap (λ (xs : List ℕ). before xs (messages_of limit (drop (length message) (message ++ afterwards)))) (take-append_seam message afterwards)
+    ∙ ap (λ (xs : List ℕ). before message (messages_of limit xs)) (drop-append_seam message afterwards)
 
-rest_read : (limit : ℕ) (rest : List ℕ) (o : Option MessageFault) → next_of limit rest ≡ next_told o → messages_of limit rest ≡ record { whole = []; rest = rest; fault = o }
+rest_read : (limit : ℕ) (rest : List ℕ) (o : Option MessageFault) → next_of limit rest ≡ next_reported o → messages_of limit rest ≡ record { whole = []; rest = rest; fault = o }
 rest_read limit rest None h = messages_none limit rest h
 rest_read limit rest (Some f) h = messages_fault limit f rest h
 
-framed_read : (limit : ℕ) (whole : List (List ℕ)) (rest : List ℕ) (o : Option MessageFault) → AllByRecursion (λ message. length message ≤ limit) whole → next_of limit rest ≡ next_told o
+framed_read : (limit : ℕ) (whole : List (List ℕ)) (rest : List ℕ) (o : Option MessageFault) → AllByRecursion (λ message. length message ≤ limit) whole → next_of limit rest ≡ next_reported o
     → messages_of limit (framed_all whole ++ rest) ≡ record { whole = whole; rest = rest; fault = o }
 framed_read limit [] rest o within h = rest_read limit rest o h
 framed_read limit (message ∷ whole) rest o within h =

@@ -16,8 +16,8 @@ pub one_more : (limit len at : ℕ) (messages : List (List ℕ)) (bytes : List �
     → before_all (messages ++ take len (drop 5 (drop at bytes)) ∷ []) (kept (messages_of limit (drop len (drop 5 (drop at bytes))))) ≡ before_all messages (kept (messages_of limit (drop at bytes)))
 one_more limit len at messages bytes h =
     let message = take len (drop 5 (drop at bytes)) in
-    let behind = kept (messages_of limit (drop len (drop 5 (drop at bytes)))) in
-    ap (λ (xs : List (List ℕ)). record behind { whole = xs }) (append_assoc messages (message ∷ []) behind.whole)
+    let afterwards = kept (messages_of limit (drop len (drop 5 (drop at bytes)))) in
+    ap (λ (xs : List (List ℕ)). record afterwards { whole = xs }) (append_assoc messages (message ∷ []) afterwards.whole)
     ∙ ap (λ (m : Messages). before_all messages (kept m)) (sym (messages_next limit len (drop at bytes) h))
 
 -- a part and the next part
@@ -38,13 +38,13 @@ pub loop_on : (limit len at : ℕ) (messages pushed : List (List ℕ)) (message 
 loop_on limit len at messages pushed message bytes h e f =
     let size : at + 5 + len - (at + 5) ≡ len = omega arith in
     let there : drop 5 (drop at bytes) ≡ drop (at + 5) bytes = drop-drop 5 at bytes in
-    let behind : drop len (drop 5 (drop at bytes)) ≡ drop (at + 5 + len) bytes = ap (drop len) there ∙ drop-drop len (at + 5) bytes in
+    let afterwards : drop len (drop 5 (drop at bytes)) ≡ drop (at + 5 + len) bytes = ap (drop len) there ∙ drop-drop len (at + 5) bytes in
     let text : message ≡ take len (drop 5 (drop at bytes)) = e ∙ ap (λ (n : ℕ). take n (drop (at + 5) bytes)) size ∙ ap (take len) (sym there) in
     ap (λ (xs : List (List ℕ)). before_all xs (kept (messages_of limit (drop (at + 5 + len) bytes)))) (f ∙ ap (λ (xs : List ℕ). messages ++ xs ∷ []) text)
-    ∙ ap (λ (xs : List ℕ). before_all (messages ++ take len (drop 5 (drop at bytes)) ∷ []) (kept (messages_of limit xs))) (sym behind)
+    ∙ ap (λ (xs : List ℕ). before_all (messages ++ take len (drop 5 (drop at bytes)) ∷ []) (kept (messages_of limit xs))) (sym afterwards)
     ∙ one_more limit len at messages bytes h
 
--- a rest, given bytes of a piece, and the piece behind them
+-- a rest, given bytes of a piece, and the piece after them
 rejoin : (rest begun bytes : List ℕ) (taken : ℕ) → begun ≡ rest ++ take taken bytes → begun ++ drop taken bytes ≡ rest ++ bytes
 rejoin rest begun bytes taken e =
     ap (λ (xs : List ℕ). xs ++ drop taken bytes) e
@@ -54,16 +54,16 @@ rejoin rest begun bytes taken e =
 pub rest_whole : (limit len taken : ℕ) (rest begun bytes : List ℕ) → begun ≡ rest ++ take taken bytes → next_of limit begun ≡ next.Whole len → length begun ≡ 5 + len
     → before_all (drop 5 begun ∷ []) (kept (messages_of limit (drop taken bytes))) ≡ kept (messages_of limit (rest ++ bytes))
 rest_whole limit len taken rest begun bytes e h size =
-    let behind = drop taken bytes in
-    let five : drop 5 (begun ++ behind) ≡ drop 5 begun ++ behind = drop-append-le 5 begun behind (omega (arith, size)) in
+    let afterwards = drop taken bytes in
+    let five : drop 5 (begun ++ afterwards) ≡ drop 5 begun ++ afterwards = drop-append-le 5 begun afterwards (omega (arith, size)) in
     let all : length (drop 5 begun) ≡ len = omega (arith, size, length-drop 5 begun) in
-    let message : take len (drop 5 (begun ++ behind)) ≡ drop 5 begun =
-    ap (take len) five ∙ ap (λ (n : ℕ). take n (drop 5 begun ++ behind)) (sym all) ∙ take-append_seam (drop 5 begun) behind in
-    let left : drop len (drop 5 (begun ++ behind)) ≡ behind =
-    ap (drop len) five ∙ ap (λ (n : ℕ). drop n (drop 5 begun ++ behind)) (sym all) ∙ drop-append_seam (drop 5 begun) behind in
-    ap (λ (xs : List ℕ). before xs (kept (messages_of limit behind))) (sym message)
-    ∙ ap (λ (xs : List ℕ). before (take len (drop 5 (begun ++ behind))) (kept (messages_of limit xs))) (sym left)
-    ∙ ap kept (sym (messages_next limit len (begun ++ behind) (whole_stays limit len begun behind h)))
+    let message : take len (drop 5 (begun ++ afterwards)) ≡ drop 5 begun =
+    ap (take len) five ∙ ap (λ (n : ℕ). take n (drop 5 begun ++ afterwards)) (sym all) ∙ take-append_seam (drop 5 begun) afterwards in
+    let left : drop len (drop 5 (begun ++ afterwards)) ≡ afterwards =
+    ap (drop len) five ∙ ap (λ (n : ℕ). drop n (drop 5 begun ++ afterwards)) (sym all) ∙ drop-append_seam (drop 5 begun) afterwards in
+    ap (λ (xs : List ℕ). before xs (kept (messages_of limit afterwards))) (sym message)
+    ∙ ap (λ (xs : List ℕ). before (take len (drop 5 (begun ++ afterwards))) (kept (messages_of limit xs))) (sym left)
+    ∙ ap kept (sym (messages_next limit len (begun ++ afterwards) (whole_stays limit len begun afterwards h)))
     ∙ ap (λ (xs : List ℕ). kept (messages_of limit xs)) (rejoin rest begun bytes taken e)
 
 pub rest_fault : (limit taken : ℕ) (f : MessageFault) (rest begun bytes : List ℕ) → begun ≡ rest ++ take taken bytes → next_of limit begun ≡ next.Fault f
@@ -78,7 +78,7 @@ rest_partial limit taken rest begun bytes e h all =
     let same : begun ≡ rest ++ bytes = e ∙ ap (λ (xs : List ℕ). rest ++ xs) (take_all taken bytes (omega (arith, all))) in
     ap (λ (xs : List ℕ). kept (messages_of limit xs)) (sym same) ∙ ap kept (messages_none limit begun h)
 
--- all that is behind a place
+-- all that is after a place
 pub tail_is : (at : ℕ) (bytes : List ℕ) → take (length bytes - at) (drop at bytes) ≡ drop at bytes
 tail_is at bytes = take_all (length bytes - at) (drop at bytes) (omega (arith, length-drop at bytes))
 
@@ -89,6 +89,6 @@ pub fault_alone : (whole : List (List ℕ)) (rest : List ℕ) (f : MessageFault)
     → record { whole = whole; rest = rest; fault = Some f } ≡ m
 fault_alone whole rest f m p q e = rw (p, q) (sym e)
 
-pub one_in_front : (pushed before_ : List (List ℕ)) (message begun : List ℕ) (m n : Messages) → pushed ≡ before_ ++ message ∷ [] → before_ ≡ [] → message ≡ drop 5 begun → before_all (drop 5 begun ∷ []) m ≡ n → before_all pushed m ≡ n
-one_in_front pushed before_ message begun m n p q r e =
+pub one_before : (pushed before_ : List (List ℕ)) (message begun : List ℕ) (m n : Messages) → pushed ≡ before_ ++ message ∷ [] → before_ ≡ [] → message ≡ drop 5 begun → before_all (drop 5 begun ∷ []) m ≡ n → before_all pushed m ≡ n
+one_before pushed before_ message begun m n p q r e =
     ap (λ (xs : List (List ℕ)). before_all xs m) (p ∙ ap (λ (xs : List (List ℕ)). xs ++ message ∷ []) q ∙ ap (λ (xs : List ℕ). xs ∷ []) r) ∙ e

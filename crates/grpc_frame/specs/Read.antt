@@ -6,14 +6,14 @@ use Rattle.grpc_frame.specs.declared.read.Read.{Read}
 use Rattle.grpc_frame.specs.Messages.{Messages}
 
 -- what was read
-abbrev pub told : Read → Messages
-told r = record { whole = r.messages.items; rest = r.rest.items; fault = r.fault }
+abbrev pub reported : Read → Messages
+reported r = record { whole = r.messages.items; rest = r.rest.items; fault = r.fault }
 
 -- the rest is kept where there is no fault
 abbrev pub kept : Messages → Messages
 kept m = record m { rest = if is_none m.fault then m.rest else [] }
 
--- messages in front of others
+-- messages before others
 abbrev pub before_all : List (List ℕ) → Messages → Messages
 before_all messages m = record m { whole = messages ++ m.whole }
 

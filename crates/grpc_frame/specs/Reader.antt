@@ -4,19 +4,19 @@ use Rattle.grpc_frame.specs.declared.next.MessageFault.{MessageFault}
 use Rattle.grpc_frame.specs.declared.next.NextMessage.TheVariants as next
 use Rattle.grpc_frame.specs.Messages.{Messages, messages_of, next_of}
 
--- the limit on a message, the bytes of a message that is not whole yet, and the fault, behind which no byte is kept
+-- the limit on a message, the bytes of a message that is not whole yet, and the fault, after which no byte is kept
 pub record ReaderSeen : Type 0 where
   pub limit : ℕ
   pub rest : List ℕ
   pub fault : Option MessageFault
 
 -- a reader that was fed a text with these messages
-abbrev pub reader_behind : ℕ → Messages → ReaderSeen
-reader_behind limit m = record { limit = limit; rest = if is_none m.fault then m.rest else []; fault = m.fault }
+abbrev pub reader_after : ℕ → Messages → ReaderSeen
+reader_after limit m = record { limit = limit; rest = if is_none m.fault then m.rest else []; fault = m.fault }
 
 -- a reader that was fed a text
 abbrev pub reader_of : ℕ → List ℕ → ReaderSeen
-reader_of limit text = reader_behind limit (messages_of limit text)
+reader_of limit text = reader_after limit (messages_of limit text)
 
 -- what a reader gives for some bytes more, and the reader then
 pub record Given : Type 0 where
@@ -28,7 +28,7 @@ abbrev pub given_by : ReaderSeen → Option MessageFault → List ℕ → Given
 given_by r (Some f) bytes = record { messages = []; fault = Some f; reader = r }
 given_by r None bytes =
     let m = messages_of r.limit (r.rest ++ bytes) in
-    record { messages = m.whole; fault = m.fault; reader = reader_behind r.limit m }
+    record { messages = m.whole; fault = m.fault; reader = reader_after r.limit m }
 
 abbrev pub given : ReaderSeen → List ℕ → Given
 given r bytes = given_by r r.fault bytes

@@ -39,7 +39,7 @@ impl From<AllocError> for FrameFault {
     }
 }
 
-/// A message behind its flag, which says that it is not compressed, and its length
+/// A message after its flag, which says that it is not compressed, and its length
 /// (gRPC over HTTP/2, "Length-Prefixed-Message").
 pub fn frame_message(alloc: Global, message: &[u8]) -> Result<Octets, FrameFault>
     ensures ok { IfOk result (λ text. text ≡ framed message.now) }

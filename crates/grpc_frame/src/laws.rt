@@ -4,7 +4,7 @@ ghost use Rattle.std.specs.List.{AllByRecursion};
 ghost use Rattle.grpc_frame.specs.Messages.{AreMessages, Messages, messages_of};
 ghost use Rattle.grpc_frame.specs.Reader.{given, reader_of};
 
-/// Each text of bytes is messages in just one way, framed one behind the other, with a rest that is less than a message or
+/// Each text of bytes is messages in just one way, framed one after the other, with a rest that is less than a message or
 /// at fault.
 pub fn texts_are_messages()
     ensures exists { (limit : ℕ) (text : List ℕ) → AllByRecursion (λ b. b < 256) text → AreMessages limit text (messages_of limit text) }

@@ -1,6 +1,6 @@
-// What stands at the front of some bytes.
+// What stands at the start of some bytes.
 ghost use Rattle.std.specs.Prelude.{◌≡◌};
-ghost use Rattle.grpc_frame.specs.Messages.{length_told, next_by, next_of};
+ghost use Rattle.grpc_frame.specs.Messages.{length_reported, next_by, next_of};
 
 /// How many bytes stand before a message: its flag and its length.
 pub const PREFIX_SIZE: usize = 5;
@@ -14,23 +14,23 @@ pub enum MessageFault {
     TooLarge { length: u32 },
 }
 
-/// What stands at the front of some bytes.
+/// What stands at the start of some bytes.
 #[derive(Clone, Copy, Debug, PartialEq, Eq)]
 pub enum NextMessage {
-    /// A message of so many bytes behind its prefix.
+    /// A message of so many bytes after its prefix.
     Whole { length: u32 },
     /// Less than a message.
     Partial,
     Fault { fault: MessageFault },
 }
 
-/// The message or the fault at the front of the bytes.
+/// The message or the fault at the start of the bytes.
 pub fn next_message(limit: u32, bytes: &[u8]) -> NextMessage
     ensures { result ≡ next_of limit bytes.now }
 {
     match bytes {
         [] => NextMessage::Partial,
-        [0, ..] => next_by(limit, bytes.len(), length_told(bytes)),
+        [0, ..] => next_by(limit, bytes.len(), length_reported(bytes)),
         _ => NextMessage::Fault {
             fault: MessageFault::BadFlag,
         },
@@ -50,9 +50,9 @@ fn next_by(limit: u32, size: usize, length: Option<u32>) -> NextMessage
     }
 }
 
-/// The length that a prefix tells, where all of it is there.
-pub fn length_told(bytes: &[u8]) -> Option<u32>
-    ensures { result ≡ length_told bytes.now }
+/// The length that a prefix reports, where all of it is there.
+pub fn length_reported(bytes: &[u8]) -> Option<u32>
+    ensures { result ≡ length_reported bytes.now }
 {
     match bytes {
         [0, a, b, c, d, ..] => Some(u32::from_be_bytes([*a, *b, *c, *d])),

@@ -2,14 +2,14 @@
 ghost use Rattle.std.specs.Prelude.{◌≡◌, ◌≤◌, ◌++◌, ◌+◌, [], ◌∷◌, ℕ, IfOk, drop, length, take};
 ghost use Rattle.grpc_frame.specs.declared.next.NextMessage.TheVariants as next;
 ghost use Rattle.grpc_frame.specs.Messages.{messages_of, next_of};
-ghost use Rattle.grpc_frame.specs.Read.{before_all, IsAsFar, kept, told};
+ghost use Rattle.grpc_frame.specs.Read.{before_all, IsAsFar, kept, reported};
 
-use crate::next::{MessageFault, NextMessage, PREFIX_SIZE, length_told, next_message};
+use crate::next::{MessageFault, NextMessage, PREFIX_SIZE, length_reported, next_message};
 use bytes::BytesMut;
 use grpc_base::{NoMemory, Octets};
 use std::alloc::Global;
 
-/// The messages that are whole, and the rest, which is empty behind a fault.
+/// The messages that are whole, and the rest, which is empty after a fault.
 #[derive(Drop)]
 pub struct Read {
     pub messages: Vec<Octets>,
@@ -20,7 +20,7 @@ pub struct Read {
 /// Reads on, from a message that is not whole yet.
 pub fn read_on(limit: u32, rest: BytesMut, octets: &Octets) -> Result<Read, NoMemory>
     requires { next_of limit rest.items ≡ next.Partial }
-    ensures told { IfOk result (λ r. told r ≡ kept (messages_of limit (rest.items ++ octets.now))) }
+    ensures reported { IfOk result (λ r. reported r ≡ kept (messages_of limit (rest.items ++ octets.now))) }
     ensures partial { IfOk result (λ r. next_of limit r.rest.items ≡ next.Partial) }
 {
     let alloc = *rest.allocator();
@@ -47,7 +47,7 @@ pub fn read_on(limit: u32, rest: BytesMut, octets: &Octets) -> Result<Read, NoMe
     }
 }
 
-// The message behind its prefix, and nothing else.
+// The message after its prefix, and nothing else.
 fn message_in(text: BytesMut) -> Result<Octets, NoMemory>
     requires { 5 ≤ length text.items }
     ensures { IfOk result (λ message. message ≡ drop 5 text.items) }
@@ -75,7 +75,7 @@ fn go_on(limit: u32, rest: BytesMut, bytes: &[u8]) -> Result<Begun, NoMemory>
     let mut rest = rest;
     let prefix = PREFIX_SIZE.saturating_sub(rest.len()).min(bytes.len());
     rest.extend_from_slice(&bytes[..prefix])?;
-    match length_told(rest.as_slice()) {
+    match length_reported(rest.as_slice()) {
         Some(length) if length <= limit => {
             let lacking = PREFIX_SIZE + length as usize - rest.len();
             let more = lacking.min(bytes.len() - prefix);
@@ -102,7 +102,7 @@ fn read_from(
     start: usize,
 ) -> Result<Read, NoMemory>
     requires { start ≤ length octets.now }
-    ensures told { IfOk result (λ r. told r ≡ before_all messages.items (kept (messages_of limit (drop start octets.now)))) }
+    ensures reported { IfOk result (λ r. reported r ≡ before_all messages.items (kept (messages_of limit (drop start octets.now)))) }
     ensures partial { IfOk result (λ r. next_of limit r.rest.items ≡ next.Partial) }
 {
     let mut messages = messages;
@@ -116,7 +116,7 @@ fn read_from(
     read_end(alloc, limit, messages, &bytes[at..])
 }
 
-// Keeps what is behind the last whole message, with room for the message that it begins once its length is there.
+// Keeps what is after the last whole message, with room for the message that it begins once its length is there.
 fn read_end(
     alloc: Global,
     limit: u32,
@@ -124,14 +124,14 @@ fn read_end(
     bytes: &[u8],
 ) -> Result<Read, NoMemory>
     requires { (len : ℕ) → next_of limit bytes.now ≡ next.Whole len → ⊥ }
-    ensures told { IfOk result (λ r. told r ≡ before_all messages.items (kept (messages_of limit bytes.now))) }
+    ensures reported { IfOk result (λ r. reported r ≡ before_all messages.items (kept (messages_of limit bytes.now))) }
     ensures partial { IfOk result (λ r. next_of limit r.rest.items ≡ next.Partial) }
 {
     let mut rest = BytesMut::new(alloc);
     let fault = match next_message(limit, bytes) {
         NextMessage::Fault { fault } => Some(fault),
         _ => {
-            if let Some(length) = length_told(bytes) {
+            if let Some(length) = length_reported(bytes) {
                 rest.reserve(PREFIX_SIZE + length as usize)?;
             }
             rest.extend_from_slice(bytes)?;

@@ -53,7 +53,7 @@ impl MessageReader {
         }
     }
 
-    /// Takes the next bytes of the stream. Behind a fault it gives no message, and the same fault, for good. On out of
+    /// Takes the next bytes of the stream. After a fault it gives no message, and the same fault, for good. On out of
     /// memory messages are lost: the reader is of no use any more.
     pub fn feed(&mut self, octets: &Octets) -> Result<Fed, NoMemory>
         ensures messages { IfOk result (λ f. f.messages.items ≡ (given self.old octets.now).messages) }

@@ -1,29 +1,29 @@
--- What a link tells of its attempts does not depend on how its bytes are cut.
+-- What a link reports of its attempts does not depend on how its bytes are cut.
 use Rattle.std.proofs.Common.{◌≡◌, ◌≢◌, ℕ, List, [], ◌++◌, length, ap, sym, ◌∙◌}
 use Rattle.h2_frame.specs.Readings.{Partial, Reading, reading_of}
-use Rattle.h2_link.specs.Heard.{Hearing, front_as, heard, heard_with}
+use Rattle.h2_link.specs.Received.{Receiving, prefix_as, handled, received_with}
 use Rattle.h2_link.specs.Wire.{Seen}
-use Rattle.h2_link.proofs.Cuts.{heard_goes_on, heard_stays}
-use Rattle.grpc_link.specs.Links.{GrpcSeen, Told, link_heard, told_all}
+use Rattle.h2_link.proofs.Cuts.{received_goes_on, received_stays}
+use Rattle.grpc_link.specs.Links.{GrpcSeen, Report, link_received, reported_all}
 
-abbrev told_from : GrpcSeen → Hearing → Told
-told_from g h = told_all (record { link = h.link; readers = g.readers }) h.news
+abbrev reported_from : GrpcSeen → Receiving → Report
+reported_from g h = reported_all (record { link = h.link; readers = g.readers }) h.news
 
-pub link_stays : (g : GrpcSeen) (front more : List ℕ) → reading_of (g.link.rest ++ front) ≢ Partial → link_heard g (front ++ more) ≡ link_heard g front
-link_stays g front more whole = ap (λ (h : Hearing). told_from g h) (heard_stays g.link front more whole)
+pub link_stays : (g : GrpcSeen) (prefix more : List ℕ) → reading_of (g.link.rest ++ prefix) ≢ Partial → link_received g (prefix ++ more) ≡ link_received g prefix
+link_stays g prefix more whole = ap (λ (h : Receiving). reported_from g h) (received_stays g.link prefix more whole)
 
 -- a piece that shows nothing is kept
-abbrev kept : Seen → List ℕ → Hearing
-kept l front = record { taken = length front; link = record { wire = l.wire; rest = l.rest ++ front }; news = [] }
+abbrev kept : Seen → List ℕ → Receiving
+kept l prefix = record { taken = length prefix; link = record { wire = l.wire; rest = l.rest ++ prefix }; news = [] }
 
-part_heard : (l : Seen) (front : List ℕ) → reading_of (l.rest ++ front) ≡ Partial → heard l front ≡ kept l front
-part_heard l front part = ap (λ (r : Reading). heard_with l front (front_as l.wire (l.rest ++ front) r)) part
+part_received : (l : Seen) (prefix : List ℕ) → reading_of (l.rest ++ prefix) ≡ Partial → handled l prefix ≡ kept l prefix
+part_received l prefix part = ap (λ (r : Reading). received_with l prefix (prefix_as l.wire (l.rest ++ prefix) r)) part
 
-pub part_tells_nothing : (g : GrpcSeen) (front : List ℕ) → reading_of (g.link.rest ++ front) ≡ Partial → (link_heard g front).news ≡ []
-part_tells_nothing g front part = ap (λ (h : Hearing). (told_from g h).news) (part_heard g.link front part)
+pub part_reports_nothing : (g : GrpcSeen) (prefix : List ℕ) → reading_of (g.link.rest ++ prefix) ≡ Partial → (link_received g prefix).news ≡ []
+part_reports_nothing g prefix part = ap (λ (h : Receiving). (reported_from g h).news) (part_received g.link prefix part)
 
-pub link_goes_on : (g : GrpcSeen) (front more : List ℕ) → reading_of (g.link.rest ++ front) ≡ Partial → link_heard g (front ++ more) ≡ link_heard (link_heard g front).link more
-link_goes_on g front more part =
-    let here : ◌≡◌ {A = GrpcSeen} (record { link = (heard g.link front).link; readers = g.readers }) (link_heard g front).link =
-    ap (λ (h : Hearing). let s : GrpcSeen = record { link = h.link; readers = g.readers } in s) (part_heard g.link front part) ∙ sym (ap (λ (h : Hearing). (told_from g h).link) (part_heard g.link front part)) in
-    ap (λ (h : Hearing). told_from g h) (heard_goes_on g.link front more part) ∙ ap (λ (s : GrpcSeen). link_heard s more) here
+pub link_goes_on : (g : GrpcSeen) (prefix more : List ℕ) → reading_of (g.link.rest ++ prefix) ≡ Partial → link_received g (prefix ++ more) ≡ link_received (link_received g prefix).link more
+link_goes_on g prefix more part =
+    let here : ◌≡◌ {A = GrpcSeen} (record { link = (handled g.link prefix).link; readers = g.readers }) (link_received g prefix).link =
+    ap (λ (h : Receiving). let s : GrpcSeen = record { link = h.link; readers = g.readers } in s) (part_received g.link prefix part) ∙ sym (ap (λ (h : Receiving). (reported_from g h).link) (part_received g.link prefix part)) in
+    ap (λ (h : Receiving). reported_from g h) (received_goes_on g.link prefix more part) ∙ ap (λ (s : GrpcSeen). link_received s more) here

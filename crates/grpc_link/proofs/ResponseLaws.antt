@@ -1,4 +1,4 @@
--- A reader tells what the response gains.
+-- A reader reports what the response gains.
 use Rattle.std.proofs.Common.{◌≡◌, ℕ, Bool, true, false, Option, Some, None, List, [], ◌++◌, length, drop, refl, ap, sym, ◌∙◌, inl, inr}
 use Rattle.std.proofs.lemmas.Bool.{cases_Bool}
 use Rattle.std.proofs.Math.Seq.{drop-append_seam, drop-length}
@@ -14,7 +14,7 @@ use Rattle.grpc_meta.specs.ResponseFields.{shown_of}
 use Rattle.h2_link.specs.declared.news.LinkNews.{LinkNews}
 use Rattle.h2_link.specs.declared.news.LinkNews.TheVariants as link
 use Rattle.grpc_link.specs.Readers.{ReaderSeen, headers_by, read_on, reader_for, stepped}
-use Rattle.grpc_link.specs.Response.{Response, comes_head, data_end, data_large, end_gained, gained, head_gained, headers_end, heard, is_over, large_gained, message_news, messages_gained, seen_by, with_news}
+use Rattle.grpc_link.specs.Response.{Response, comes_head, data_end, data_large, end_gained, gained, head_gained, headers_end, handled, is_over, large_gained, message_news, messages_gained, seen_by, with_news}
 
 -- a response that is not over
 abbrev pub fresh : Bool → Option (List Field) → List ℕ → Response
@@ -87,19 +87,19 @@ news_of_fresh limit tag opened head bytes link.Ready = rw (no_head tag 0 head, n
 news_of_fresh limit tag opened head bytes link.Retiring = rw (no_head tag 0 head, no_message tag 0 (messages_of limit bytes).whole) refl
 news_of_fresh limit tag opened head bytes (link.Broken number) = rw (no_head tag 0 head, no_message tag 0 (messages_of limit bytes).whole) refl
 
-pub news_gained : (limit tag : ℕ) (r : Response) (n : LinkNews) → is_over r ≡ false → (stepped (reader_for limit r) tag n).news ≡ gained limit tag (seen_by n) r (heard limit r n)
+pub news_gained : (limit tag : ℕ) (r : Response) (n : LinkNews) → is_over r ≡ false → (stepped (reader_for limit r) tag n).news ≡ gained limit tag (seen_by n) r (handled limit r n)
 news_gained limit tag r n live =
     let same = is_fresh r live in
     let step : (stepped (reader_for limit r) tag n).news ≡ (read_on (reader_for limit r) tag n).news = rw live refl in
-    let hear : gained limit tag (seen_by n) r (with_news limit r n) ≡ gained limit tag (seen_by n) r (heard limit r n) = rw live refl in
+    let receive : gained limit tag (seen_by n) r (with_news limit r n) ≡ gained limit tag (seen_by n) r (handled limit r n) = rw live refl in
     step
     ∙ ap (λ (q : Response). (read_on (reader_for limit q) tag n).news) same
     ∙ news_of_fresh limit tag r.opened r.head r.data_ n
     ∙ ap (λ (q : Response). gained limit tag (seen_by n) q (with_news limit q n)) (sym same)
-    ∙ hear
+    ∙ receive
 
-pub over_tells_nothing : (limit tag : ℕ) (r : Response) (n : LinkNews) → is_over r ≡ true → (stepped (reader_for limit r) tag n).news ≡ []
-over_tells_nothing limit tag r n over = rw over refl
+pub over_reports_nothing : (limit tag : ℕ) (r : Response) (n : LinkNews) → is_over r ≡ true → (stepped (reader_for limit r) tag n).news ≡ []
+over_reports_nothing limit tag r n over = rw over refl
 
 -- the reader then
 first_reader : (limit tag seen : ℕ) (opened : Bool) (bytes : List ℕ) (fields : List Field) (o : Option EndNews) →
@@ -138,20 +138,20 @@ reader_of_fresh limit tag opened head bytes (link.Broken number) = refl
 over_stays : (tag : ℕ) (r : ReaderSeen) (n : LinkNews) → r.over ≡ true → (stepped r tag n).reader ≡ r
 over_stays tag r n over = rw over refl
 
-over_hears_nothing : (limit : ℕ) (r : Response) (n : LinkNews) → is_over r ≡ true → heard limit r n ≡ r
-over_hears_nothing limit r n over = rw over refl
+over_receives_nothing : (limit : ℕ) (r : Response) (n : LinkNews) → is_over r ≡ true → handled limit r n ≡ r
+over_receives_nothing limit r n over = rw over refl
 
-reader_by : (limit tag : ℕ) (r : Response) (n : LinkNews) (b : Bool) → is_over r ≡ b → (stepped (reader_for limit r) tag n).reader ≡ reader_for limit (heard limit r n)
-reader_by limit tag r n true over = over_stays tag (reader_for limit r) n over ∙ ap (reader_for limit) (sym (over_hears_nothing limit r n over))
+reader_by : (limit tag : ℕ) (r : Response) (n : LinkNews) (b : Bool) → is_over r ≡ b → (stepped (reader_for limit r) tag n).reader ≡ reader_for limit (handled limit r n)
+reader_by limit tag r n true over = over_stays tag (reader_for limit r) n over ∙ ap (reader_for limit) (sym (over_receives_nothing limit r n over))
 reader_by limit tag r n false live =
     let same = is_fresh r live in
     let step : (stepped (reader_for limit r) tag n).reader ≡ (read_on (reader_for limit r) tag n).reader = rw live refl in
-    let hear : reader_for limit (with_news limit r n) ≡ reader_for limit (heard limit r n) = rw live refl in
+    let receive : reader_for limit (with_news limit r n) ≡ reader_for limit (handled limit r n) = rw live refl in
     step
     ∙ ap (λ (q : Response). (read_on (reader_for limit q) tag n).reader) same
     ∙ reader_of_fresh limit tag r.opened r.head r.data_ n
     ∙ ap (λ (q : Response). reader_for limit (with_news limit q n)) (sym same)
-    ∙ hear
+    ∙ receive
 
-pub reader_then : (limit tag : ℕ) (r : Response) (n : LinkNews) → (stepped (reader_for limit r) tag n).reader ≡ reader_for limit (heard limit r n)
+pub reader_then : (limit tag : ℕ) (r : Response) (n : LinkNews) → (stepped (reader_for limit r) tag n).reader ≡ reader_for limit (handled limit r n)
 reader_then limit tag r n = reader_by limit tag r n (is_over r) refl

@@ -1,4 +1,4 @@
--- The ends of attempts as their links tell them (gRPC over HTTP/2, "Responses"; RFC 9113, sections 6.4, 6.8 and 8.1).
+-- The ends of attempts as their links report them (gRPC over HTTP/2, "Responses"; RFC 9113, sections 6.4, 6.8 and 8.1).
 use Rattle.std.specs.Prelude.{ℕ, Bool, true, false, Option, Some, None, List, [], ◌∷◌, ◌==◌, ◌&&◌, ◌||◌, codes, nat_eq, slice_get, if◌then◌else◌}
 use Rattle.std.specs.List.{starts_with}
 use Rattle.std.specs.Option.{option_map_or}
@@ -64,8 +64,8 @@ abbrev pub http_end : List Field → ℕ → EndNews
 http_end fields seen = end_with (http_code fields) cause.Http pushback.None fields seen
 
 -- an end that no header block makes
-abbrev pub bare_end : Code → RowCause → Bool → ℕ → EndNews
-bare_end c why unseen seen = record {
+abbrev pub end_without_block : Code → RowCause → Bool → ℕ → EndNews
+end_without_block c why unseen seen = record {
   code = c;
   text = [];
   meta = [];
@@ -78,11 +78,11 @@ bare_end c why unseen seen = record {
 -- the end by RST_STREAM: a stream that is refused before its head was not acted on (RFC 9113, section 8.7)
 abbrev pub reset_end : Bool → ℕ → ℕ → EndNews
 reset_end has_head number seen =
-    bare_end (looked_up reset_codes number) cause.Reset ((number == refused_stream) && (if has_head then false else true)) seen
+    end_without_block (looked_up reset_codes number) cause.Reset ((number == refused_stream) && (if has_head then false else true)) seen
 
 -- the end by GOAWAY: of a stream above its last one, or of an attempt that has none
 abbrev pub unseen_end : Bool → ℕ → EndNews
-unseen_end opened seen = bare_end code.Unavailable (if opened then cause.Goaway else cause.Unsent) true seen
+unseen_end opened seen = end_without_block code.Unavailable (if opened then cause.Goaway else cause.Unsent) true seen
 
 -- whether a code is OK
 abbrev pub is_ok : Code → Bool

@@ -6,7 +6,7 @@ use Rattle.attempt_ledger.specs.declared.news.News.{News}
 use Rattle.attempt_ledger.specs.declared.news.News.TheVariants as news
 use Rattle.h2_link.specs.declared.news.LinkNews.{LinkNews}
 use Rattle.h2_link.specs.declared.news.LinkNews.TheVariants as link
-use Rattle.h2_link.specs.Heard.{heard}
+use Rattle.h2_link.specs.Received.{handled}
 use Rattle.h2_link.specs.Steps.{cut}
 use Rattle.h2_link.specs.Wire.{Seen}
 use Rattle.grpc_link.specs.declared.readers.TagReader.{TagReader}
@@ -26,8 +26,8 @@ found_from tag place (t ∷ readers) = if t.tag == tag then Some (place, t.reade
 abbrev pub found : ℕ → List TagReader → Option (ℕ × ReaderSeen)
 found tag readers = found_from tag 0 readers
 
--- a link and what it tells
-pub record Told : Type 0 where
+-- a link and what it reports
+pub record Report : Type 0 where
   pub link : GrpcSeen
   pub news : List News
 
@@ -39,44 +39,44 @@ without_at readers (Some x) = remove readers x.0
 abbrev pub without : ℕ → List TagReader → List TagReader
 without tag readers = without_at readers (found tag readers)
 
--- a reader behind the others
+-- a reader after the others
 abbrev pub with_reader : ℕ → ReaderSeen → List TagReader → List TagReader
 with_reader tag r readers = readers ++ record { tag = tag; reader = r } ∷ []
 
 -- where the response is over, the tag is given up with CANCEL, which changes nothing if its stream has ended
-abbrev pub told_by : GrpcSeen → ℕ → Stepped → Told
-told_by g tag s =
+abbrev pub reported_by : GrpcSeen → ℕ → Stepped → Report
+reported_by g tag s =
     if s.reader.over then record { link = record g { link = record g.link { wire = cut g.link.wire tag cancel } }; news = s.news }
     else record { link = record g { readers = with_reader tag s.reader g.readers }; news = s.news }
 
 -- news of a tag
-abbrev pub told_of : GrpcSeen → ℕ → LinkNews → Option (ℕ × ReaderSeen) → Told
-told_of g tag n None = record { link = g; news = [] }
-told_of g tag n (Some x) = told_by (record g { readers = remove g.readers x.0 }) tag (stepped x.1 tag n)
+abbrev pub reported_of : GrpcSeen → ℕ → LinkNews → Option (ℕ × ReaderSeen) → Report
+reported_of g tag n None = record { link = g; news = [] }
+reported_of g tag n (Some x) = reported_by (record g { readers = remove g.readers x.0 }) tag (stepped x.1 tag n)
 
 -- one of the link's news; a broken link has no tags any more
-abbrev pub told : GrpcSeen → LinkNews → Told
-told g link.Ready = record { link = g; news = news.Ready ∷ [] }
-told g link.Retiring = record { link = g; news = news.Retiring ∷ [] }
-told g (link.Broken code) = record { link = record g { readers = [] }; news = news.Broken code ∷ [] }
-told g (link.Fields tag fields end seen) = told_of g tag (link.Fields tag fields end seen) (found tag g.readers)
-told g (link.Data tag bytes end seen) = told_of g tag (link.Data tag bytes end seen) (found tag g.readers)
-told g (link.Reset tag code seen) = told_of g tag (link.Reset tag code seen) (found tag g.readers)
-told g (link.Fault tag code seen) = told_of g tag (link.Fault tag code seen) (found tag g.readers)
-told g (link.Unseen tag seen) = told_of g tag (link.Unseen tag seen) (found tag g.readers)
+abbrev pub reported : GrpcSeen → LinkNews → Report
+reported g link.Ready = record { link = g; news = news.Ready ∷ [] }
+reported g link.Retiring = record { link = g; news = news.Retiring ∷ [] }
+reported g (link.Broken code) = record { link = record g { readers = [] }; news = news.Broken code ∷ [] }
+reported g (link.Fields tag fields end seen) = reported_of g tag (link.Fields tag fields end seen) (found tag g.readers)
+reported g (link.Data tag bytes end seen) = reported_of g tag (link.Data tag bytes end seen) (found tag g.readers)
+reported g (link.Reset tag code seen) = reported_of g tag (link.Reset tag code seen) (found tag g.readers)
+reported g (link.Fault tag code seen) = reported_of g tag (link.Fault tag code seen) (found tag g.readers)
+reported g (link.Unseen tag seen) = reported_of g tag (link.Unseen tag seen) (found tag g.readers)
 
 -- all of the link's news, one after the other
-abbrev pub told_all : GrpcSeen → List LinkNews → Told
-told_all g [] = record { link = g; news = [] }
-told_all g (n ∷ ns) =
-    let t = told g n in
-    let rest = told_all t.link ns in
+abbrev pub reported_all : GrpcSeen → List LinkNews → Report
+reported_all g [] = record { link = g; news = [] }
+reported_all g (n ∷ ns) =
+    let t = reported g n in
+    let rest = reported_all t.link ns in
     record { link = rest.link; news = t.news ++ rest.news }
 
--- what a link hears of a piece
-abbrev pub link_heard : GrpcSeen → List ℕ → Told
-link_heard g piece =
-    let h = heard g.link piece in told_all (record { link = h.link; readers = g.readers }) h.news
+-- what a link is notified of a piece
+abbrev pub link_received : GrpcSeen → List ℕ → Report
+link_received g piece =
+    let h = handled g.link piece in reported_all (record { link = h.link; readers = g.readers }) h.news
 
 -- the readers once a tag is placed, and once the streams of tags were opened
 abbrev pub placed_reader : ℕ → ℕ → List TagReader → List TagReader
@@ -98,7 +98,7 @@ abbrev pub reader_in : ℕ → List TagReader → Option ReaderSeen
 reader_in tag [] = None
 reader_in tag (t ∷ readers) = if t.tag == tag then Some t.reader else reader_in tag readers
 
--- what a reader tells of news of its tag, and the reader then: none once the response is over
+-- what a reader reports of news of its tag, and the reader then: none once the response is over
 abbrev pub news_by : ℕ → LinkNews → Option ReaderSeen → List News
 news_by tag n None = []
 news_by tag n (Some r) = (stepped r tag n).news

@@ -11,10 +11,10 @@ use Rattle.grpc_frame.specs.Reader.{given, is_whole, reader_of}
 use Rattle.grpc_meta.specs.ResponseFields.{shown_of}
 use Rattle.h2_link.specs.declared.news.LinkNews.{LinkNews}
 use Rattle.h2_link.specs.declared.news.LinkNews.TheVariants as link
-use Rattle.grpc_link.specs.Ends.{bare_end, reset_end, unseen_end}
+use Rattle.grpc_link.specs.Ends.{end_without_block, reset_end, unseen_end}
 use Rattle.grpc_link.specs.Response.{Response, comes_head, data_end, data_large, end_gained, headers_end, is_over, large_gained, message_news}
 
--- a reader of one response: no byte of a message that was told is kept
+-- a reader of one response: no byte of a message that was reported is kept
 pub record ReaderSeen : Type 0 where
   -- whether the request's HEADERS were sent
   pub opened : Bool
@@ -51,7 +51,7 @@ abbrev pub read_on : ReaderSeen → ℕ → LinkNews → Stepped
 read_on r tag (link.Fields t fields ends seen) = headers_by r tag fields seen (headers_end r.head (is_whole r.messages) fields ends seen)
 read_on r tag (link.Data t bytes ends seen) = data_by r tag (given r.messages bytes) ends seen
 read_on r tag (link.Reset t number seen) = ended r tag (reset_end r.head number seen)
-read_on r tag (link.Fault t number seen) = ended r tag (bare_end code.Internal cause.Framing false seen)
+read_on r tag (link.Fault t number seen) = ended r tag (end_without_block code.Internal cause.Framing false seen)
 read_on r tag (link.Unseen t seen) = ended r tag (unseen_end r.opened seen)
 read_on r tag _ = record { reader = r; news = [] }
 

@@ -1,4 +1,4 @@
--- The response on a stream, as all that its link told of it says: a head or none, the bytes of its messages, and an end or
+-- The response on a stream, as all that its link reported it says: a head or none, the bytes of its messages, and an end or
 -- none (gRPC over HTTP/2, "Responses").
 use Rattle.std.specs.Prelude.{ℕ, Bool, true, false, Option, Some, None, List, [], ◌∷◌, ◌++◌, ◌&&◌, ◌||◌, not, length, drop, map, is_none, is_some, if◌then◌else◌}
 use Rattle.grpc_base.specs.declared.code.Code.TheVariants as code
@@ -15,7 +15,7 @@ use Rattle.grpc_meta.specs.ResponseFields.{shown_of}
 use Rattle.h2_link.specs.declared.news.LinkNews.{LinkNews}
 use Rattle.h2_link.specs.declared.news.LinkNews.TheVariants as link
 use Rattle.h2_link.specs.Status.{http_status, is_interim}
-use Rattle.grpc_link.specs.Ends.{bare_end, framing_end, http_end, is_head, is_ok, reset_end, status_end, unseen_end}
+use Rattle.grpc_link.specs.Ends.{end_without_block, framing_end, http_end, is_head, is_ok, reset_end, status_end, unseen_end}
 
 -- what came on a stream
 pub record Response : Type 0 where
@@ -25,7 +25,7 @@ pub record Response : Type 0 where
   pub head : Option (List Field)
   -- the bytes of its messages
   pub data_ : List ℕ
-  -- the bytes of the link up to the frame that tells a message above the limit
+  -- the bytes of the link up to the frame that reports a message above the limit
   pub large : Option ℕ
   pub end : Option EndNews
 
@@ -52,13 +52,13 @@ trailers_end whole fields seen =
     let end = status_end fields seen in
     if is_ok end.code && not whole then framing_end true fields seen else end
 
-abbrev pub end_behind_head : Bool → List Field → Bool → ℕ → Option EndNews
-end_behind_head whole fields ends seen = Some (if ends then trailers_end whole fields seen else framing_end ends fields seen)
+abbrev pub end_after_head : Bool → List Field → Bool → ℕ → Option EndNews
+end_after_head whole fields ends seen = Some (if ends then trailers_end whole fields seen else framing_end ends fields seen)
 
 -- that of a header list, where a head came or not and all messages are whole or not
 abbrev pub headers_end : Bool → Bool → List Field → Bool → ℕ → Option EndNews
 headers_end has_head whole fields ends seen =
-    if has_head then end_behind_head whole fields ends seen else end_before_head fields ends seen
+    if has_head then end_after_head whole fields ends seen else end_before_head fields ends seen
 
 -- whether a header list that makes no end is the head
 abbrev pub comes_head : List Field → Bool
@@ -66,11 +66,11 @@ comes_head fields = not (is_interim (http_status fields))
 
 -- the end that DATA makes: by a message with a bad flag, or by END_STREAM, which trailers have to bring
 abbrev pub data_end : Option MessageFault → Bool → ℕ → Option EndNews
-data_end (Some fault.BadFlag) ends seen = Some (bare_end code.Internal cause.Framing false seen)
+data_end (Some fault.BadFlag) ends seen = Some (end_without_block code.Internal cause.Framing false seen)
 data_end (Some (fault.TooLarge len)) ends seen = None
-data_end None ends seen = if ends then Some (bare_end code.Unknown cause.Http false seen) else None
+data_end None ends seen = if ends then Some (end_without_block code.Unknown cause.Http false seen) else None
 
--- a message above the limit is told as soon as its length is there
+-- a message above the limit is reported as soon as its length is there
 abbrev pub data_large : Option MessageFault → ℕ → Option ℕ
 data_large (Some (fault.TooLarge len)) seen = Some seen
 data_large _ seen = None
@@ -85,18 +85,18 @@ with_data limit r bytes ends seen =
     let flaw = (messages_of limit (r.data_ ++ bytes)).fault in
     record r { data_ = r.data_ ++ bytes; end = data_end flaw ends seen; large = data_large flaw seen }
 
--- the response with one thing more that the link tells of its stream
+-- the response with one thing more that the link reports its stream
 abbrev pub with_news : ℕ → Response → LinkNews → Response
 with_news limit r (link.Fields tag fields ends seen) = with_headers limit r fields ends seen
 with_news limit r (link.Data tag bytes ends seen) = with_data limit r bytes ends seen
 with_news limit r (link.Reset tag number seen) = record r { end = Some (reset_end (is_some r.head) number seen) }
-with_news limit r (link.Fault tag number seen) = record r { end = Some (bare_end code.Internal cause.Framing false seen) }
+with_news limit r (link.Fault tag number seen) = record r { end = Some (end_without_block code.Internal cause.Framing false seen) }
 with_news limit r (link.Unseen tag seen) = record r { end = Some (unseen_end r.opened seen) }
 with_news limit r _ = r
 
--- the response with all that the link tells of its stream, up to its end
-abbrev pub heard : ℕ → Response → LinkNews → Response
-heard limit r n = if is_over r then r else with_news limit r n
+-- the response with all that the link reports its stream, up to its end
+abbrev pub handled : ℕ → Response → LinkNews → Response
+handled limit r n = if is_over r then r else with_news limit r n
 
 -- how many of the link's bytes news name
 abbrev pub seen_by : LinkNews → ℕ
@@ -126,7 +126,7 @@ message_news tag seen message = news.Message tag message seen
 abbrev pub messages_gained : ℕ → ℕ → List (List ℕ) → List (List ℕ) → List News
 messages_gained tag seen before after = map (message_news tag seen) (drop (length before) after)
 
--- the news of one thing that the link told of a stream, over whose response that was not over
+-- the news of one thing that the link reported a stream, over whose response that was not over
 abbrev pub gained : ℕ → ℕ → ℕ → Response → Response → List News
 gained limit tag seen r s =
     head_gained tag seen r.head s.head

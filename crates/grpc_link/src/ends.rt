@@ -4,8 +4,8 @@ ghost use Rattle.std.specs.Option.{option_map_or};
 ghost use Rattle.grpc_meta.specs.ResponseFields.{values_of};
 ghost use Rattle.grpc_status.specs.StatusMaps.{text_of_message};
 ghost use Rattle.h2_link.specs.Status.{is_interim};
-ghost use Rattle.grpc_link.specs.Ends.{asked, bare_end, end_with, framing_end, http_code, http_end, is_grpc, is_head, is_ok, reset_end, status_end, unseen_end};
-ghost use Rattle.grpc_link.specs.Response.{end_before_head, end_behind_head, headers_end, trailers_end};
+ghost use Rattle.grpc_link.specs.Ends.{asked, end_without_block, end_with, framing_end, http_code, http_end, is_grpc, is_head, is_ok, reset_end, status_end, unseen_end};
+ghost use Rattle.grpc_link.specs.Response.{end_before_head, end_after_head, headers_end, trailers_end};
 
 use attempt_ledger::{EndNews, RowCause};
 use grpc_base::error_code::REFUSED_STREAM;
@@ -15,7 +15,7 @@ use grpc_status::{message_text, of_http, of_reset, of_text};
 use h2_link::http_status;
 use std::alloc::Global;
 
-// The first value of a name, and the fields behind it.
+// The first value of a name, and the fields after it.
 fn first_value<'a>(fields: &'a [Field], name: &[u8]) -> Option<(&'a Octets, &'a [Field])>
     ensures { MatchOption result (values_of name.now fields.now ≡ []) (λ x. values_of name.now fields.now ≡ x.0.now ∷ values_of name.now x.1.now) }
 {
@@ -151,8 +151,14 @@ fn http_end(alloc: Global, fields: &Fields, seen: u64) -> Result<EndNews, NoMemo
 }
 
 /// An end that no header block makes.
-pub fn bare_end(alloc: Global, code: Code, cause: RowCause, unseen: bool, seen: u64) -> EndNews
-    ensures { result ≡ bare_end code cause unseen seen }
+pub fn end_without_block(
+    alloc: Global,
+    code: Code,
+    cause: RowCause,
+    unseen: bool,
+    seen: u64,
+) -> EndNews
+    ensures { result ≡ end_without_block code cause unseen seen }
 {
     EndNews {
         code,
@@ -170,7 +176,7 @@ pub fn reset_end(alloc: Global, has_head: bool, number: u32, seen: u64) -> EndNe
     ensures { result ≡ reset_end has_head number seen }
 {
     let unseen = number == REFUSED_STREAM && !has_head;
-    bare_end(alloc, of_reset(number), RowCause::Reset, unseen, seen)
+    end_without_block(alloc, of_reset(number), RowCause::Reset, unseen, seen)
 }
 
 /// The end by GOAWAY.
@@ -182,7 +188,7 @@ pub fn unseen_end(alloc: Global, opened: bool, seen: u64) -> EndNews
     } else {
         RowCause::Unsent
     };
-    bare_end(alloc, Code::Unavailable, cause, true, seen)
+    end_without_block(alloc, Code::Unavailable, cause, true, seen)
 }
 
 /// The end that a header list makes, where a head came or not and all messages are whole or not.
@@ -197,21 +203,21 @@ pub fn headers_end(
     ensures { IfOk result (λ e. e ≡ headers_end has_head whole fields.now ends seen) }
 {
     if has_head {
-        let end = end_behind_head(alloc, whole, fields, ends, seen)?;
+        let end = end_after_head(alloc, whole, fields, ends, seen)?;
         Ok(Some(end))
     } else {
         end_before_head(alloc, fields, ends, seen)
     }
 }
 
-fn end_behind_head(
+fn end_after_head(
     alloc: Global,
     whole: bool,
     fields: &Fields,
     ends: bool,
     seen: u64,
 ) -> Result<EndNews, NoMemory>
-    ensures { IfOk result (λ e. Some e ≡ end_behind_head whole fields.now ends seen) }
+    ensures { IfOk result (λ e. Some e ≡ end_after_head whole fields.now ends seen) }
 {
     if ends {
         trailers_end(alloc, whole, fields, seen)

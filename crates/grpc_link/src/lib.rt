@@ -1,4 +1,4 @@
-// Attempt news of a link: the responses on its streams, told piece by piece.
+// Attempt news of a link: the responses on its streams, reported piece by piece.
 #![tactic(auto)]
 
 mod ends;

@@ -2,10 +2,10 @@
 ghost use Rattle.std.specs.Prelude.{◌≡◌, ◌<◌, ◌≤◌, ◌+◌, ◌^◌, ◌↔◌, ◌||◌, ◌&&◌, ◌++◌, [], IsTrue, length, is_none, is_some, IfOk, OnOk, None, Err};
 ghost use Rattle.h2_link.specs.Drains.{Drains, next, opened_between};
 ghost use Rattle.h2_link.specs.Feeds.{Holds};
-ghost use Rattle.h2_link.specs.Heard.{heard};
+ghost use Rattle.h2_link.specs.Received.{handled};
 ghost use Rattle.h2_link.specs.Steps.{cut, pinged, placed, sealed_wire};
 ghost use Rattle.h2_link.specs.Wire.{fresh_wire, kept_bytes};
-ghost use Rattle.grpc_link.specs.Links.{found, link_heard, opened_all, placed_reader, told, told_all, told_of, without};
+ghost use Rattle.grpc_link.specs.Links.{found, link_received, opened_all, placed_reader, reported, reported_all, reported_of, without};
 
 use crate::readers::Readers;
 use attempt_ledger::News;
@@ -15,7 +15,7 @@ use h2_link::{DrainFault, Drained, Feed, Link, LinkFault, LinkNews, PlaceFault};
 use std::alloc::Global;
 use std::marker::Model;
 
-/// One connection to a gRPC server: a link of HTTP/2 that tells of the attempts on it. A tag names an attempt.
+/// One connection to a gRPC server: a link of HTTP/2 that reports the attempts on it. A tag names an attempt.
 #[derive(Debug, Drop)]
 pub struct GrpcLink {
     alloc: Global,
@@ -31,7 +31,7 @@ impl Model for GrpcLink {
     ghost view = { λ l. record { link = l.link; readers = l.readers } };
 }
 
-/// What one call of `arrived` took, and what it told.
+/// What one call of `arrived` took, and what it reported.
 #[derive(Debug, Drop)]
 pub struct GrpcArrival {
     /// How many bytes of the piece were taken.
@@ -86,28 +86,28 @@ impl GrpcLink {
         self.link.ping(word)
     }
 
-    /// The effects of the last frame are complete, so that resets that are made from here on stand behind its own.
+    /// The effects of the last frame are complete, so that resets that are made from here on stand after its own.
     pub fn seal(&mut self)
         ensures { self.new ≡ record self.old { link = record self.old.link { wire = sealed_wire self.old.link.wire } } }
     {
         self.link.seal();
     }
 
-    /// Takes a piece up to the byte that ends a frame or shows a fault, or else all of it, and tells what the responses on
+    /// Takes a piece up to the byte that ends a frame or shows a fault, or else all of it, and reports what the responses on
     /// the link gained by that one frame. A tag whose response is over is given up with CANCEL. Gone comes exactly where
     /// the link is broken. What a broken link leaves of its attempts is for the caller to end.
     pub fn arrived(&mut self, piece: &[u8]) -> Result<GrpcArrival, LinkFault>
         requires { 0 < length piece.now }
         ensures gone { (result ≡ Err LinkFault.Gone) ↔ IsTrue (is_some self.old.link.wire.broken) }
         ensures same { result ≡ Err LinkFault.Gone → self.new ≡ self.old }
-        ensures taken { IfOk result (λ a. a.taken ≡ (heard self.old.link piece.now).taken) }
+        ensures taken { IfOk result (λ a. a.taken ≡ (handled self.old.link piece.now).taken) }
         ensures within { IfOk result (λ a. (1 ≤ a.taken) × (a.taken ≤ length piece.now)) }
-        ensures read { IfOk result (λ a. a.read ≡ (heard self.old.link piece.now).link.wire.read) }
-        ensures news { IfOk result (λ a. a.news ≡ (link_heard self.old piece.now).news) }
-        ensures after { OnOk result (self.new ≡ (link_heard self.old piece.now).link) }
+        ensures read { IfOk result (λ a. a.read ≡ (handled self.old.link piece.now).link.wire.read) }
+        ensures news { IfOk result (λ a. a.news ≡ (link_received self.old piece.now).news) }
+        ensures after { OnOk result (self.new ≡ (link_received self.old piece.now).link) }
     {
         let arrival = self.link.arrived(piece)?;
-        let news = self.tell_all(arrival.news)?;
+        let news = self.report_all(arrival.news)?;
         Ok(GrpcArrival {
             taken: arrival.taken,
             read: arrival.read,
@@ -115,23 +115,23 @@ impl GrpcLink {
         })
     }
 
-    // Tells what the link told.
-    fn tell_all(&mut self, heard: Items<LinkNews>) -> Result<Items<News>, NoMemory>
-        ensures news { IfOk result (λ n. n ≡ (told_all self.old heard).news) }
-        ensures after { OnOk result (self.new ≡ (told_all self.old heard).link) }
+    // Reports what the link reported.
+    fn report_all(&mut self, handled: Items<LinkNews>) -> Result<Items<News>, NoMemory>
+        ensures news { IfOk result (λ n. n ≡ (reported_all self.old handled).news) }
+        ensures after { OnOk result (self.new ≡ (reported_all self.old handled).link) }
     {
         let mut all = Items::new(self.alloc);
-        let mut rest = heard.into_vec().into_iter();
+        let mut rest = handled.into_vec().into_iter();
         while let Some(news) = rest.next() {
-            self.tell(news, &mut all)?;
+            self.report(news, &mut all)?;
         }
         Ok(all)
     }
 
     // Appends what one of the link's news says.
-    fn tell(&mut self, news: LinkNews, all: &mut Items<News>) -> Result<(), NoMemory>
-        ensures news { OnOk result (all.new ≡ all.old ++ (told self.old news).news) }
-        ensures after { OnOk result (self.new ≡ (told self.old news).link) }
+    fn report(&mut self, news: LinkNews, all: &mut Items<News>) -> Result<(), NoMemory>
+        ensures news { OnOk result (all.new ≡ all.old ++ (reported self.old news).news) }
+        ensures after { OnOk result (self.new ≡ (reported self.old news).link) }
     {
         match news {
             LinkNews::Ready => all.push(News::Ready),
@@ -146,7 +146,7 @@ impl GrpcLink {
                 end,
                 seen,
             } => {
-                self.tell_of(
+                self.report_of(
                     tag,
                     LinkNews::Fields {
                         tag,
@@ -163,7 +163,7 @@ impl GrpcLink {
                 end,
                 seen,
             } => {
-                self.tell_of(
+                self.report_of(
                     tag,
                     LinkNews::Data {
                         tag,
@@ -174,17 +174,17 @@ impl GrpcLink {
                     all,
                 )
             }
-            LinkNews::Reset { tag, code, seen } => self.tell_of(
+            LinkNews::Reset { tag, code, seen } => self.report_of(
                 tag,
                 LinkNews::Reset { tag, code, seen },
                 all,
             ),
-            LinkNews::Fault { tag, code, seen } => self.tell_of(
+            LinkNews::Fault { tag, code, seen } => self.report_of(
                 tag,
                 LinkNews::Fault { tag, code, seen },
                 all,
             ),
-            LinkNews::Unseen { tag, seen } => self.tell_of(
+            LinkNews::Unseen { tag, seen } => self.report_of(
                 tag,
                 LinkNews::Unseen { tag, seen },
                 all,
@@ -193,9 +193,9 @@ impl GrpcLink {
     }
 
     // Appends what news of a tag say.
-    fn tell_of(&mut self, tag: u64, news: LinkNews, all: &mut Items<News>) -> Result<(), NoMemory>
-        ensures news { OnOk result (all.new ≡ all.old ++ (told_of self.old tag news (found tag self.old.readers)).news) }
-        ensures after { OnOk result (self.new ≡ (told_of self.old tag news (found tag self.old.readers)).link) }
+    fn report_of(&mut self, tag: u64, news: LinkNews, all: &mut Items<News>) -> Result<(), NoMemory>
+        ensures news { OnOk result (all.new ≡ all.old ++ (reported_of self.old tag news (found tag self.old.readers)).news) }
+        ensures after { OnOk result (self.new ≡ (reported_of self.old tag news (found tag self.old.readers)).link) }
     {
         let Some(mut reader) = self.readers.take(tag) else {
             return Ok(());
@@ -246,7 +246,7 @@ impl GrpcLink {
     }
 }
 
-// Appends news behind others.
+// Appends news after others.
 fn append(all: &mut Items<News>, more: Items<News>) -> Result<(), NoMemory>
     ensures { OnOk result (all.new ≡ all.old ++ more) }
 {

@@ -4,7 +4,7 @@ ghost use Rattle.grpc_frame.specs.Reader.{given, is_whole};
 ghost use Rattle.grpc_link.specs.Readers.{data_by, ended, headers_by, reader_for, stepped};
 ghost use Rattle.grpc_link.specs.Response.{data_end, data_large, end_gained, headers_end, large_gained, message_news, no_response};
 
-use crate::ends::{bare_end, headers_end, is_interim, reset_end, unseen_end};
+use crate::ends::{end_without_block, headers_end, is_interim, reset_end, unseen_end};
 use attempt_ledger::{EndNews, News, RowCause};
 use grpc_base::{Code, Fields, Items, NoMemory, Octets};
 use grpc_frame::{MessageFault, MessageReader};
@@ -13,7 +13,7 @@ use h2_link::{LinkNews, http_status};
 use std::alloc::Global;
 use std::marker::Model;
 
-/// Reads the response on one stream from what its link tells. No byte of a message is kept once the message was told.
+/// Reads the response on one stream from what its link reports. No byte of a message is kept once the message was reported.
 #[derive(Debug, Drop)]
 pub struct ResponseReader {
     alloc: Global,
@@ -60,7 +60,7 @@ impl ResponseReader {
         self.over
     }
 
-    /// Takes news of the link that are of this tag, and tells what the response gained. On out of memory news are lost:
+    /// Takes news of the link that are of this tag, and reports what the response gained. On out of memory news are lost:
     /// the reader is of no use any more.
     pub fn step(&mut self, tag: u64, news: LinkNews) -> Result<Items<News>, NoMemory>
         ensures news { IfOk result (λ n. n ≡ (stepped self.old tag news).news) }
@@ -92,7 +92,7 @@ impl ResponseReader {
                 code: _,
                 seen,
             } => {
-                let end = bare_end(alloc, Code::Internal, RowCause::Framing, false, seen);
+                let end = end_without_block(alloc, Code::Internal, RowCause::Framing, false, seen);
                 self.end_with(tag, end)
             }
             LinkNews::Unseen { tag: _, seen } => {
@@ -192,7 +192,7 @@ fn message_news(
     Ok(news)
 }
 
-// What DATA brings behind its messages: a message above the limit, or an end.
+// What DATA brings after its messages: a message above the limit, or an end.
 fn data_end(
     alloc: Global,
     tag: u64,
@@ -206,12 +206,12 @@ fn data_end(
     match fault {
         Some(MessageFault::BadFlag) => Some(News::Ended {
             tag,
-            end: bare_end(alloc, Code::Internal, RowCause::Framing, false, seen),
+            end: end_without_block(alloc, Code::Internal, RowCause::Framing, false, seen),
         }),
         Some(MessageFault::TooLarge { length: _ }) => Some(News::TooLarge { tag, seen }),
         None if ends => Some(News::Ended {
             tag,
-            end: bare_end(alloc, Code::Unknown, RowCause::Http, false, seen),
+            end: end_without_block(alloc, Code::Unknown, RowCause::Http, false, seen),
         }),
         None => None,
     }

@@ -45,7 +45,7 @@ impl Readers {
         self.keep(tag, ResponseReader::new(alloc, limit))
     }
 
-    /// Puts the reader of a tag behind the others.
+    /// Puts the reader of a tag after the others.
     pub(crate) fn keep(&mut self, tag: u64, reader: ResponseReader) -> Result<(), NoMemory>
         ensures { OnOk result (self.new ≡ with_reader tag reader self.old) }
     {

@@ -67,16 +67,16 @@ attempt_if number false small = omega (arith, ten (number - 1) (omega arith))
 attempt_size : (number : ℕ) → number < 2 ^ 32 → list_size (attempt_fields number) ≤ 68
 attempt_size number small = attempt_if number (nat_le number 1) small
 
--- the fields in front
-front : RequestSeen → List ℕ → List Field
-front r a = field (codes ":method") (codes "POST") ∷ field (codes ":scheme") (codes "http") ∷ field (codes ":path") r.path ∷ field (codes ":authority") a ∷ []
+-- the fields before
+prefix : RequestSeen → List ℕ → List Field
+prefix r a = field (codes ":method") (codes "POST") ∷ field (codes ":scheme") (codes "http") ∷ field (codes ":path") r.path ∷ field (codes ":authority") a ∷ []
 
 kind : List Field
 kind = field (codes "te") (codes "trailers") ∷ field (codes "content-type") (codes "application/grpc") ∷ []
 
-front_size : (r : RequestSeen) (a : List ℕ) → length r.path ≤ path_limit → length a ≤ 259 → list_size (front r a) ≤ 1448
-unfolding front
-front_size r a path authority = omega arith
+prefix_size : (r : RequestSeen) (a : List ℕ) → length r.path ≤ path_limit → length a ≤ 259 → list_size (prefix r a) ≤ 1448
+unfolding prefix
+prefix_size r a path authority = omega arith
 
 kind_size : list_size kind ≤ 102
 unfolding kind
@@ -92,7 +92,7 @@ sum_fits f t k n m p q hf ht hk hn hm hp hq = omega arith
 
 -- a request that keeps its rules has a list no greater than the greatest
 pub list_size-request : (r : RequestSeen) (a : List ℕ) (left : Option ℕ) (number : ℕ) → length r.path ≤ path_limit → meta_size r.meta ≤ meta_limit → length a ≤ 259 → number < 2 ^ 32 → list_size (fields_of_request r a left number) ≤ greatest_list
-unfolding front kind
+unfolding prefix kind
 list_size-request r a left number path meta authority small =
-    let whole : list_size (fields_of_request r a left number) ≡ list_size (front r a) + list_size (timeout_fields left) + list_size kind + list_size (attempt_fields number) + list_size (map sent r.meta) = joined_size (front r a) (timeout_fields left) kind (attempt_fields number) (map sent r.meta) in
-    sum_fits _ _ _ _ _ _ _ (front_size r a path authority) (timeout_size left) kind_size (attempt_size number small) (list_size-sent r.meta) meta whole
+    let whole : list_size (fields_of_request r a left number) ≡ list_size (prefix r a) + list_size (timeout_fields left) + list_size kind + list_size (attempt_fields number) + list_size (map sent r.meta) = joined_size (prefix r a) (timeout_fields left) kind (attempt_fields number) (map sent r.meta) in
+    sum_fits _ _ _ _ _ _ _ (prefix_size r a path authority) (timeout_size left) kind_size (attempt_size number small) (list_size-sent r.meta) meta whole

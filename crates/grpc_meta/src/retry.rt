@@ -20,7 +20,7 @@ pub fn pushback(fields: &Fields) -> Pushback
     found
 }
 
-/// The pushback with one more field behind those that were read.
+/// The pushback with one more field after those that were read.
 fn with_field(found: Pushback, field: &Field) -> Pushback
     ensures { (before : List Field) → found ≡ pushback_of (values_of (codes "grpc-retry-pushback-ms") before) → result ≡ pushback_of (values_of (codes "grpc-retry-pushback-ms") (before ++ field.now ∷ [])) }
 {

@@ -8,7 +8,7 @@ mod remember;
 
 use crate::announced::Announced;
 use crate::places::hold_places;
-use crate::remember::{Fronted, Remembering, tell};
+use crate::remember::{PrefixKept, Remembering, reporting};
 use channel_top::run_channel;
 use dns_watch::TcpNamedWorld;
 use fault_words::is_misspelled;
@@ -41,7 +41,7 @@ enum NoWords {
     NoMemory,
 }
 
-/// The words behind the program's name.
+/// The words after the program's name.
 fn words(rt: &(impl Env + AllocGlobal)) -> Result<Vec<String>, NoWords> {
     let mut all = match args(rt) {
         Ok(all) => all,
@@ -76,7 +76,7 @@ fn with_help(alloc: Global, words: Vec<String>) -> Result<Vec<String>, NoMemory>
     Ok(asked)
 }
 
-/// Runs the top call over TCP with these policies, where they may be handed to it.
+/// Runs the top call over TCP with these policies, where they may be passed to it.
 fn run_with<R, S: Source, K: Sink>(
     rt: &R,
     alloc: Global,
@@ -140,7 +140,7 @@ fn main(rt: HostRuntime) -> ExitCode {
     let is_refused = is_misspelled(words.as_slice());
     let run_words: &[String] = if is_refused { &[] } else { words.as_slice() };
     let mut input = Remembering::new(alloc, rt, words.as_slice(), rt.reader());
-    let mut output = Fronted::new(words.as_slice(), io::writer(&rt));
+    let mut output = PrefixKept::new(words.as_slice(), io::writer(&rt));
     let ended = run(
         &rt,
         alloc,
@@ -149,7 +149,7 @@ fn main(rt: HostRuntime) -> ExitCode {
         &mut StdSink::new(&mut output),
     );
     let status = ended.unwrap_or(NO_MEMORY);
-    tell(
+    reporting(
         &rt,
         alloc,
         status,

@@ -6,8 +6,8 @@ use std::alloc::Global;
 use std::io;
 use std::io::{ErrorKind, IsTerminal, Read, Write};
 
-/// How many bytes of the front of standard output are remembered: more than a fault line has.
-const FRONT: usize = 256;
+/// How many bytes of the prefix of standard output are remembered: more than a fault line has.
+const PREFIX: usize = 256;
 
 /// The status where a session had no room for an event.
 const SESSION_FULL: u8 = 7;
@@ -56,7 +56,7 @@ fn begin<R: IsTerminal, E: Eprint>(rt: &E, reader: &R, has_begun: &mut bool) {
 
 /// Says at the end of a server script what is strange in it, where its beginning that is remembered is all of it.
 fn end<E: Eprint>(rt: &E, alloc: Global, input: &Remembered, is_served: &mut bool) {
-    let is_whole = input.front().len() as u64 == input.bytes();
+    let is_whole = input.prefix().len() as u64 == input.bytes();
     if *is_served
         && is_whole
         && let Ok(text) = warn(alloc, input)
@@ -88,27 +88,27 @@ impl<R: Read + IsTerminal, E: Eprint> Read for Remembering<R, E> {
     }
 }
 
-/// A writer that remembers the front of what it wrote, and why a write failed. Of a run over a network it counts how its calls ended.
+/// A writer that remembers the prefix of what it wrote, and why a write failed. Of a run over a network it counts how its calls ended.
 #[derive(Drop)]
-pub struct Fronted<W> {
+pub struct PrefixKept<W> {
     writer: W,
-    front: [u8; FRONT],
-    /// How many bytes the front has.
+    prefix: [u8; PREFIX],
+    /// How many bytes the prefix has.
     count: usize,
     failure: Option<Failure>,
     tally: Option<RunTally>,
 }
 
-impl<W: Write> Fronted<W> {
+impl<W: Write> PrefixKept<W> {
     /// A writer over this one, for the output of the mode that these words name.
-    pub fn new(words: &[String], writer: W) -> Fronted<W> {
+    pub fn new(words: &[String], writer: W) -> PrefixKept<W> {
         let tally = match words {
             [first, ..] if first.as_bytes() == b"live".as_slice() => Some(RunTally::new()),
             _ => None,
         };
-        Fronted {
+        PrefixKept {
             writer,
-            front: [0; FRONT],
+            prefix: [0; PREFIX],
             count: 0,
             failure: None,
             tally,
@@ -116,23 +116,23 @@ impl<W: Write> Fronted<W> {
     }
 }
 
-impl<W> Fronted<W> {
-    /// The front of what was written.
+impl<W> PrefixKept<W> {
+    /// The prefix of what was written.
     fn first_bytes(&self) -> &[u8] {
-        match self.front.as_slice().get(0..self.count) {
-            Some(front) => front,
+        match self.prefix.as_slice().get(0..self.count) {
+            Some(prefix) => prefix,
             None => &[],
         }
     }
 }
 
-impl<W: Write> Write for Fronted<W> {
+impl<W: Write> Write for PrefixKept<W> {
     ghost contents = { λ w. W.contents w.writer };
 
     fn write(&mut self, buf: &[u8]) -> io::Result<usize> {
         match self.writer.write(buf) {
             Ok(count) => {
-                keep(&mut self.front, &mut self.count, &buf[..count]);
+                keep(&mut self.prefix, &mut self.count, &buf[..count]);
                 if let Some(tally) = &mut self.tally {
                     tally.take(&buf[..count]);
                 }
@@ -150,13 +150,13 @@ impl<W: Write> Write for Fronted<W> {
     }
 }
 
-/// Appends to a front of so many bytes what it has room for.
-fn keep(front: &mut [u8; FRONT], count: &mut usize, piece: &[u8]) {
+/// Appends to a prefix of so many bytes what it has room for.
+fn keep(prefix: &mut [u8; PREFIX], count: &mut usize, piece: &[u8]) {
     for byte in piece {
-        if *count >= FRONT {
+        if *count >= PREFIX {
             return;
         }
-        front[*count] = *byte;
+        prefix[*count] = *byte;
         *count += 1;
     }
 }
@@ -171,14 +171,14 @@ fn failure_of(kind: ErrorKind) -> Failure {
 }
 
 /// Says on standard error how a run on these words ended. Where a word of the command was not text, `words` is empty.
-pub fn tell<E: Eprint, R, T, W>(
+pub fn reporting<E: Eprint, R, T, W>(
     rt: &E,
     alloc: Global,
     status: u8,
     words: &[String],
     are_text: bool,
     input: &Remembering<R, T>,
-    output: &Fronted<W>,
+    output: &PrefixKept<W>,
 ) {
     let ended = Ended {
         status,
@@ -209,7 +209,7 @@ fn sum_up<E: Eprint>(rt: &E, alloc: Global, ended: &Ended<'_>, tally: &Option<Ru
     }
 }
 
-/// Prints on standard error; where that fails, nothing is left to be told it.
+/// Prints on standard error; where that fails, nothing is left to be notified it.
 fn print<E: Eprint>(rt: &E, text: &[u8]) {
     if let Ok(text) = std::str::from_utf8(text) {
         let _ = rt.eprint(text);

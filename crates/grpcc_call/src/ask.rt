@@ -112,7 +112,7 @@ fn asked_of<R: Files<File = File> + AllocGlobal>(
             "--record keeps the report of one channel, over which at most {CALLS_OF_A_CHANNEL} calls are made"
         );
     }
-    // (a target that is none is told before anything is called)
+    // (a target that is none is reported before anything is called)
     options_of(alloc, &asked)?;
     Ok(asked)
 }

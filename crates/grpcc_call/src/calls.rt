@@ -1,4 +1,4 @@
-// The work of each thread: calls, one behind another.
+// The work of each thread: calls, one after another.
 ghost use Rattle.std.specs.Prelude.{◌≡◌, ◌≤◌, IfOk, length};
 ghost use Rattle.client_calls.specs.Entries.{others_in};
 
@@ -84,7 +84,7 @@ fn call_many_once<W: Wait, H: Caller>(
     }
 }
 
-/// Makes the calls, one behind another, up to the first that has no answer.
+/// Makes the calls, one after another, up to the first that has no answer.
 fn call_many<W: Wait, R: time::Clock, H: Caller>(rt: &W, calls: &mut Calls<R>, handle: &mut H)
     ensures others { others_in (H.made handle.new) ≡ others_in (H.made handle.old) }
     ensures share { H.share handle.new ≡ H.share handle.old }

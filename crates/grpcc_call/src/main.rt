@@ -1,5 +1,5 @@
 // Calls a service from the command line, and is the example of how to use `channel_client`: the words are read, the policies made, a channel
-// is opened for the target, and the calls are the work that is handed to it.
+// is opened for the target, and the calls are the work that is passed to it.
 #![tactic(auto)]
 
 ghost use Rattle.std.specs.Prelude.{◌≡◌, map, true};

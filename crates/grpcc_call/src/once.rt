@@ -38,7 +38,7 @@ impl<R: Print + Eprint> Shown<R> {
         }
     }
 
-    /// Says pairs of metadata, one a line behind this mark.
+    /// Says pairs of metadata, one a line after this mark.
     fn pairs(&self, mark: &str, meta: &Metadata) {
         for pair in meta.as_slice() {
             if let Ok(name) = text_of(self.alloc, pair.name.as_slice())
@@ -154,7 +154,7 @@ pub fn call_once<W: Wait, R: Print + Eprint, H: Caller>(
     let call = begin(handle, request.copy()?)?;
     let answer = converse(rt, shown, handle, call, messages);
     if answer.is_err() {
-        // The error is told already.
+        // The error is reported already.
         let _ = cancel(handle, call);
     }
     answer

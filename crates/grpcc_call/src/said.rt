@@ -8,7 +8,7 @@ use std::alloc::Global;
 use std::str;
 
 /// The status of a call that did not end OK is this and its code.
-const BEHIND: u32 = 64;
+const AFTER_ARGUMENTS: u32 = 64;
 
 /// The status where a call had no answer.
 const NO_ANSWER: u8 = 2;
@@ -193,7 +193,9 @@ pub fn sum_up<R, E: Eprint>(
 /// The status of the program.
 pub fn status_of<R>(works: &[Calls<R>]) -> u8 {
     match first_end(works) {
-        Some(Ok(status)) => { u8::try_from(BEHIND + status.code.number()).unwrap_or(NO_ANSWER) }
+        Some(Ok(status)) => {
+            u8::try_from(AFTER_ARGUMENTS + status.code.number()).unwrap_or(NO_ANSWER)
+        }
         Some(Err(_)) => NO_ANSWER,
         None => {
             if works.iter().any(|w| w.shown.is_broken) {

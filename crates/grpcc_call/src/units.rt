@@ -33,7 +33,7 @@ fn split_unit(text: &str) -> Option<(&str, u64)> {
     Some((number, 3_600_000_000_000))
 }
 
-/// The nanoseconds of the digits behind a point. What is below one is left out.
+/// The nanoseconds of the digits after a point. What is below one is left out.
 fn part_of(digits: &str, unit: u64) -> Option<u64> {
     let mut nanos: u64 = 0;
     let mut left = unit;

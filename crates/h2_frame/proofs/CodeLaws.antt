@@ -30,7 +30,7 @@ end_is_none : (b : Bool) (f : FrameSeen) (n c code : ℕ) → cond b (Whole f n)
 end_is_none true f n c code h = (cc)
 end_is_none false f n c code h = (cc)
 
--- behind the flags every fault is one of the protocol
+-- after the flags every fault is one of the protocol
 payload_code : (len kind flags stream : ℕ) (t : List ℕ) (c : ℕ) → reading_of_payload len kind flags stream t ≡ Fault c → c ≡ 1
 payload_code len kind flags stream t c =
     or_rest (is_overpadded kind flags len t) 1 _ c (or_rest (is_zero_update kind stream t) 1 _ c (end_is_none (nat_le len (length t)) _ _ c 1))
@@ -144,7 +144,7 @@ keep_by t more a b c kind flags bytes e =
 fault_seen : (r : Reading) (c : ℕ) → r ≡ Fault c → is_fault r ≡ true
 fault_seen r c e = rw e refl
 
--- a test that showed no fault is behind
+-- a test that showed no fault is after
 quiet_else : (b : Bool) (c : ℕ) (y z : Reading) → is_fault (cond b (Fault c) y) ≡ false → (d : ℕ) → cond b (Fault c) z ≡ Fault d → (is_fault y ≡ false) × (z ≡ Fault d)
 quiet_else true c y z quiet d h = absurd (false≢true (sym quiet))
 quiet_else false c y z quiet d h = (quiet, h)

@@ -61,32 +61,32 @@ no_padding kind flags len h [] = refl
 no_padding kind flags len h (x ∷ t) = rw h refl
 
 -- what follows a payload is not taken for its padding
-padding_front : (kind flags len : ℕ) (payload more : List ℕ) → length payload ≡ len → flags_allow_length kind flags len ≡ true → is_overpadded kind flags len payload ≡ false → is_overpadded kind flags len (payload ++ more) ≡ false
-padding_front kind flags len [] more e by_flags h =
+padding_prefix : (kind flags len : ℕ) (payload more : List ℕ) → length payload ≡ len → flags_allow_length kind flags len ≡ true → is_overpadded kind flags len payload ≡ false → is_overpadded kind flags len (payload ++ more) ≡ false
+padding_prefix kind flags len [] more e by_flags h =
     let P : ℕ → Type 0 = λ n. flags_allow_length kind flags n ≡ true in
     no_padding kind flags len (not_padded kind flags (subst P (sym e) by_flags)) more
-padding_front kind flags len (x ∷ payload) more e by_flags h = h
+padding_prefix kind flags len (x ∷ payload) more e by_flags h = h
 
 -- nor for an increment
-growth_front : (kind stream len : ℕ) (payload more : List ℕ) → length payload ≡ len → kind_allows_length kind len ≡ true → is_zero_update kind stream payload ≡ false → is_zero_update kind stream (payload ++ more) ≡ false
-growth_front kind stream len [] more e by_kind h = no_growth kind stream (no_update kind len (omega arith) by_kind) more
-growth_front kind stream len (a ∷ []) more e by_kind h = no_growth kind stream (no_update kind len (omega arith) by_kind) (a ∷ more)
-growth_front kind stream len (a ∷ b ∷ []) more e by_kind h = no_growth kind stream (no_update kind len (omega arith) by_kind) (a ∷ b ∷ more)
-growth_front kind stream len (a ∷ b ∷ c ∷ []) more e by_kind h = no_growth kind stream (no_update kind len (omega arith) by_kind) (a ∷ b ∷ c ∷ more)
-growth_front kind stream len (a ∷ b ∷ c ∷ d ∷ payload) more e by_kind h = h
+growth_prefix : (kind stream len : ℕ) (payload more : List ℕ) → length payload ≡ len → kind_allows_length kind len ≡ true → is_zero_update kind stream payload ≡ false → is_zero_update kind stream (payload ++ more) ≡ false
+growth_prefix kind stream len [] more e by_kind h = no_growth kind stream (no_update kind len (omega arith) by_kind) more
+growth_prefix kind stream len (a ∷ []) more e by_kind h = no_growth kind stream (no_update kind len (omega arith) by_kind) (a ∷ more)
+growth_prefix kind stream len (a ∷ b ∷ []) more e by_kind h = no_growth kind stream (no_update kind len (omega arith) by_kind) (a ∷ b ∷ more)
+growth_prefix kind stream len (a ∷ b ∷ c ∷ []) more e by_kind h = no_growth kind stream (no_update kind len (omega arith) by_kind) (a ∷ b ∷ c ∷ more)
+growth_prefix kind stream len (a ∷ b ∷ c ∷ d ∷ payload) more e by_kind h = h
 
 whole_end : (o z b : Bool) (x : Reading) (f g : FrameSeen) (n : ℕ) → o ≡ false → z ≡ false → b ≡ true → f ≡ g → cond o x (cond z x (cond b (Whole f n) Partial)) ≡ Whole g n
 whole_end o z b x f g n p q r s = rw (p, q, r, s) refl
 
 payload_read : (kind flags stream len : ℕ) (payload more : List ℕ) → length payload ≡ len → Rules kind flags stream len payload → reading_of_payload len kind flags stream (payload ++ more) ≡ Whole (record { kind = kind; flags = flags; stream = stream; payload = payload }) (9 + len)
 payload_read kind flags stream len payload more e rules =
-    let front : take len (payload ++ more) ≡ payload = ap (λ (n : ℕ). take n (payload ++ more)) (sym e) ∙ take-append_seam payload more in
+    let prefix : take len (payload ++ more) ≡ payload = ap (λ (n : ℕ). take n (payload ++ more)) (sym e) ∙ take-append_seam payload more in
     let there : nat_le len (length (payload ++ more)) ≡ true = grind (arith, nat_tests, length-append payload more) in
     whole_end (is_overpadded kind flags len (payload ++ more)) (is_zero_update kind stream (payload ++ more)) (nat_le len (length (payload ++ more))) _ _ _ (9 + len)
-    (padding_front kind flags len payload more e rules.by_flags rules.padding)
-    (growth_front kind stream len payload more e rules.by_kind rules.growth)
+    (padding_prefix kind flags len payload more e rules.by_flags rules.padding)
+    (growth_prefix kind stream len payload more e rules.by_kind rules.growth)
     there
-    (ap (λ (p : List ℕ). record { kind = kind; flags = flags; stream = stream; payload = p }) front)
+    (ap (λ (p : List ℕ). record { kind = kind; flags = flags; stream = stream; payload = p }) prefix)
 
 -- no test of a higher byte fails where the whole number passes
 pub fits_so_far : (part whole : ℕ) → part ≤ whole → whole ≤ 16384 → nat_lt payload_limit part ≡ false
@@ -179,8 +179,8 @@ body_of len kind flags stream t f n h =
     record { padding = one.0; growth = two.0; there = three.0; said = (cc); size = (cc) }
 
 -- what is read as a frame is that frame
-take_behind_nine : (a b c d e g h i j n len : ℕ) (t : List ℕ) → 9 + len ≡ n → take n (a ∷ b ∷ c ∷ d ∷ e ∷ g ∷ h ∷ i ∷ j ∷ t) ≡ a ∷ b ∷ c ∷ d ∷ e ∷ g ∷ h ∷ i ∷ j ∷ take len t
-take_behind_nine a b c d e g h i j n len t e' =
+take_after_nine : (a b c d e g h i j n len : ℕ) (t : List ℕ) → 9 + len ≡ n → take n (a ∷ b ∷ c ∷ d ∷ e ∷ g ∷ h ∷ i ∷ j ∷ t) ≡ a ∷ b ∷ c ∷ d ∷ e ∷ g ∷ h ∷ i ∷ j ∷ take len t
+take_after_nine a b c d e g h i j n len t e' =
     let same : n ≡ suc (suc (suc (suc (suc (suc (suc (suc (suc len)))))))) = omega arith in
     rw same refl
 
@@ -226,9 +226,9 @@ whole_is_frame (a ∷ b ∷ c ∷ kind ∷ flags ∷ p ∷ q ∷ r ∷ s ∷ t) 
       growth = growth_take kind (number_31 p q r s) (number_24 a b c) t header.by_kind body.growth;
     } in
     let frame = frame_of a b c kind flags p q r s (take (number_24 a b c) t) size rules in
-    let front = take_behind_nine a b c kind flags p q r s n (number_24 a b c) t body.size in
+    let prefix = take_after_nine a b c kind flags p q r s n (number_24 a b c) t body.size in
     let P : FrameSeen → Type 0 = λ g. IsFrame (a ∷ b ∷ c ∷ kind ∷ flags ∷ p ∷ q ∷ r ∷ s ∷ take (number_24 a b c) t) g in
     let Q : List ℕ → Type 0 = λ xs. IsFrame xs f in
     let fits : n ≤ length (a ∷ b ∷ c ∷ kind ∷ flags ∷ p ∷ q ∷ r ∷ s ∷ t) = omega (arith, body.size) in
-    (fits, subst Q (sym front) (subst P body.said frame))
+    (fits, subst Q (sym prefix) (subst P body.said frame))
 whole_is_frame t f n h = let no : ⊥ = grind (arith, nat_tests) in absurd no

@@ -9,38 +9,38 @@ use Rattle.h2_frame.specs.Frames.{number_24, number_31, bytes_24, bytes_32, is_o
 use Rattle.h2_frame.specs.Readings.{Reading, Fault, reading_of_payload, reading_6, reading_3, reading_of}
 use Rattle.h2_frame.specs.Steps.{reading_of_header}
 
--- an earlier test that tells what a later one tells
-told_before : (b c : Bool) (x y : Reading) → (b ≡ true → c ≡ true) → cond b x (cond c x y) ≡ cond c x y
-told_before true true x y so = refl
-told_before true false x y so = let no : false ≡ true = so refl in absurd (cc)
-told_before false c x y so = refl
+-- an earlier test that reports what a later one reports
+reported_before : (b c : Bool) (x y : Reading) → (b ≡ true → c ≡ true) → cond b x (cond c x y) ≡ cond c x y
+reported_before true true x y so = refl
+reported_before true false x y so = let no : false ≡ true = so refl in absurd (cc)
+reported_before false c x y so = refl
 
-told_before_then : (b c : Bool) (x y : Reading) → (b ≡ true → c ≡ false) → cond b x (cond c y x) ≡ cond c y x
-told_before_then true false x y so = refl
-told_before_then true true x y so = let no : true ≡ false = so refl in absurd (cc)
-told_before_then false c x y so = refl
+reported_before_then : (b c : Bool) (x y : Reading) → (b ≡ true → c ≡ false) → cond b x (cond c y x) ≡ cond c y x
+reported_before_then true false x y so = refl
+reported_before_then true true x y so = let no : true ≡ false = so refl in absurd (cc)
+reported_before_then false c x y so = refl
 
-higher_tells : (part whole : ℕ) → part ≤ whole → nat_lt payload_limit part ≡ true → nat_lt payload_limit whole ≡ true
-higher_tells part whole le h = grind (arith, nat_tests)
+higher_reports : (part whole : ℕ) → part ≤ whole → nat_lt payload_limit part ≡ true → nat_lt payload_limit whole ≡ true
+higher_reports part whole le h = grind (arith, nat_tests)
 
-stream_tells : (kind part whole : ℕ) → part ≤ whole → (is_of_connection kind && nat_lt 0 part) ≡ true → kind_allows_stream kind whole ≡ false
-stream_tells kind part whole le h = grind (arith, nat_tests)
+stream_reports : (kind part whole : ℕ) → part ≤ whole → (is_of_connection kind && nat_lt 0 part) ≡ true → kind_allows_stream kind whole ≡ false
+stream_reports kind part whole le h = grind (arith, nat_tests)
 
-behind : (b : Bool) (x y z : Reading) → y ≡ z → cond b x y ≡ cond b x z
-behind b x y z e = ap (λ (r : Reading). cond b x r) e
+afterwards : (b : Bool) (x y z : Reading) → y ≡ z → cond b x y ≡ cond b x z
+afterwards b x y z e = ap (λ (r : Reading). cond b x r) e
 
-behind_then : (b : Bool) (x y z : Reading) → y ≡ z → cond b y x ≡ cond b z x
-behind_then b x y z e = ap (λ (r : Reading). cond b r x) e
+after_then : (b : Bool) (x y z : Reading) → y ≡ z → cond b y x ≡ cond b z x
+after_then b x y z e = ap (λ (r : Reading). cond b r x) e
 
 -- the four bytes of a stream's number
 stream_at_once : (len kind flags p q r s : ℕ) (t : List ℕ) → reading_6 len kind flags (p ∷ q ∷ r ∷ s ∷ t) ≡ cond (kind_allows_stream kind (number_31 p q r s)) (reading_of_payload len kind flags (number_31 p q r s) t) (Fault 1)
 stream_at_once len kind flags p q r s t =
     let last : Reading = cond (kind_allows_stream kind (number_31 p q r s)) (reading_of_payload len kind flags (number_31 p q r s) t) (Fault 1) in
-    let eight = told_before_then (is_of_connection kind && nat_lt 0 (p % 128 * 16777216 + q * 65536 + r * 256)) (kind_allows_stream kind (number_31 p q r s)) (Fault 1) (reading_of_payload len kind flags (number_31 p q r s) t) (stream_tells kind (p % 128 * 16777216 + q * 65536 + r * 256) (number_31 p q r s) (omega arith)) in
-    let seven = told_before_then (is_of_connection kind && nat_lt 0 (p % 128 * 16777216 + q * 65536)) (kind_allows_stream kind (number_31 p q r s)) (Fault 1) (reading_of_payload len kind flags (number_31 p q r s) t) (stream_tells kind (p % 128 * 16777216 + q * 65536) (number_31 p q r s) (omega arith)) in
-    let six = told_before_then (is_of_connection kind && nat_lt 0 (p % 128 * 16777216)) (kind_allows_stream kind (number_31 p q r s)) (Fault 1) (reading_of_payload len kind flags (number_31 p q r s) t) (stream_tells kind (p % 128 * 16777216) (number_31 p q r s) (omega arith)) in
-    behind (is_of_connection kind && nat_lt 0 (p % 128 * 16777216)) (Fault 1) _ last
-    (behind (is_of_connection kind && nat_lt 0 (p % 128 * 16777216 + q * 65536)) (Fault 1) _ last eight ∙ seven) ∙ six
+    let eight = reported_before_then (is_of_connection kind && nat_lt 0 (p % 128 * 16777216 + q * 65536 + r * 256)) (kind_allows_stream kind (number_31 p q r s)) (Fault 1) (reading_of_payload len kind flags (number_31 p q r s) t) (stream_reports kind (p % 128 * 16777216 + q * 65536 + r * 256) (number_31 p q r s) (omega arith)) in
+    let seven = reported_before_then (is_of_connection kind && nat_lt 0 (p % 128 * 16777216 + q * 65536)) (kind_allows_stream kind (number_31 p q r s)) (Fault 1) (reading_of_payload len kind flags (number_31 p q r s) t) (stream_reports kind (p % 128 * 16777216 + q * 65536) (number_31 p q r s) (omega arith)) in
+    let six = reported_before_then (is_of_connection kind && nat_lt 0 (p % 128 * 16777216)) (kind_allows_stream kind (number_31 p q r s)) (Fault 1) (reading_of_payload len kind flags (number_31 p q r s) t) (stream_reports kind (p % 128 * 16777216) (number_31 p q r s) (omega arith)) in
+    afterwards (is_of_connection kind && nat_lt 0 (p % 128 * 16777216)) (Fault 1) _ last
+    (afterwards (is_of_connection kind && nat_lt 0 (p % 128 * 16777216 + q * 65536)) (Fault 1) _ last eight ∙ seven) ∙ six
 
 -- and the three of a length
 pub header_at_once : (a b c kind flags p q r s : ℕ) (t : List ℕ) → reading_of (a ∷ b ∷ c ∷ kind ∷ flags ∷ p ∷ q ∷ r ∷ s ∷ t) ≡ reading_of_header (number_24 a b c) kind flags (number_31 p q r s) t
@@ -49,13 +49,13 @@ header_at_once a b c kind flags p q r s t =
     let rules : Reading = cond (kind_allows_length kind (number_24 a b c)) (cond (flags_allow_length kind flags (number_24 a b c)) body (Fault 6)) (Fault 6) in
     let whole : Reading = cond (nat_lt payload_limit (number_24 a b c)) (Fault 6) rules in
     let three : reading_3 (a * 65536 + b * 256) (c ∷ kind ∷ flags ∷ p ∷ q ∷ r ∷ s ∷ t) ≡ whole =
-    behind (nat_lt payload_limit (number_24 a b c)) (Fault 6) _ rules
-    (behind_then (kind_allows_length kind (number_24 a b c)) (Fault 6) _ _
-    (behind_then (flags_allow_length kind flags (number_24 a b c)) (Fault 6) _ _ (stream_at_once (number_24 a b c) kind flags p q r s t))) in
-    let two = told_before (nat_lt payload_limit (a * 65536 + b * 256)) (nat_lt payload_limit (number_24 a b c)) (Fault 6) rules (higher_tells (a * 65536 + b * 256) (number_24 a b c) (omega arith)) in
-    let one = told_before (nat_lt payload_limit (a * 65536)) (nat_lt payload_limit (number_24 a b c)) (Fault 6) rules (higher_tells (a * 65536) (number_24 a b c) (omega arith)) in
-    behind (nat_lt payload_limit (a * 65536)) (Fault 6) _ whole
-    (behind (nat_lt payload_limit (a * 65536 + b * 256)) (Fault 6) _ whole three ∙ two) ∙ one
+    afterwards (nat_lt payload_limit (number_24 a b c)) (Fault 6) _ rules
+    (after_then (kind_allows_length kind (number_24 a b c)) (Fault 6) _ _
+    (after_then (flags_allow_length kind flags (number_24 a b c)) (Fault 6) _ _ (stream_at_once (number_24 a b c) kind flags p q r s t))) in
+    let two = reported_before (nat_lt payload_limit (a * 65536 + b * 256)) (nat_lt payload_limit (number_24 a b c)) (Fault 6) rules (higher_reports (a * 65536 + b * 256) (number_24 a b c) (omega arith)) in
+    let one = reported_before (nat_lt payload_limit (a * 65536)) (nat_lt payload_limit (number_24 a b c)) (Fault 6) rules (higher_reports (a * 65536) (number_24 a b c) (omega arith)) in
+    afterwards (nat_lt payload_limit (a * 65536)) (Fault 6) _ whole
+    (afterwards (nat_lt payload_limit (a * 65536 + b * 256)) (Fault 6) _ whole three ∙ two) ∙ one
 
 same_reading : (len len' kind flags stream stream' : ℕ) (t t' : List ℕ) → len' ≡ len → stream' ≡ stream → t' ≡ t → reading_of_header len kind flags stream t ≡ reading_of_header len' kind flags stream' t'
 same_reading len len' kind flags stream stream' t t' e f g = rw (e, f, g) refl
@@ -64,18 +64,18 @@ same_reading len len' kind flags stream stream' t t' e f g = rw (e, f, g) refl
 number_31_of : (p q r s n : ℕ) → q < 256 → r < 256 → s < 256 → n ≡ p * 16777216 + q * 65536 + r * 256 + s → bit_and n 2147483647 ≡ number_31 p q r s
 number_31_of p q r s n q' r' s' e = let low : bit_and n 2147483647 ≡ n % 2147483648 = and_numeral n 2147483646 refl in omega arith
 
--- nine bytes that are taken out of a list, and what is behind them
-pub front_at_once : (t : List ℕ) (len stream : ℕ) → 9 ≤ length t → ((i : ℕ) → slice_index_or t i 0 < 256)
+-- nine bytes that are taken out of a list, and what is after them
+pub prefix_at_once : (t : List ℕ) (len stream : ℕ) → 9 ≤ length t → ((i : ℕ) → slice_index_or t i 0 < 256)
     → len ≡ 0 + slice_index_or t 0 0 * 65536 + slice_index_or t 1 0 * 256 + slice_index_or t 2 0
     → stream ≡ slice_index_or t 5 0 * 16777216 + slice_index_or t 6 0 * 65536 + slice_index_or t 7 0 * 256 + slice_index_or t 8 0
     → reading_of t ≡ reading_of_header len (slice_index_or t 3 0) (slice_index_or t 4 0) (bit_and stream 2147483647) (take (length t - 9) (drop 9 t))
-front_at_once (a ∷ b ∷ c ∷ kind ∷ flags ∷ p ∷ q ∷ r ∷ s ∷ t) len stream le bytes len_is stream_is =
+prefix_at_once (a ∷ b ∷ c ∷ kind ∷ flags ∷ p ∷ q ∷ r ∷ s ∷ t) len stream le bytes len_is stream_is =
     let all : length (a ∷ b ∷ c ∷ kind ∷ flags ∷ p ∷ q ∷ r ∷ s ∷ t) - 9 ≡ length t = omega arith in
     header_at_once a b c kind flags p q r s t
     ∙ same_reading (number_24 a b c) len kind flags (number_31 p q r s) (bit_and stream 2147483647) t (take (length (a ∷ b ∷ c ∷ kind ∷ flags ∷ p ∷ q ∷ r ∷ s ∷ t) - 9) t) (omega (arith, len_is))
     (number_31_of p q r s stream (bytes 6) (bytes 7) (bytes 8) stream_is)
     (ap (λ (n : ℕ). take n t) all ∙ take_all (length t) t (omega arith))
-front_at_once t len stream le bytes len_is stream_is = let no : ⊥ = omega arith in absurd no
+prefix_at_once t len stream le bytes len_is stream_is = let no : ⊥ = omega arith in absurd no
 
 -- the bytes of a header that is written
 pub header_written : (len kind flags stream : ℕ) (low high : List ℕ) → low ≡ to_be_bytes w32 len → high ≡ to_be_bytes w32 stream → len ≤ 16384 → stream < 2 ^ 31

@@ -39,14 +39,14 @@ word_bytes n bytes range e =
     e ∙ rw (e0, e1, e2, e4, e5, e6, e7) refl
 
 -- the first of some settings
-pub front_setting : (t : List ℕ) (identifier value : ℕ) → 6 ≤ length t
+pub prefix_setting : (t : List ℕ) (identifier value : ℕ) → 6 ≤ length t
     → identifier ≡ slice_index_or t 0 0 * 256 + slice_index_or t 1 0
     → value ≡ slice_index_or t 2 0 * 16777216 + slice_index_or t 3 0 * 65536 + slice_index_or t 4 0 * 256 + slice_index_or t 5 0
     → settings_in t ≡ record { identifier = identifier; value = value } ∷ settings_in (take (length t - 6) (drop 6 t))
-front_setting (a ∷ b ∷ c ∷ d ∷ e ∷ f ∷ t) identifier value le p q =
+prefix_setting (a ∷ b ∷ c ∷ d ∷ e ∷ f ∷ t) identifier value le p q =
     let rest : take (length (a ∷ b ∷ c ∷ d ∷ e ∷ f ∷ t) - 6) t ≡ t = take_all (length (a ∷ b ∷ c ∷ d ∷ e ∷ f ∷ t) - 6) t (omega arith) in
     rw (p, q, rest) refl
-front_setting t identifier value le p q = let no : ⊥ = omega arith in absurd no
+prefix_setting t identifier value le p q = let no : ⊥ = omega arith in absurd no
 
 -- six bytes each
 pub settings_size : (settings : List Setting) → length (settings_bytes settings) ≡ 6 * length settings

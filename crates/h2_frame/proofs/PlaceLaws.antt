@@ -1,4 +1,4 @@
--- A fault is told at the first byte that shows it.
+-- A fault is reported at the first byte that shows it.
 use Rattle.std.proofs.Common.{◌≡◌, ℕ, zero, suc, ◌<◌, ◌≤◌, Bool, true, false, List, [], ◌∷◌, ◌++◌, length, take, drop, refl, ap, sym, ◌∙◌, subst, arith, inl, inr, ◌⊎◌, append_assoc, length-append}
 use Rattle.std.proofs.lemmas.Bool.{false≢true, cases_lt}
 use Rattle.std.proofs.lemmas.List.{take-append-drop, append-nil, take_all, length-take-le}
@@ -19,11 +19,11 @@ frame_alone t f frame =
 -- what is read as a frame is so whatever follows
 pub whole_stays : (t more : List ℕ) (f : FrameSeen) (n : ℕ) → reading_of t ≡ Whole f n → reading_of (t ++ more) ≡ Whole f n
 whole_stays t more f n h =
-    let front = whole_is_frame t f n h in
+    let leading = whole_is_frame t f n h in
     let regrouped : take n t ++ (drop n t ++ more) ≡ t ++ more =
     sym (append_assoc (take n t) (drop n t) more) ∙ ap (λ (xs : List ℕ). xs ++ more) (take-append-drop n t) in
     let P : List ℕ → Type 0 = λ xs. reading_of xs ≡ Whole f (length (take n t)) in
-    subst P regrouped (frame_is_read (take n t) (drop n t ++ more) f front.1) ∙ ap (λ (k : ℕ). Whole f k) (length-take-le n t front.0)
+    subst P regrouped (frame_is_read (take n t) (drop n t ++ more) f leading.1) ∙ ap (λ (k : ℕ). Whole f k) (length-take-le n t leading.0)
 
 pub fault_is_dead : (t : List ℕ) (c : ℕ) → reading_of t ≡ Fault c → IsDead t
 fault_is_dead t c h more f frame =
@@ -46,12 +46,12 @@ quiet_within t n k less h = let le : n ≤ k = omega arith in rw (take-take n k 
 -- a proper prefix of a frame is read as less than a frame
 prefix_by : (t : List ℕ) → IsProperPrefix t → (r : Reading) → reading_of t ≡ r → r ≡ Partial
 prefix_by t prefix (Whole f n) e =
-    let front = whole_is_frame t f n e in
+    let leading = whole_is_frame t f n e in
     let one : reading_of (t ++ prefix.next ∷ prefix.more) ≡ Whole f n = whole_stays t (prefix.next ∷ prefix.more) f n e in
     let two : reading_of (t ++ prefix.next ∷ prefix.more) ≡ Whole prefix.frame (length (t ++ prefix.next ∷ prefix.more)) =
     frame_alone (t ++ prefix.next ∷ prefix.more) prefix.frame prefix.is_frame in
     let same : n ≡ length (t ++ prefix.next ∷ prefix.more) = one_size (reading_of (t ++ prefix.next ∷ prefix.more)) f prefix.frame n (length (t ++ prefix.next ∷ prefix.more)) one two in
-    let no : ⊥ = omega (arith, front.0, same, length-append t (prefix.next ∷ prefix.more)) in
+    let no : ⊥ = omega (arith, leading.0, same, length-append t (prefix.next ∷ prefix.more)) in
     absurd no
 prefix_by t prefix Partial e = refl
 prefix_by t prefix (Fault c) e = absurd (fault_is_dead t c e (prefix.next ∷ prefix.more) prefix.frame prefix.is_frame)
@@ -90,8 +90,8 @@ quiet_is_partial t c m h Partial e quiet = refl
 quiet_is_partial t c m h (Fault d) e quiet = absurd (false≢true (sym quiet))
 
 -- the place of a fault, once it is found
-told_at : (t : List ℕ) (c k : ℕ) → reading_of t ≡ Fault c → k ≤ length t → is_fault (reading_of (take k t)) ≡ true → ((m : ℕ) → m < k → is_fault (reading_of (take m t)) ≡ false) → IsFault t c
-told_at t c k h inside shown quiet =
+reported_at : (t : List ℕ) (c k : ℕ) → reading_of t ≡ Fault c → k ≤ length t → is_fault (reading_of (take k t)) ≡ true → ((m : ℕ) → m < k → is_fault (reading_of (take m t)) ≡ false) → IsFault t c
+reported_at t c k h inside shown quiet =
     let here = fault_of_true (reading_of (take k t)) shown in
     let stays : reading_of (take k t ++ drop k t) ≡ Fault here.0 = fault_stays (take k t) (drop k t) here.0 here.1 in
     let P : List ℕ → Type 0 = λ xs. reading_of xs ≡ Fault here.0 in
@@ -108,14 +108,14 @@ told_at t c k h inside shown quiet =
     }
 
 -- what is read as a fault is one
-pub fault_is_told : (t : List ℕ) (c : ℕ) → reading_of t ≡ Fault c → IsFault t c
-fault_is_told t c h = elim (first_place (λ n. is_fault (reading_of (take n t))) (suc (length t))) [
+pub fault_is_reported : (t : List ℕ) (c : ℕ) → reading_of t ≡ Fault c → IsFault t c
+fault_is_reported t c h = elim (first_place (λ n. is_fault (reading_of (take n t))) (suc (length t))) [
   | inl none ↦ (
       let quiet : is_fault (reading_of (take (length t) t)) ≡ false = none (length t) (omega arith) in
       let P : List ℕ → Type 0 = λ xs. is_fault (reading_of xs) ≡ false in
       let all : is_fault (reading_of t) ≡ false = subst P (take_all (length t) t (omega arith)) quiet in
       absurd (quiet_fault (reading_of t) c h all))
-  | inr found ↦ told_at t c found.0 h (omega (arith, found.1)) found.2 found.3
+  | inr found ↦ reported_at t c found.0 h (omega (arith, found.1)) found.2 found.3
 ]
 
 -- no frame stands before the place of a fault, nor at it
@@ -138,10 +138,10 @@ place_is_frame t c fault f n more frame =
 -- and what is one is read so
 pub at_place : (t : List ℕ) (c : ℕ) → (fault : IsFault t c) → (r : Reading) → reading_of (take fault.place t) ≡ r → r ≡ Fault c
 at_place t c fault (Whole f n) e =
-    let front = whole_is_frame (take fault.place t) f n e in
+    let leading = whole_is_frame (take fault.place t) f n e in
     absurd (elim (cases_lt n fault.place) [
-      | inl less ↦ earlier_frame t c fault f n less front.1
-      | inr more ↦ place_is_frame t c fault f n more front.1
+      | inl less ↦ earlier_frame t c fault f n less leading.1
+      | inr more ↦ place_is_frame t c fault f n more leading.1
     ])
 at_place t c fault Partial e =
     let prefix = partial_is_prefix (take fault.place t) e in
@@ -152,8 +152,8 @@ at_place t c fault (Fault d) e =
     λ n less. let lt : n < fault.place = omega arith in quiet_within t n fault.place lt (ap is_fault (prefix_is_partial (take n t) (fault.earliest n lt))) in
     ap Fault (one_code (take fault.place t) d c (code_of (take fault.place t) d e quiet) fault.code_is)
 
-pub told_fault : (t : List ℕ) (c : ℕ) → IsFault t c → reading_of t ≡ Fault c
-told_fault t c fault =
+pub reported_fault : (t : List ℕ) (c : ℕ) → IsFault t c → reading_of t ≡ Fault c
+reported_fault t c fault =
     let here : reading_of (take fault.place t) ≡ Fault c = at_place t c fault (reading_of (take fault.place t)) refl in
     let P : List ℕ → Type 0 = λ xs. reading_of xs ≡ Fault c in
     subst P (take-append-drop fault.place t) (fault_stays (take fault.place t) (drop fault.place t) c here)

@@ -15,7 +15,7 @@ pub record FrameSeen : Type 0 where
 abbrev pub number_24 : ℕ → ℕ → ℕ → ℕ
 number_24 a b c = a * 65536 + b * 256 + c
 
--- a number of 31 bits behind a reserved bit, which is ignored (section 4.1)
+-- a number of 31 bits after a reserved bit, which is ignored (section 4.1)
 abbrev pub number_31 : ℕ → ℕ → ℕ → ℕ → ℕ
 number_31 a b c d = a % 128 * 16777216 + b * 65536 + c * 256 + d
 
@@ -65,7 +65,7 @@ abbrev pub kind_allows_stream : ℕ → ℕ → Bool
 kind_allows_stream kind stream =
     if is_of_connection kind then stream == 0 else if is_of_stream kind then not (stream == 0) else true
 
--- whether the padding is longer than what the payload has left behind its fields (sections 6.1 and 6.2)
+-- whether the padding is longer than what the payload has left over its fields (sections 6.1 and 6.2)
 abbrev pub is_overpadded : ℕ → ℕ → ℕ → List ℕ → Bool
 is_overpadded kind flags len [] = false
 is_overpadded kind flags len (pad ∷ rest) = is_padded kind flags && nat_lt (len - fields_size kind flags) pad
@@ -93,7 +93,7 @@ keeps_sizes f =
 abbrev pub is_allowed : FrameSeen → Bool
 is_allowed f = keeps_protocol f && keeps_sizes f
 
--- the bytes are a header of nine bytes and the payload whose length it tells (section 4.1)
+-- the bytes are a header of nine bytes and the payload whose length it reports (section 4.1)
 abbrev pub Spells : List ℕ → FrameSeen → Type 0
 Spells (a ∷ b ∷ c ∷ kind ∷ flags ∷ p ∷ q ∷ r ∷ s ∷ payload) f =
     (length payload ≡ number_24 a b c)

@@ -33,14 +33,14 @@ settings_in _ = []
 abbrev pub ping_word : List ℕ → ℕ
 ping_word payload = number_at 0 payload * 4294967296 + number_at 4 payload
 
--- the last stream of GOAWAY, behind a reserved bit, and its error code (section 6.8)
+-- the last stream of GOAWAY, after a reserved bit, and its error code (section 6.8)
 abbrev pub last_stream : List ℕ → ℕ
 last_stream payload = number_at 0 payload % 2147483648
 
 abbrev pub goaway_code : List ℕ → ℕ
 goaway_code payload = number_at 4 payload
 
--- the increment of WINDOW_UPDATE, behind a reserved bit (section 6.9)
+-- the increment of WINDOW_UPDATE, after a reserved bit (section 6.9)
 abbrev pub increment : List ℕ → ℕ
 increment payload = number_at 0 payload % 2147483648
 

@@ -1,4 +1,4 @@
--- What some bytes are as frames: a frame in front, a proper prefix of one, or a fault, told at the earliest byte (RFC 9113, sections 4.1 and 4.2).
+-- What some bytes are as frames: a frame before, a proper prefix of one, or a fault, reported at the earliest byte (RFC 9113, sections 4.1 and 4.2).
 use Rattle.std.specs.Prelude.{◌≡◌, ◌<◌, ◌≤◌, ◌⊎◌, ℕ, zero, suc, ◌+◌, ◌*◌, ◌%◌, Bool, true, false, Option, Some, None, List, [], ◌∷◌, ◌++◌, length, take, drop, nat_lt, nat_le, ◌&&◌, IsTrue, if◌then◌else◌, MatchOption}
 use Rattle.std.specs.List.{AllByRecursion}
 use Rattle.grpc_base.specs.ErrorCodes.{protocol_error, frame_size_error}
@@ -53,7 +53,7 @@ abbrev pub is_fault : Reading → Bool
 is_fault (Fault code) = true
 is_fault _ = false
 
--- behind nine bytes of header: its payload, and what follows it
+-- after nine bytes of header: its payload, and what follows it
 abbrev pub reading_of_payload : ℕ → ℕ → ℕ → ℕ → List ℕ → Reading
 reading_of_payload len kind flags stream rest =
     if is_overpadded kind flags len rest then Fault protocol_error
@@ -111,31 +111,31 @@ reading_of [] = Partial
 reading_of (a ∷ rest) =
     if nat_lt payload_limit (a * 65536) then Fault frame_size_error else reading_2 (a * 65536) rest
 
--- the bytes are these frames, one behind the other, and then the rest
+-- the bytes are these frames, one after the other, and then the rest
 abbrev pub AreFrames : List ℕ → List FrameSeen → List ℕ → Type 0
 AreFrames bytes [] rest = bytes ≡ rest
 AreFrames bytes (f ∷ frames) rest =
-    (text : List ℕ) × (behind : List ℕ) × (bytes ≡ text ++ behind) × IsFrame text f × AreFrames behind frames rest
+    (text : List ℕ) × (afterwards : List ℕ) × (bytes ≡ text ++ afterwards) × IsFrame text f × AreFrames afterwards frames rest
 
 -- the frames that a text begins with, and its rest: a proper prefix of a frame, or at fault
 pub record IsReading (bytes : List ℕ) (frames : List FrameSeen) (rest : List ℕ) (fault : Option ℕ) : Type 0 where
-  pub front : AreFrames bytes frames rest
+  pub prefix : AreFrames bytes frames rest
   pub back : MatchOption fault (IsProperPrefix rest) (λ code. IsFault rest code)
 
 -- the same as functions: with a bound on the frames, since each takes bytes away
 abbrev pub frames_after : Reading → (ℕ → List FrameSeen) → List FrameSeen
-frames_after (Whole f len) behind = f ∷ behind len
-frames_after Partial behind = []
-frames_after (Fault code) behind = []
+frames_after (Whole f len) afterwards = f ∷ afterwards len
+frames_after Partial afterwards = []
+frames_after (Fault code) afterwards = []
 
 abbrev pub frames_within : ℕ → List ℕ → List FrameSeen
 frames_within zero bytes = []
 frames_within (suc bound) bytes = frames_after (reading_of bytes) (λ len. frames_within bound (drop len bytes))
 
 abbrev pub rest_after : Reading → List ℕ → (ℕ → List ℕ) → List ℕ
-rest_after (Whole f len) bytes behind = behind len
-rest_after Partial bytes behind = bytes
-rest_after (Fault code) bytes behind = bytes
+rest_after (Whole f len) bytes afterwards = afterwards len
+rest_after Partial bytes afterwards = bytes
+rest_after (Fault code) bytes afterwards = bytes
 
 abbrev pub rest_within : ℕ → List ℕ → List ℕ
 rest_within zero bytes = bytes
@@ -150,13 +150,13 @@ abbrev pub rest_of : List ℕ → List ℕ
 rest_of bytes = rest_within (length bytes) bytes
 
 -- the fault of bytes that begin with no frame
-abbrev pub fault_told : Reading → Option ℕ
-fault_told (Whole f len) = None
-fault_told Partial = None
-fault_told (Fault code) = Some code
+abbrev pub fault_reported : Reading → Option ℕ
+fault_reported (Whole f len) = None
+fault_reported Partial = None
+fault_reported (Fault code) = Some code
 
 abbrev pub fault_of : List ℕ → Option ℕ
-fault_of bytes = fault_told (reading_of bytes)
+fault_of bytes = fault_reported (reading_of bytes)
 
 -- how many bytes show the fault of these: the fewest of their first bytes that are at fault, or all where none are
 abbrev pub fault_place_from : ℕ → ℕ → List ℕ → ℕ

@@ -11,11 +11,11 @@ use Rattle.h2_frame.specs.Readings.{Reading, Whole, Partial, Fault, reading_of_p
 abbrev pub seen : Frame → FrameSeen
 seen f = record { kind = f.kind; flags = f.flags; stream = f.stream; payload = f.payload.now }
 
--- what a step told
-abbrev pub told : FrameStep → Reading
-told (step.Got frame len) = Whole (seen frame) len
-told step.More = Partial
-told (step.Bad code) = Fault code
+-- what a step reported
+abbrev pub reported : FrameStep → Reading
+reported (step.Got frame len) = Whole (seen frame) len
+reported step.More = Partial
+reported (step.Bad code) = Fault code
 
 -- a fact of the frame that a step got
 abbrev pub IfGot : FrameStep → (Frame → ℕ → Type 0) → Type 0
@@ -23,7 +23,7 @@ IfGot (step.Got frame len) holds = holds frame len
 IfGot step.More holds = Unit {0}
 IfGot (step.Bad code) holds = Unit {0}
 
--- behind a header that is there whole; no public promise speaks of it
+-- after a header that is there whole; no public promise speaks of it
 abbrev pub reading_of_header : ℕ → ℕ → ℕ → ℕ → List ℕ → Reading
 reading_of_header len kind flags stream rest =
     if nat_lt payload_limit len then Fault frame_size_error

@@ -17,7 +17,7 @@ pub struct Frame<'a> {
     ghost allowed: { IsTrue (is_allowed (record { kind = kind; flags = flags; stream = stream; payload = payload.now })) },
 }
 
-/// What stands at the front of some bytes.
+/// What stands at the start of some bytes.
 #[derive(Clone, Copy, Debug)]
 pub enum FrameStep<'a> {
     /// A whole frame, and how many bytes it has.

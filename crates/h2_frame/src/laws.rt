@@ -36,11 +36,11 @@ pub fn one_reading()
 
 /// The frames of a text do not depend on how it is cut, and a fault stays whatever comes.
 pub fn pieces_join()
-    ensures go_on { (front piece : List ℕ) (frames others : List FrameSeen) (rest end : List ℕ) (fault : Option ℕ) →
-        IsReading front frames rest None → IsReading (rest ++ piece) others end fault →
-        IsReading (front ++ piece) (frames ++ others) end fault }
-    ensures stay { (front piece : List ℕ) (frames : List FrameSeen) (rest : List ℕ) (code : ℕ) →
-        IsReading front frames rest (Some code) → IsReading (front ++ piece) frames (rest ++ piece) (Some code) }
+    ensures go_on { (prefix piece : List ℕ) (frames others : List FrameSeen) (rest end : List ℕ) (fault : Option ℕ) →
+        IsReading prefix frames rest None → IsReading (rest ++ piece) others end fault →
+        IsReading (prefix ++ piece) (frames ++ others) end fault }
+    ensures stay { (prefix piece : List ℕ) (frames : List FrameSeen) (rest : List ℕ) (code : ℕ) →
+        IsReading prefix frames rest (Some code) → IsReading (prefix ++ piece) frames (rest ++ piece) (Some code) }
 {}
 
 /// The word of a PING is its eight bytes, which are written back for it.

@@ -1,4 +1,4 @@
-// HTTP/2 frames both ways: the frame at the front of some bytes, and the bytes of a frame.
+// HTTP/2 frames both ways: the frame at the start of some bytes, and the bytes of a frame.
 #![tactic(auto)]
 
 pub mod flags;

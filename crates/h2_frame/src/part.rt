@@ -1,7 +1,7 @@
-// Less than a frame's header, read one byte after the other, so that a fault is told at the first byte that shows it.
+// Less than a frame's header, read one byte after the other, so that a fault is reported at the first byte that shows it.
 ghost use Rattle.std.specs.Prelude.{◌≡◌, ◌<◌, ℕ, length};
 ghost use Rattle.h2_frame.specs.Readings.{reading_of, reading_4, reading_6};
-ghost use Rattle.h2_frame.specs.Steps.{told};
+ghost use Rattle.h2_frame.specs.Steps.{reported};
 
 use crate::FrameStep;
 use crate::rules::{PAYLOAD_LIMIT, flags_allow_length, is_of_connection, kind_allows_length};
@@ -10,7 +10,7 @@ use grpc_base::error_code::{FRAME_SIZE_ERROR, PROTOCOL_ERROR};
 /// What fewer than nine bytes are. It begins with the three bytes of the length.
 pub fn read_part<'a>(bytes: &'a [u8]) -> FrameStep<'a>
     requires { length bytes.now < 9 }
-    ensures { told result ≡ reading_of bytes.now }
+    ensures { reported result ≡ reading_of bytes.now }
 {
     let [a, rest @ ..] = bytes else {
         return FrameStep::More;
@@ -45,7 +45,7 @@ pub fn read_part<'a>(bytes: &'a [u8]) -> FrameStep<'a>
 // The frame type and the flags.
 fn read_type<'a>(len: u32, bytes: &'a [u8]) -> FrameStep<'a>
     requires { length bytes.now < 6 }
-    ensures { told result ≡ reading_4 len bytes.now }
+    ensures { reported result ≡ reading_4 len bytes.now }
 {
     let [kind, rest @ ..] = bytes else {
         return FrameStep::More;
@@ -69,7 +69,7 @@ fn read_type<'a>(len: u32, bytes: &'a [u8]) -> FrameStep<'a>
 // The first three bytes of the stream's number, whose reserved bit is ignored.
 fn read_stream<'a>(kind: u8, bytes: &'a [u8]) -> FrameStep<'a>
     requires { length bytes.now < 4 }
-    ensures { (len flags : ℕ) → told result ≡ reading_6 len kind flags bytes.now }
+    ensures { (len flags : ℕ) → reported result ≡ reading_6 len kind flags bytes.now }
 {
     let of_connection = is_of_connection(kind);
     let [p, rest @ ..] = bytes else {

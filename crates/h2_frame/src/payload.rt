@@ -73,7 +73,7 @@ impl<'a> Frame<'a> {
     }
 }
 
-/// The first setting of the payload of SETTINGS, and the bytes behind it; None where no setting is left.
+/// The first setting of the payload of SETTINGS, and the bytes after it; None where no setting is left.
 pub fn next_setting(bytes: &[u8]) -> Option<(Setting, &[u8])>
     ensures some { IfSome result (λ s. settings_in bytes.now ≡ s.0 ∷ settings_in s.1.now) }
     ensures shorter { IfSome result (λ s. length s.1.now < length bytes.now) }

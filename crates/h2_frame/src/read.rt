@@ -1,8 +1,8 @@
-// The frame at the front of some bytes.
+// The frame at the start of some bytes.
 ghost use Rattle.std.specs.Prelude.{◌≡◌, ◌<◌, ◌≤◌, ◌^◌, ◌↔◌, ℕ, IsTrue, length, take};
 ghost use Rattle.h2_frame.specs.Frames.{IsFrame, kind_allows_length, flags_allow_length, kind_allows_stream};
 ghost use Rattle.h2_frame.specs.Readings.{IsProperPrefix, IsFault, fault_place, is_fault, reading_of, reading_of_payload};
-ghost use Rattle.h2_frame.specs.Steps.{IfGot, seen, told, reading_of_header};
+ghost use Rattle.h2_frame.specs.Steps.{IfGot, seen, reported, reading_of_header};
 
 use crate::part::read_part;
 use crate::rules::{
@@ -12,9 +12,9 @@ use crate::rules::{
 use crate::{Frame, FrameStep, HEADER_SIZE};
 use grpc_base::error_code::{FRAME_SIZE_ERROR, PROTOCOL_ERROR};
 
-/// Reads the frame at the front of the bytes; no memory is taken, and the payload lies in the bytes.
+/// Reads the frame at the start of the bytes; no memory is taken, and the payload lies in the bytes.
 ///
-/// `Got` has the frame and its size, and the bytes go on behind it. `More` comes exactly where the bytes are a
+/// `Got` has the frame and its size, and the bytes go on after it. `More` comes exactly where the bytes are a
 /// proper prefix of a frame. `Bad` comes exactly where they begin with no frame and can't go on to be one, from the
 /// first byte on that shows it; its code is FRAME_SIZE_ERROR for a length that the payload may not have, and
 /// PROTOCOL_ERROR for a stream, a padding or an increment that the frame may not have.
@@ -25,9 +25,9 @@ pub fn next_frame<'a>(bytes: &'a [u8]) -> FrameStep<'a>
     // Less than a frame is at most a header and a payload of 16,384 bytes without its last byte.
     ensures short { result ≡ FrameStep.More → length bytes.now ≤ 16392 }
     // All three at once, as a function of the bytes.
-    ensures exact { told result ≡ reading_of bytes.now }
+    ensures exact { reported result ≡ reading_of bytes.now }
 {
-    read_front(bytes)
+    read_prefix(bytes)
 }
 
 /// How many bytes show the fault of these: the fewest of their first bytes for which `next_frame` answers Bad, at most
@@ -46,14 +46,14 @@ pub fn fault_place(bytes: &[u8]) -> usize
 }
 
 fn is_bad(step: &FrameStep) -> bool
-    ensures { result ≡ is_fault (told step.now) }
+    ensures { result ≡ is_fault (reported step.now) }
 {
     matches!(step, FrameStep::Bad { code: _ })
 }
 
 // The header at once where all of it is there, and else byte by byte.
-fn read_front<'a>(bytes: &'a [u8]) -> FrameStep<'a>
-    ensures { told result ≡ reading_of bytes.now }
+fn read_prefix<'a>(bytes: &'a [u8]) -> FrameStep<'a>
+    ensures { reported result ≡ reading_of bytes.now }
 {
     match bytes {
         [a, b, c, kind, flags, p, q, r, s, payload @ ..] => {
@@ -68,7 +68,7 @@ fn read_front<'a>(bytes: &'a [u8]) -> FrameStep<'a>
 // What a whole header says, and then the payload.
 fn read_header<'a>(length: u32, kind: u8, flags: u8, stream: u32, bytes: &'a [u8]) -> FrameStep<'a>
     requires in_range { stream < 2 ^ 31 }
-    ensures { told result ≡ reading_of_header length kind flags stream bytes.now }
+    ensures { reported result ≡ reading_of_header length kind flags stream bytes.now }
 {
     if length > PAYLOAD_LIMIT
         || !kind_allows_length(kind, length)
@@ -93,7 +93,7 @@ fn read_payload<'a>(length: u32, kind: u8, flags: u8, stream: u32, bytes: &'a [u
     requires by_flags { IsTrue (flags_allow_length kind flags length) }
     requires in_range { stream < 2 ^ 31 }
     requires by_stream { IsTrue (kind_allows_stream kind stream) }
-    ensures { told result ≡ reading_of_payload length kind flags stream bytes.now }
+    ensures { reported result ≡ reading_of_payload length kind flags stream bytes.now }
 {
     if is_overpadded(kind, flags, length, bytes) || is_zero_update(kind, stream, bytes) {
         return FrameStep::Bad {

@@ -79,7 +79,7 @@ pub fn kind_allows_stream(kind: u8, stream: u32) -> bool
     }
 }
 
-/// Whether the padding is longer than what is left behind the fields; the payload may still lack its end.
+/// Whether the padding is longer than what is left over the fields; the payload may still lack its end.
 pub fn is_overpadded(kind: u8, flags: u8, length: u32, payload: &[u8]) -> bool
     ensures { result ≡ is_overpadded kind flags length payload.now }
 {

@@ -5,7 +5,7 @@ use Rattle.std.specs.List.{list_all, range_with_len}
 use Rattle.std.proofs.lemmas.Bool.{agree_below, and_parts, cases_Bool, false≢true, true≢false, eq-eqb, false_from_ne_true}
 use Rattle.std.proofs.lemmas.Slice.Eq.{bytes_eq-Decides}
 use Rattle.h2_hpack.specs.Laws.{share, code_counts}
-use Rattle.h2_hpack.specs.Huffman.{SymbolCode, symbol_codes, of_length, code_of, end_of_string, code_lengths, symbols_from, is_front, is_free}
+use Rattle.h2_hpack.specs.Huffman.{SymbolCode, symbol_codes, of_length, code_of, end_of_string, code_lengths, symbols_from, is_prefix, is_free}
 
 abbrev pub code_for : List SymbolCode → ℕ → Option SymbolCode
 code_for table s = find (λ c. c.symbol == s) table
@@ -53,13 +53,13 @@ not_both false false h = (refl, refl)
 not_both false true h = absurd (false≢true h)
 not_both true b h = absurd (false≢true h)
 
-pub is_front-self : (xs : List ℕ) → is_front xs xs ≡ true
-is_front-self [] = refl
-is_front-self (x ∷ xs) = rw (eq-eqb x x refl) (is_front-self xs)
+pub is_prefix-self : (xs : List ℕ) → is_prefix xs xs ≡ true
+is_prefix-self [] = refl
+is_prefix-self (x ∷ xs) = rw (eq-eqb x x refl) (is_prefix-self xs)
 
-pub is_front-append : (xs ys : List ℕ) → is_front xs (xs ++ ys) ≡ true
-is_front-append [] ys = refl
-is_front-append (x ∷ xs) ys = rw (eq-eqb x x refl) (is_front-append xs ys)
+pub is_prefix-append : (xs ys : List ℕ) → is_prefix xs (xs ++ ys) ≡ true
+is_prefix-append [] ys = refl
+is_prefix-append (x ∷ xs) ys = rw (eq-eqb x x refl) (is_prefix-append xs ys)
 
 -- what every element of a list passes, one found in it passes
 pub passes : (p q : SymbolCode → Bool) (cs : List SymbolCode) (c : SymbolCode) → list_all p cs ≡ true → find q cs ≡ Some c → p c ≡ true
@@ -89,43 +89,43 @@ bytes_eq-false xs ys h = false_from_ne_true (bytes_eq xs ys) (λ e. h (bytes_eq-
 pub by_bits : (table : List SymbolCode) (s : ℕ) (c : SymbolCode) → is_free table ≡ true → code_for table s ≡ Some c → find (λ d. bytes_eq d.bits c.bits) table ≡ Some c
 by_bits [] s c is found = absurd (cc found)
 by_bits (d ∷ ds) s c is found =
-    let parts = and_parts (list_all (λ e. not (is_front d.bits e.bits) && not (is_front e.bits d.bits)) ds) (is_free ds) is in
+    let parts = and_parts (list_all (λ e. not (is_prefix d.bits e.bits) && not (is_prefix e.bits d.bits)) ds) (is_free ds) is in
     elim (cases_Bool (d.symbol == s)) [
       | inl hit ↦
           let same : d ≡ c = some_injective d c (rw hit at found) in
           rw (same, bytes_eq-self c.bits) refl
       | inr miss ↦
           let later : code_for ds s ≡ Some c = rw miss at found in
-          let apart : is_front d.bits c.bits ≡ false = (not_both _ _ (passes (λ e. not (is_front d.bits e.bits) && not (is_front e.bits d.bits)) (λ e. e.symbol == s) ds c parts.0 later)).0 in
-          let unequal : bytes_eq d.bits c.bits ≡ false = bytes_eq-false d.bits c.bits (λ e. true≢false (sym (is_front-self d.bits) ∙ ap (λ x. is_front d.bits x) e ∙ apart)) in
+          let apart : is_prefix d.bits c.bits ≡ false = (not_both _ _ (passes (λ e. not (is_prefix d.bits e.bits) && not (is_prefix e.bits d.bits)) (λ e. e.symbol == s) ds c parts.0 later)).0 in
+          let unequal : bytes_eq d.bits c.bits ≡ false = bytes_eq-false d.bits c.bits (λ e. true≢false (sym (is_prefix-self d.bits) ∙ ap (λ x. is_prefix d.bits x) e ∙ apart)) in
           rw unequal (by_bits ds s c parts.1 later)
     ]
 
--- codes with none that is a front of some bits are none of the fronts of these
-none_front : (p rest : List ℕ) (ds : List SymbolCode) → list_all (λ e. not (is_front (p ++ rest) e.bits) && not (is_front e.bits (p ++ rest))) ds ≡ true → find (λ d. bytes_eq d.bits p) ds ≡ None
-none_front p rest [] all = refl
-none_front p rest (d ∷ ds) all =
-    let parts = and_parts (not (is_front (p ++ rest) d.bits) && not (is_front d.bits (p ++ rest))) (list_all (λ e. not (is_front (p ++ rest) e.bits) && not (is_front e.bits (p ++ rest))) ds) all in
-    let apart : is_front d.bits (p ++ rest) ≡ false = (not_both _ _ parts.0).1 in
-    let unequal : bytes_eq d.bits p ≡ false = bytes_eq-false d.bits p (λ e. true≢false (sym (is_front-append p rest) ∙ ap (λ x. is_front x (p ++ rest)) (sym e) ∙ apart)) in
-    rw unequal (none_front p rest ds parts.1)
+-- codes with none that is a prefix of some bits are none of the prefixes of these
+none_prefix : (p rest : List ℕ) (ds : List SymbolCode) → list_all (λ e. not (is_prefix (p ++ rest) e.bits) && not (is_prefix e.bits (p ++ rest))) ds ≡ true → find (λ d. bytes_eq d.bits p) ds ≡ None
+none_prefix p rest [] all = refl
+none_prefix p rest (d ∷ ds) all =
+    let parts = and_parts (not (is_prefix (p ++ rest) d.bits) && not (is_prefix d.bits (p ++ rest))) (list_all (λ e. not (is_prefix (p ++ rest) e.bits) && not (is_prefix e.bits (p ++ rest))) ds) all in
+    let apart : is_prefix d.bits (p ++ rest) ≡ false = (not_both _ _ parts.0).1 in
+    let unequal : bytes_eq d.bits p ≡ false = bytes_eq-false d.bits p (λ e. true≢false (sym (is_prefix-append p rest) ∙ ap (λ x. is_prefix x (p ++ rest)) (sym e) ∙ apart)) in
+    rw unequal (none_prefix p rest ds parts.1)
 
--- no code is a front of another one
-pub no_front : (table : List SymbolCode) (s : ℕ) (c : SymbolCode) (p : List ℕ) (b : ℕ) (rest : List ℕ) → is_free table ≡ true → code_for table s ≡ Some c → p ++ b ∷ rest ≡ c.bits → find (λ d. bytes_eq d.bits p) table ≡ None
-no_front [] s c p b rest is found whole = refl
-no_front (d ∷ ds) s c p b rest is found whole =
-    let parts = and_parts (list_all (λ e. not (is_front d.bits e.bits) && not (is_front e.bits d.bits)) ds) (is_free ds) is in
+-- no code is a prefix of another one
+pub no_prefix : (table : List SymbolCode) (s : ℕ) (c : SymbolCode) (p : List ℕ) (b : ℕ) (rest : List ℕ) → is_free table ≡ true → code_for table s ≡ Some c → p ++ b ∷ rest ≡ c.bits → find (λ d. bytes_eq d.bits p) table ≡ None
+no_prefix [] s c p b rest is found whole = refl
+no_prefix (d ∷ ds) s c p b rest is found whole =
+    let parts = and_parts (list_all (λ e. not (is_prefix d.bits e.bits) && not (is_prefix e.bits d.bits)) ds) (is_free ds) is in
     elim (cases_Bool (d.symbol == s)) [
       | inl hit ↦
           let same : d ≡ c = some_injective d c (rw hit at found) in
           let bits : p ++ b ∷ rest ≡ d.bits = whole ∙ ap (λ (x : SymbolCode). x.bits) (sym same) in
           let unequal : bytes_eq d.bits p ≡ false = bytes_eq-false d.bits p (λ e. longer p b rest (bits ∙ e)) in
-          rw unequal (none_front p (b ∷ rest) ds (subst (λ (x : List ℕ). list_all (λ e. not (is_front x e.bits) && not (is_front e.bits x)) ds ≡ true) (sym bits) parts.0))
+          rw unequal (none_prefix p (b ∷ rest) ds (subst (λ (x : List ℕ). list_all (λ e. not (is_prefix x e.bits) && not (is_prefix e.bits x)) ds ≡ true) (sym bits) parts.0))
       | inr miss ↦
           let later : code_for ds s ≡ Some c = rw miss at found in
-          let apart : is_front d.bits c.bits ≡ false = (not_both _ _ (passes (λ e. not (is_front d.bits e.bits) && not (is_front e.bits d.bits)) (λ e. e.symbol == s) ds c parts.0 later)).0 in
-          let unequal : bytes_eq d.bits p ≡ false = bytes_eq-false d.bits p (λ e. true≢false (sym (is_front-append d.bits (b ∷ rest)) ∙ ap (λ x. is_front d.bits (x ++ b ∷ rest)) e ∙ ap (λ x. is_front d.bits x) whole ∙ apart)) in
-          rw unequal (no_front ds s c p b rest parts.1 later whole)
+          let apart : is_prefix d.bits c.bits ≡ false = (not_both _ _ (passes (λ e. not (is_prefix d.bits e.bits) && not (is_prefix e.bits d.bits)) (λ e. e.symbol == s) ds c parts.0 later)).0 in
+          let unequal : bytes_eq d.bits p ≡ false = bytes_eq-false d.bits p (λ e. true≢false (sym (is_prefix-append d.bits (b ∷ rest)) ∙ ap (λ x. is_prefix d.bits (x ++ b ∷ rest)) e ∙ ap (λ x. is_prefix d.bits x) whole ∙ apart)) in
+          rw unequal (no_prefix ds s c p b rest parts.1 later whole)
     ]
 
 pub whole : share symbol_codes ≡ 2 ^ 30

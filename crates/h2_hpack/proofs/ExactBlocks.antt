@@ -73,11 +73,11 @@ name_some WithoutIndexing = lit≤ tt
 name_some NeverIndexed = lit≤ tt
 
 -- bytes that begin with bytes of a kind are of that kind
-starts_longer : (bits mark : ℕ) (front rest : List ℕ) → StartsWith bits mark front → StartsWith bits mark (front ++ rest)
-starts_longer bits mark front rest s = record { first = s.first; rest = s.rest ++ rest; bytes_are = ap (λ l. l ++ rest) s.bytes_are; least = s.least; most = s.most }
+starts_longer : (bits mark : ℕ) (leading rest : List ℕ) → StartsWith bits mark leading → StartsWith bits mark (leading ++ rest)
+starts_longer bits mark leading rest s = record { first = s.first; rest = s.rest ++ rest; bytes_are = ap (λ l. l ++ rest) s.bytes_are; least = s.least; most = s.most }
 
-starts_as : (bits mark : ℕ) (front rest bytes : List ℕ) → bytes ≡ front ++ rest → StartsWith bits mark front → StartsWith bits mark bytes
-starts_as bits mark front rest bytes whole s = subst (StartsWith bits mark) (sym whole) (starts_longer bits mark front rest s)
+starts_as : (bits mark : ℕ) (leading rest bytes : List ℕ) → bytes ≡ leading ++ rest → StartsWith bits mark leading → StartsWith bits mark bytes
+starts_as bits mark leading rest bytes whole s = subst (StartsWith bits mark) (sym whole) (starts_longer bits mark leading rest s)
 
 first_of_name : (indexing : Indexing) (bytes : List ℕ) (name : Name) → IsName indexing bytes name → StartsWith (name_bits indexing) (name_mark indexing) bytes
 first_of_name indexing bytes (NameIndex index) is = first_of_integer (name_bits indexing) (name_mark indexing) bytes index (name_some indexing) is.0

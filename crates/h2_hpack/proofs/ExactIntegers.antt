@@ -83,9 +83,9 @@ exact_ok x = record {
 abbrev pub AreBytes : List ℕ → Type 0
 AreBytes bytes = AllByRecursion (λ b. b < 256) bytes
 
-pub back_bytes : (front rest : List ℕ) → AreBytes (front ++ rest) → AreBytes rest
+pub back_bytes : (leading rest : List ℕ) → AreBytes (leading ++ rest) → AreBytes rest
 back_bytes [] rest are = are
-back_bytes (b ∷ front) rest are = back_bytes front rest are.1
+back_bytes (b ∷ leading) rest are = back_bytes leading rest are.1
 
 pub rest_bytes : {A : Type 0} (Is : List ℕ → A → Type 0) (bytes : List ℕ) (x : A) (rest : List ℕ) → AreBytes bytes → Begins Is bytes x rest → AreBytes rest
 rest_bytes Is bytes x rest are p = back_bytes p.0 rest (subst AreBytes p.1 are)
@@ -98,11 +98,11 @@ found_parts x y h =
 
 -- the rest of an integer
 pub record TailAt (most : ℕ) (bytes : List ℕ) (n : ℕ) (rest : List ℕ) : Type 0 where
-  pub front : List ℕ
-  pub whole : bytes ≡ front ++ rest
-  pub is : IsTail front
-  pub few : length front ≤ most
-  pub value : n ≡ tail_value front
+  pub leading : List ℕ
+  pub whole : bytes ≡ leading ++ rest
+  pub is : IsTail leading
+  pub few : length leading ≤ most
+  pub value : n ≡ tail_value leading
 
 longer_tail : (most b : ℕ) (bytes : List ℕ) (n : ℕ) (rest : List ℕ) (o : Option (ℕ × List ℕ)) → b < 256 → 128 ≤ b → ((m : ℕ) (r : List ℕ) → o ≡ Some (m, r) → TailAt most bytes m r) → option_map {U = ℕ × List ℕ} (λ t. (b - 128 + 128 * t.0, t.1)) o ≡ Some (n, rest) → TailAt (suc most) (b ∷ bytes) n rest
 longer_tail most b bytes n rest None below high more h = absurd (cc h)
@@ -112,8 +112,8 @@ longer_tail most b bytes n rest (Some t) below high more h =
     let left : t.1 ≡ rest = parts.1 in
     let r = more t.0 t.1 refl in
     record {
-      front = b ∷ r.front;
-      whole = ap (λ x. b ∷ x) (r.whole ∙ ap (λ x. r.front ++ x) left);
+      leading = b ∷ r.leading;
+      whole = ap (λ x. b ∷ x) (r.whole ∙ ap (λ x. r.leading ++ x) left);
       is = inr (high, r.is);
       few = omega (arith, r.few);
       value = omega (arith, value, r.value, below, high);
@@ -128,7 +128,7 @@ tail_sound (suc most) (b ∷ bytes) n rest are h =
           let parts = found_parts (b, bytes) (n, rest) (rw (lt-ltb b 128 low) at h) in
           let value : b ≡ n = parts.0 in
           record {
-            front = b ∷ [];
+            leading = b ∷ [];
             whole = ap (λ x. b ∷ x) parts.1;
             is = inl (low, refl);
             few = omega arith;
@@ -137,18 +137,18 @@ tail_sound (suc most) (b ∷ bytes) n rest are h =
       | inr high ↦ longer_tail most b bytes n rest (tail_at most bytes) are.0 high (λ m r k. tail_sound most bytes m r are.1 k) (rw (le-ltb b 128 high) at h)
     ]
 
-pub tail_complete : (most : ℕ) (front rest : List ℕ) → AreBytes (front ++ rest) → IsTail front → length front ≤ most → tail_at most (front ++ rest) ≡ Some (tail_value front, rest)
+pub tail_complete : (most : ℕ) (leading rest : List ℕ) → AreBytes (leading ++ rest) → IsTail leading → length leading ≤ most → tail_at most (leading ++ rest) ≡ Some (tail_value leading, rest)
 tail_complete most [] rest are is few = absurd is
-tail_complete zero (b ∷ front) rest are is few = absurd (omega (arith, few))
-tail_complete (suc most) (b ∷ front) rest are (inl p) few =
+tail_complete zero (b ∷ leading) rest are is few = absurd (omega (arith, few))
+tail_complete (suc most) (b ∷ leading) rest are (inl p) few =
     let small : b < 128 = p.0 in
     let value : b % 128 + 128 * tail_value [] ≡ b = omega (arith, small) in
     rw (p.1, lt-ltb b 128 small) (ap (λ n. Some (n, rest)) (sym value))
-tail_complete (suc most) (b ∷ front) rest are (inr p) few =
+tail_complete (suc most) (b ∷ leading) rest are (inr p) few =
     let large : 128 ≤ b = p.0 in
     let below : b < 256 = are.0 in
-    let value : b - 128 + 128 * tail_value front ≡ b % 128 + 128 * tail_value front = omega (arith, large, below) in
-    rw (le-ltb b 128 large, tail_complete most front rest are.1 p.1 (omega (arith, few)), value) refl
+    let value : b - 128 + 128 * tail_value leading ≡ b % 128 + 128 * tail_value leading = omega (arith, large, below) in
+    rw (le-ltb b 128 large, tail_complete most leading rest are.1 p.1 (omega (arith, few)), value) refl
 
 -- what there is to know of a prefix
 pub record Prefix (bits mark : ℕ) : Type 0 where
@@ -172,13 +172,13 @@ full_sound bits mark first bytes n rest None is are whole h = absurd (cc h)
 full_sound bits mark first bytes n rest (Some t) is are whole h =
     let r = tail_sound 5 bytes t.0 t.1 are is in
     let w = within_sound (2 ^ bits - 1 + t.0) t.1 n rest h in
-    let value : n ≡ (2 ^ bits - 1) + tail_value r.front = sym w.0 ∙ ap (λ x. 2 ^ bits - 1 + x) r.value in (
-      first ∷ r.front,
-      ap (λ x. first ∷ x) (r.whole ∙ ap (λ x. r.front ++ x) w.1),
+    let value : n ≡ (2 ^ bits - 1) + tail_value r.leading = sym w.0 ∙ ap (λ x. 2 ^ bits - 1 + x) r.value in (
+      first ∷ r.leading,
+      ap (λ x. first ∷ x) (r.whole ∙ ap (λ x. r.leading ++ x) w.1),
       record {
         prefix = 2 ^ bits - 1;
-        tail = r.front;
-        bytes_are = ap (λ x. x ∷ r.front) (sym whole);
+        tail = r.leading;
+        bytes_are = ap (λ x. x ∷ r.leading) (sym whole);
         value = inr (refl, r.is, r.few, value);
         within = w.2;
       },

@@ -70,7 +70,7 @@ exact_field t index =
     no_field : (f : Field) → None ≡ Some f → ⊥
     no_field f h = cc h
 
--- a field of one kind at the front of some bytes, and what follows it
+-- a field of one kind at the start of some bytes, and what follows it
 abbrev pub FieldOfKind : Kind → Table → List ℕ → Field × List ℕ → Type 0
 FieldOfKind k t bytes x = (rep : Representation) × (kind_for rep ≡ k) × Begins IsSpelled bytes rep x.1 × IsFieldOf t rep x.0
 
@@ -181,7 +181,7 @@ exact_indexed_field t first bytes least most are =
     bad_back e (inl p) = inl p
     bad_back e (inr p) = inr (p.0, p.1, inl p.2)
 
--- a name behind its index
+-- a name after its index
 abbrev pub NameAt : Table → ℕ → List ℕ → List ℕ × List ℕ → Type 0
 NameAt t zero rest x = Begins IsString rest x.0 x.1
 NameAt t (suc index) rest x = (f : Field) × (field_at t (suc index) ≡ Some f) × ((f.name, rest) ≡ x)
@@ -205,7 +205,7 @@ exact_name_at t (suc index) rest are =
     bad_to e (inl p) = p
     bad_to e (inr p) = absurd p.2
 
--- a name at the front of some bytes
+-- a name at the start of some bytes
 abbrev pub NameRead : Indexing → Table → List ℕ → List ℕ × List ℕ → Type 0
 NameRead indexing t bytes x = (name : Name) × Begins (IsName indexing) bytes name x.1 × IsNameOf t name x.0
 

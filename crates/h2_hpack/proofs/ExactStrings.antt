@@ -21,18 +21,18 @@ length_taken zero xs h = refl
 length_taken (suc n) [] h = absurd (omega (arith, h))
 length_taken (suc n) (x ∷ xs) h = ap suc (length_taken n xs (omega (arith, h)))
 
-take-front : (xs ys : List ℕ) → take (length xs) (xs ++ ys) ≡ xs
-take-front [] ys = refl
-take-front (x ∷ xs) ys = ap (λ l. x ∷ l) (take-front xs ys)
+take-leading : (xs ys : List ℕ) → take (length xs) (xs ++ ys) ≡ xs
+take-leading [] ys = refl
+take-leading (x ∷ xs) ys = ap (λ l. x ∷ l) (take-leading xs ys)
 
-drop-front : (xs ys : List ℕ) → drop (length xs) (xs ++ ys) ≡ ys
-drop-front [] ys = refl
-drop-front (x ∷ xs) ys = drop-front xs ys
+drop-leading : (xs ys : List ℕ) → drop (length xs) (xs ++ ys) ≡ ys
+drop-leading [] ys = refl
+drop-leading (x ∷ xs) ys = drop-leading xs ys
 
--- a raw string that stands at the front is cut off there
+-- a raw string that stands at the start is cut off there
 pub raw_reads : (huffman : Bool) (body rest : List ℕ) → raw_string huffman (length body, body ++ rest) ≡ Some (record { huffman = huffman; bytes = body; rest = rest })
 raw_reads huffman body rest =
-    rw (le-leb (length body) (length (body ++ rest)) (omega (arith, length-append body rest)), take-front body rest, drop-front body rest) refl
+    rw (le-leb (length body) (length (body ++ rest)) (omega (arith, length-append body rest)), take-leading body rest, drop-leading body rest) refl
 
 no_raw : (x : RawString) → None ≡ Some x → ⊥
 no_raw x h = cc h
@@ -89,9 +89,9 @@ first_of_integer bits mark bytes n some is = record {
     below (inl p) = omega (arith, p.0)
     below (inr p) = omega (arith, p.0, some)
 
-flag_told : (huffman : Bool) (first : ℕ) → huffman_flag huffman ≤ first → first < huffman_flag huffman + 2 ^ 7 → nat_le 128 first ≡ huffman
-flag_told true first least most = le-leb 128 first least
-flag_told false first least most = lt-leb 128 first most
+flag_reported : (huffman : Bool) (first : ℕ) → huffman_flag huffman ≤ first → first < huffman_flag huffman + 2 ^ 7 → nat_le 128 first ≡ huffman
+flag_reported true first least most = le-leb 128 first least
+flag_reported false first least most = lt-leb 128 first most
 
 heads : (a b : ℕ) (xs ys : List ℕ) → a ∷ xs ≡ b ∷ ys → (a ≡ b) × (xs ≡ ys)
 heads a b xs ys h = (cc h, cc h)
@@ -106,7 +106,7 @@ raw_complete [] raw are b =
 raw_complete (first ∷ bytes) raw are b =
     let f = first_of_integer 7 (huffman_flag raw.huffman) b.2.head (length raw.bytes) (lit≤ tt) b.2.length_is in
     let same : first ≡ f.first = (heads first f.first bytes ((f.rest ++ raw.bytes) ++ raw.rest) (b.1 ∙ ap (λ l. l ++ raw.rest) (b.2.bytes_are ∙ ap (λ l. l ++ raw.bytes) f.bytes_are))).0 in
-    let flag : nat_le 128 first ≡ raw.huffman = ap (λ x. nat_le 128 x) same ∙ flag_told raw.huffman f.first f.least f.most in
+    let flag : nat_le 128 first ≡ raw.huffman = ap (λ x. nat_le 128 x) same ∙ flag_reported raw.huffman f.first f.least f.most in
     let whole : first ∷ bytes ≡ b.2.head ++ (raw.bytes ++ raw.rest) = b.1 ∙ ap (λ l. l ++ raw.rest) b.2.bytes_are ∙ append_assoc b.2.head raw.bytes raw.rest in
     let read : integer_at 7 first bytes ≡ Some (length raw.bytes, raw.bytes ++ raw.rest) = integer_complete 7 (huffman_flag raw.huffman) first bytes (length raw.bytes) (raw.bytes ++ raw.rest) (seven_bits raw.huffman) are.1 (b.2.head, whole, b.2.length_is) in
     rw (flag, read) (raw_reads raw.huffman raw.bytes raw.rest)

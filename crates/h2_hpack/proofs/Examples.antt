@@ -27,7 +27,7 @@ status_302 : block_of new_table (0x48 ∷ 0x82 ∷ 0x64 ∷ 0x02 ∷ []) ≡ Ok 
 unfolding static_table symbol_codes code_lengths
 status_302 = refl
 
--- an integer of six bytes after its prefix, the end of string in a text, index 0, and an update behind a field
+-- an integer of six bytes after its prefix, the end of string in a text, index 0, and an update after a field
 six_bytes : block_of new_table (0x00 ∷ 0x7f ∷ 0x80 ∷ 0x80 ∷ 0x80 ∷ 0x80 ∷ 0x80 ∷ 0x01 ∷ []) ≡ Err BadInteger
 six_bytes = refl
 

@@ -5,7 +5,7 @@ use Rattle.std.specs.List.{AllByRecursion, list_all}
 use Rattle.std.proofs.lemmas.Bool.{agree_below_at, and_parts, false≢true, eqb-true, eqb-false, ltb-true, leb-true, ne_eqb}
 use Rattle.std.proofs.lemmas.List.{append-nil}
 use Rattle.h2_hpack.specs.Huffman.{SymbolCode, symbol_codes, code_with, code_of, is_padding, before_rest, symbols_from, symbols_of, byte_bits, IsHuffman}
-use Rattle.h2_hpack.proofs.CodeLemmas.{code_for, has_own, own, free, each_has_code, is_nothing, padding_reads, passes, found_passes, by_bits, no_front}
+use Rattle.h2_hpack.proofs.CodeLemmas.{code_for, has_own, own, free, each_has_code, is_nothing, padding_reads, passes, found_passes, by_bits, no_prefix}
 use Rattle.h2_hpack.proofs.WalkLemmas.{read_on, list_eq}
 
 -- bits with those that are held before them are codes and padding
@@ -77,7 +77,7 @@ code_reads s c found [] b held rest whole =
     ap (read_on (held ++ b ∷ []) rest) hit
 code_reads s c found (d ∷ more) b held rest whole =
     let longer : (held ++ b ∷ []) ++ d ∷ more ≡ c.bits = append_assoc held (b ∷ []) (d ∷ more) ∙ whole in
-    let miss : code_with (held ++ b ∷ []) ≡ None = no_front symbol_codes s c (held ++ b ∷ []) d more free found longer in
+    let miss : code_with (held ++ b ∷ []) ≡ None = no_prefix symbol_codes s c (held ++ b ∷ []) d more free found longer in
     ap (read_on (held ++ b ∷ []) (d ∷ more ++ rest)) miss ∙ code_reads s c found more d (held ++ b ∷ []) rest longer
 
 code_reads_whole : (s : ℕ) (c : SymbolCode) → code_for symbol_codes s ≡ Some c → (bits rest : List ℕ) → bits ≡ c.bits → 0 < length bits → symbols_from [] (bits ++ rest) ≡ before_rest c.symbol (symbols_from [] rest)

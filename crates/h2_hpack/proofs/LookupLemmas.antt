@@ -19,10 +19,10 @@ past_end [] i h = omega arith
 past_end (x ∷ xs) zero h = absurd (cc h)
 past_end (x ∷ xs) (suc i) h = omega (arith, past_end xs i h)
 
-behind : (xs ys : List Field) (i : ℕ) → length xs ≤ i → slice_get (xs ++ ys) i ≡ slice_get ys (i - length xs)
-behind [] ys i h = ap (slice_get ys) {x = i} {y = i - 0} (omega arith)
-behind (x ∷ xs) ys zero h = absurd (omega (arith, h))
-behind (x ∷ xs) ys (suc i) h = behind xs ys i (omega (arith, h)) ∙ ap (slice_get ys) {x = i - length xs} {y = suc i - suc (length xs)} (omega arith)
+afterwards : (xs ys : List Field) (i : ℕ) → length xs ≤ i → slice_get (xs ++ ys) i ≡ slice_get ys (i - length xs)
+afterwards [] ys i h = ap (slice_get ys) {x = i} {y = i - 0} (omega arith)
+afterwards (x ∷ xs) ys zero h = absurd (omega (arith, h))
+afterwards (x ∷ xs) ys (suc i) h = afterwards xs ys i (omega (arith, h)) ∙ ap (slice_get ys) {x = i - length xs} {y = suc i - suc (length xs)} (omega arith)
 
 pub past_static : (place : ℕ) → slice_get static_table place ≡ None → 61 ≤ place
 past_static place h = omega (arith, past_end static_table place h, static_length)
@@ -31,7 +31,7 @@ pub dynamic_at : (t : Table) (index place : ℕ) → place + 1 ≡ index → sli
 dynamic_at t zero place is h = absurd (omega (arith, is))
 dynamic_at t (suc i) place is h =
     let same : i ≡ place = omega (arith, is) in
-    rw same (behind static_table t.entries place (past_end static_table place h) ∙ ap (λ n. slice_get t.entries (place - n)) static_length)
+    rw same (afterwards static_table t.entries place (past_end static_table place h) ∙ ap (λ n. slice_get t.entries (place - n)) static_length)
 
 -- the search for an entry is as far as a place
 abbrev pub IsSought : (Field → Bool) → ℕ → Type 0
@@ -115,12 +115,12 @@ none_dropped test xs zero none = none
 none_dropped test [] (suc n) none = refl
 none_dropped test (x ∷ xs) (suc n) none = none_dropped test xs n (or_first (test x) (list_any test xs) none).1
 
-none_behind : (test : Field → Bool) (xs : List Field) (last place : ℕ) → last ≤ place → list_any test (drop last xs) ≡ false → list_any test (drop place xs) ≡ false
-none_behind test xs zero place within none = none_dropped test xs place none
-none_behind test [] (suc last) zero within none = refl
-none_behind test [] (suc last) (suc place) within none = refl
-none_behind test (x ∷ xs) (suc last) zero within none = absurd (omega (arith, within))
-none_behind test (x ∷ xs) (suc last) (suc place) within none = none_behind test xs last place (omega (arith, within)) none
+none_afterwards : (test : Field → Bool) (xs : List Field) (last place : ℕ) → last ≤ place → list_any test (drop last xs) ≡ false → list_any test (drop place xs) ≡ false
+none_afterwards test xs zero place within none = none_dropped test xs place none
+none_afterwards test [] (suc last) zero within none = refl
+none_afterwards test [] (suc last) (suc place) within none = refl
+none_afterwards test (x ∷ xs) (suc last) zero within none = absurd (omega (arith, within))
+none_afterwards test (x ∷ xs) (suc last) (suc place) within none = none_afterwards test xs last place (omega (arith, within)) none
 
 none_in : (test : Field → Bool) (xs : List Field) (place : ℕ) → list_any test xs ≡ false → position_from test place xs ≡ None
 none_in test [] place none = refl
@@ -129,7 +129,7 @@ none_in test (x ∷ xs) place none =
     ap (λ b. cond b (Some place) (position_from test (place + 1) xs)) each.0 ∙ none_in test xs (place + 1) each.1
 
 pub sought_past : (test : Field → Bool) (last place : ℕ) → last ≤ place → list_any test (drop last static_table) ≡ false → IsSought test place → index_where test ≡ None
-sought_past test last place within none so = so ∙ none_in test (drop place static_table) (place + 1) (none_behind test static_table last place within none)
+sought_past test last place within none so = so ∙ none_in test (drop place static_table) (place + 1) (none_afterwards test static_table last place within none)
 
 pub name_past : (test : Field → Bool) (last place : ℕ) (named : Option ℕ) → last ≤ place → list_any test (drop last static_table) ≡ false → IsNameSought test place named → index_where test ≡ named
 name_past test last place None within none so = sought_past test last place within none so
@@ -147,17 +147,17 @@ begins_with : (name : List ℕ) (letter : ℕ) → get_or name 0 0 ≡ letter �
 begins_with [] letter is some = absurd (omega (arith, is, some))
 begins_with (x ∷ xs) letter is some = (xs, ap (λ l. l ∷ xs) is)
 
-behind_colon : (rest : List ℕ) → list_any (same_name (58 ∷ rest)) (drop 14 static_table) ≡ false
+after_colon : (rest : List ℕ) → list_any (same_name (58 ∷ rest)) (drop 14 static_table) ≡ false
 unfolding static_table
-behind_colon rest = refl
+after_colon rest = refl
 
 before_c : (rest : List ℕ) → list_any (same_name (99 ∷ rest)) (take 23 static_table) ≡ false
 unfolding static_table
 before_c rest = refl
 
-behind_c : (rest : List ℕ) → list_any (same_name (99 ∷ rest)) (drop 32 static_table) ≡ false
+after_c : (rest : List ℕ) → list_any (same_name (99 ∷ rest)) (drop 32 static_table) ≡ false
 unfolding static_table
-behind_c rest = refl
+after_c rest = refl
 
 without_g : (rest : List ℕ) → list_any (same_name (103 ∷ rest)) static_table ≡ false
 unfolding static_table
@@ -167,17 +167,17 @@ before_t : (rest : List ℕ) → list_any (same_name (116 ∷ rest)) (take 56 st
 unfolding static_table
 before_t rest = refl
 
-behind_t : (rest : List ℕ) → list_any (same_name (116 ∷ rest)) (drop 57 static_table) ≡ false
+after_t : (rest : List ℕ) → list_any (same_name (116 ∷ rest)) (drop 57 static_table) ≡ false
 unfolding static_table
-behind_t rest = refl
+after_t rest = refl
 
 before_u : (rest : List ℕ) → list_any (same_name (117 ∷ rest)) (take 57 static_table) ≡ false
 unfolding static_table
 before_u rest = refl
 
-behind_u : (rest : List ℕ) → list_any (same_name (117 ∷ rest)) (drop 58 static_table) ≡ false
+after_u : (rest : List ℕ) → list_any (same_name (117 ∷ rest)) (drop 58 static_table) ≡ false
 unfolding static_table
-behind_u rest = refl
+after_u rest = refl
 
 -- some entries have no name that begins with a letter
 abbrev pub Lacks : ℕ → List Field → Type 0
@@ -188,14 +188,14 @@ lacking letter xs some none name is =
     let begun = begins_with name letter is some in
     ap (λ l. list_any (same_name l) xs) begun.1 ∙ none begun.0
 
-pub colon_behind : Lacks 58 (drop 14 static_table)
-colon_behind = lacking 58 (drop 14 static_table) (omega arith) behind_colon
+pub colon_after : Lacks 58 (drop 14 static_table)
+colon_after = lacking 58 (drop 14 static_table) (omega arith) after_colon
 
 pub c_before : Lacks 99 (take 23 static_table)
 c_before = lacking 99 (take 23 static_table) (omega arith) before_c
 
-pub c_behind : Lacks 99 (drop 32 static_table)
-c_behind = lacking 99 (drop 32 static_table) (omega arith) behind_c
+pub c_after : Lacks 99 (drop 32 static_table)
+c_after = lacking 99 (drop 32 static_table) (omega arith) after_c
 
 pub g_nowhere : Lacks 103 static_table
 g_nowhere = lacking 103 static_table (omega arith) without_g
@@ -203,14 +203,14 @@ g_nowhere = lacking 103 static_table (omega arith) without_g
 pub t_before : Lacks 116 (take 56 static_table)
 t_before = lacking 116 (take 56 static_table) (omega arith) before_t
 
-pub t_behind : Lacks 116 (drop 57 static_table)
-t_behind = lacking 116 (drop 57 static_table) (omega arith) behind_t
+pub t_after : Lacks 116 (drop 57 static_table)
+t_after = lacking 116 (drop 57 static_table) (omega arith) after_t
 
 pub u_before : Lacks 117 (take 57 static_table)
 u_before = lacking 117 (take 57 static_table) (omega arith) before_u
 
-pub u_behind : Lacks 117 (drop 58 static_table)
-u_behind = lacking 117 (drop 58 static_table) (omega arith) behind_u
+pub u_after : Lacks 117 (drop 58 static_table)
+u_after = lacking 117 (drop 58 static_table) (omega arith) after_u
 
 pub none_past_all : (test : Field → Bool) → list_any test (drop 61 static_table) ≡ false
 none_past_all test = ap (list_any test) (nothing_left 61 (omega arith))
@@ -229,12 +229,12 @@ lacking_both first second xs some some_too none name is then_is =
     let begun = begins_with_both name first second is then_is some some_too in
     ap (λ l. list_any (same_name l) xs) begun.1 ∙ none begun.0
 
-colon_a_behind_rest : (rest : List ℕ) → list_any (same_name (58 ∷ 97 ∷ rest)) (drop 1 static_table) ≡ false
+colon_a_after_rest : (rest : List ℕ) → list_any (same_name (58 ∷ 97 ∷ rest)) (drop 1 static_table) ≡ false
 unfolding static_table
-colon_a_behind_rest rest = refl
+colon_a_after_rest rest = refl
 
-pub colon_a_behind : LacksBoth 58 97 (drop 1 static_table)
-colon_a_behind = lacking_both 58 97 (drop 1 static_table) (omega arith) (omega arith) colon_a_behind_rest
+pub colon_a_after : LacksBoth 58 97 (drop 1 static_table)
+colon_a_after = lacking_both 58 97 (drop 1 static_table) (omega arith) (omega arith) colon_a_after_rest
 
 colon_m_before_rest : (rest : List ℕ) → list_any (same_name (58 ∷ 109 ∷ rest)) (take 1 static_table) ≡ false
 unfolding static_table
@@ -243,12 +243,12 @@ colon_m_before_rest rest = refl
 pub colon_m_before : LacksBoth 58 109 (take 1 static_table)
 colon_m_before = lacking_both 58 109 (take 1 static_table) (omega arith) (omega arith) colon_m_before_rest
 
-colon_m_behind_rest : (rest : List ℕ) → list_any (same_name (58 ∷ 109 ∷ rest)) (drop 3 static_table) ≡ false
+colon_m_after_rest : (rest : List ℕ) → list_any (same_name (58 ∷ 109 ∷ rest)) (drop 3 static_table) ≡ false
 unfolding static_table
-colon_m_behind_rest rest = refl
+colon_m_after_rest rest = refl
 
-pub colon_m_behind : LacksBoth 58 109 (drop 3 static_table)
-colon_m_behind = lacking_both 58 109 (drop 3 static_table) (omega arith) (omega arith) colon_m_behind_rest
+pub colon_m_after : LacksBoth 58 109 (drop 3 static_table)
+colon_m_after = lacking_both 58 109 (drop 3 static_table) (omega arith) (omega arith) colon_m_after_rest
 
 colon_p_before_rest : (rest : List ℕ) → list_any (same_name (58 ∷ 112 ∷ rest)) (take 3 static_table) ≡ false
 unfolding static_table
@@ -257,12 +257,12 @@ colon_p_before_rest rest = refl
 pub colon_p_before : LacksBoth 58 112 (take 3 static_table)
 colon_p_before = lacking_both 58 112 (take 3 static_table) (omega arith) (omega arith) colon_p_before_rest
 
-colon_p_behind_rest : (rest : List ℕ) → list_any (same_name (58 ∷ 112 ∷ rest)) (drop 5 static_table) ≡ false
+colon_p_after_rest : (rest : List ℕ) → list_any (same_name (58 ∷ 112 ∷ rest)) (drop 5 static_table) ≡ false
 unfolding static_table
-colon_p_behind_rest rest = refl
+colon_p_after_rest rest = refl
 
-pub colon_p_behind : LacksBoth 58 112 (drop 5 static_table)
-colon_p_behind = lacking_both 58 112 (drop 5 static_table) (omega arith) (omega arith) colon_p_behind_rest
+pub colon_p_after : LacksBoth 58 112 (drop 5 static_table)
+colon_p_after = lacking_both 58 112 (drop 5 static_table) (omega arith) (omega arith) colon_p_after_rest
 
 colon_s_before_rest : (rest : List ℕ) → list_any (same_name (58 ∷ 115 ∷ rest)) (take 5 static_table) ≡ false
 unfolding static_table
@@ -271,12 +271,12 @@ colon_s_before_rest rest = refl
 pub colon_s_before : LacksBoth 58 115 (take 5 static_table)
 colon_s_before = lacking_both 58 115 (take 5 static_table) (omega arith) (omega arith) colon_s_before_rest
 
-colon_s_behind_rest : (rest : List ℕ) → list_any (same_name (58 ∷ 115 ∷ rest)) (drop 14 static_table) ≡ false
+colon_s_after_rest : (rest : List ℕ) → list_any (same_name (58 ∷ 115 ∷ rest)) (drop 14 static_table) ≡ false
 unfolding static_table
-colon_s_behind_rest rest = refl
+colon_s_after_rest rest = refl
 
-pub colon_s_behind : LacksBoth 58 115 (drop 14 static_table)
-colon_s_behind = lacking_both 58 115 (drop 14 static_table) (omega arith) (omega arith) colon_s_behind_rest
+pub colon_s_after : LacksBoth 58 115 (drop 14 static_table)
+colon_s_after = lacking_both 58 115 (drop 14 static_table) (omega arith) (omega arith) colon_s_after_rest
 
 without_x : (rest : List ℕ) → list_any (same_name (120 ∷ rest)) static_table ≡ false
 unfolding static_table
@@ -300,14 +300,14 @@ content_type_last = refl
 pub content_type_before : (name : List ℕ) → bytes_eq name content_type ≡ true → list_any (same_name name) (take 30 static_table) ≡ false
 content_type_before name is = ap (λ l. list_any (same_name l) (take 30 static_table)) ((bytes_eq-Decides name content_type).0 is) ∙ content_type_first
 
-pub content_type_behind : (name : List ℕ) → bytes_eq name content_type ≡ true → list_any (same_name name) (drop 31 static_table) ≡ false
-content_type_behind name is = ap (λ l. list_any (same_name l) (drop 31 static_table)) ((bytes_eq-Decides name content_type).0 is) ∙ content_type_last
+pub content_type_after : (name : List ℕ) → bytes_eq name content_type ≡ true → list_any (same_name name) (drop 31 static_table) ≡ false
+content_type_after name is = ap (λ l. list_any (same_name l) (drop 31 static_table)) ((bytes_eq-Decides name content_type).0 is) ∙ content_type_last
 
 pub c_none_before : (name : List ℕ) → get_or name 0 0 ≡ 99 → list_any (same_name name) (take 23 static_table) ≡ false
 c_none_before name is = c_before name is
 
-pub c_none_behind : (name : List ℕ) → get_or name 0 0 ≡ 99 → list_any (same_name name) (drop 32 static_table) ≡ false
-c_none_behind name is = c_behind name is
+pub c_none_after : (name : List ℕ) → get_or name 0 0 ≡ 99 → list_any (same_name name) (drop 32 static_table) ≡ false
+c_none_after name is = c_after name is
 
 -- an entry that has the name has the pair where it has the value
 pub paired : (name value : List ℕ) (entry : Field) (o : Option Field) → Some entry ≡ o → unwrap_or (option_map (same_name name) o) false ≡ true → unwrap_or (option_map (same_pair name value) o) false ≡ bytes_eq entry.value value

@@ -112,10 +112,10 @@ found_at test (x ∷ xs) from index h =
           record { place = suc r.place; entry = r.entry; index_is = omega (arith, r.index_is); there = r.there; passed = r.passed; below = omega (arith, r.below) }
     ]
 
-in_front : (xs ys : List Field) (i : ℕ) (x : Field) → slice_get xs i ≡ Some x → slice_get (xs ++ ys) i ≡ Some x
-in_front [] ys i x h = absurd (cc h)
-in_front (y ∷ xs) ys zero x h = h
-in_front (y ∷ xs) ys (suc i) x h = in_front xs ys i x h
+before_it : (xs ys : List Field) (i : ℕ) (x : Field) → slice_get xs i ≡ Some x → slice_get (xs ++ ys) i ≡ Some x
+before_it [] ys i x h = absurd (cc h)
+before_it (y ∷ xs) ys zero x h = h
+before_it (y ∷ xs) ys (suc i) x h = before_it xs ys i x h
 
 -- a static index
 pub record StaticAt (test : Field → Bool) (index : ℕ) : Type 0 where
@@ -135,7 +135,7 @@ static_at test index h =
       index_is = omega (arith, r.index_is);
       low = omega (arith, r.index_is, r.below, static_length);
       passed = r.passed;
-      there = λ t. in_front static_table t.entries r.place r.entry r.there;
+      there = λ t. before_it static_table t.entries r.place r.entry r.there;
     }
 
 -- how a field is read that was written before some bytes

@@ -50,11 +50,11 @@ entry_right state four below small =
     rw (low, high) at there
 
 -- symbols before those of a place
-abbrev pub behind : List ℕ → Option Place → Option Place
-behind out o = option_map {U = Place} (λ (p : Place). (out ++ p.0, p.1)) o
+abbrev pub afterwards : List ℕ → Option Place → Option Place
+afterwards out o = option_map {U = Place} (λ (p : Place). (out ++ p.0, p.1)) o
 
-to_child-behind : (out symbols : List ℕ) (child : ℕ) → to_child (out ++ symbols) child ≡ behind out (to_child symbols child)
-to_child-behind out symbols child =
+to_child-afterwards : (out symbols : List ℕ) (child : ℕ) → to_child (out ++ symbols) child ≡ afterwards out (to_child symbols child)
+to_child-afterwards out symbols child =
     elim (cases_lt child 256) [
       | inl node ↦ rw (lt-ltb child 256 node) refl
       | inr symbol ↦ rw (le-ltb child 256 symbol) (elim (cases_lt child 512) [
@@ -63,22 +63,22 @@ to_child-behind out symbols child =
       ])
     ]
 
-descend_on-behind : (bits out : List ℕ) → ((symbols : List ℕ) (node : ℕ) → descend bits (out ++ symbols, node) ≡ behind out (descend bits (symbols, node))) → (next : Option Place) → descend_on bits (behind out next) ≡ behind out (descend_on bits next)
-descend_on-behind bits out more None = refl
-descend_on-behind bits out more (Some p) = more p.0 p.1
+descend_on-afterwards : (bits out : List ℕ) → ((symbols : List ℕ) (node : ℕ) → descend bits (out ++ symbols, node) ≡ afterwards out (descend bits (symbols, node))) → (next : Option Place) → descend_on bits (afterwards out next) ≡ afterwards out (descend_on bits next)
+descend_on-afterwards bits out more None = refl
+descend_on-afterwards bits out more (Some p) = more p.0 p.1
 
-descend-behind : (bits out symbols : List ℕ) (node : ℕ) → descend bits (out ++ symbols, node) ≡ behind out (descend bits (symbols, node))
-descend-behind [] out symbols node = refl
-descend-behind (b ∷ bits) out symbols node =
-    ap (descend_on bits) (to_child-behind out symbols (child_of node b)) ∙ descend_on-behind bits out (descend-behind bits out) (to_child symbols (child_of node b))
+descend-afterwards : (bits out symbols : List ℕ) (node : ℕ) → descend bits (out ++ symbols, node) ≡ afterwards out (descend bits (symbols, node))
+descend-afterwards [] out symbols node = refl
+descend-afterwards (b ∷ bits) out symbols node =
+    ap (descend_on bits) (to_child-afterwards out symbols (child_of node b)) ∙ descend_on-afterwards bits out (descend-afterwards bits out) (to_child symbols (child_of node b))
 
--- an entry, behind what was read before
+-- an entry, after what was read before
 pub record Stepped (out : List ℕ) (found : Option Place) (symbol state : ℕ) : Type 0 where
-  pub same : to_state out symbol state ≡ behind out found
+  pub same : to_state out symbol state ≡ afterwards out found
   pub below : (p : Place) → found ≡ Some p → p.1 < 256
 
-symbol_behind : (out : List ℕ) (p : Place) (symbol state : ℕ) → p.1 ≡ state → cond (nat_lt symbol 256) (bytes_eq p.0 (symbol ∷ [])) ((symbol == 256) && bytes_eq p.0 []) ≡ true → to_state out symbol state ≡ Some (out ++ p.0, p.1)
-symbol_behind out p symbol state is right =
+symbol_after : (out : List ℕ) (p : Place) (symbol state : ℕ) → p.1 ≡ state → cond (nat_lt symbol 256) (bytes_eq p.0 (symbol ∷ [])) ((symbol == 256) && bytes_eq p.0 []) ≡ true → to_state out symbol state ≡ Some (out ++ p.0, p.1)
+symbol_after out p symbol state is right =
     elim (cases_lt symbol 256) [
       | inl there ↦
           let symbols : p.0 ≡ symbol ∷ [] = list_eq p.0 (symbol ∷ []) (rw (lt-ltb symbol 256 there) at right) in
@@ -104,23 +104,23 @@ stepped out (Some p) symbol state right =
     let more = and_parts (nat_lt state 256) (cond (nat_lt symbol 256) (bytes_eq p.0 (symbol ∷ [])) ((symbol == 256) && bytes_eq p.0 [])) parts.1 in
     let is : p.1 ≡ state = eqb-true p.1 state parts.0 in
     record {
-      same = symbol_behind out p symbol state is more.1;
+      same = symbol_after out p symbol state is more.1;
       below = λ q h. omega (arith, some_place p q h, is, ltb-true state 256 more.0);
     }
 
 pub step_descends : (four : ℕ) (out : List ℕ) (state : ℕ) → state < 256 → four < 16 → step four (out, state) ≡ descend (four_bits four) (out, state)
 step_descends four out state below small =
     let s = stepped out (descend (four_bits four) ([], state)) (symbol_at state four) (next_state state four) (entry_right state four below small) in
-    s.same ∙ sym (descend-behind (four_bits four) out [] state) ∙ ap (λ l. descend (four_bits four) (l, state)) (append-nil out)
+    s.same ∙ sym (descend-afterwards (four_bits four) out [] state) ∙ ap (λ l. descend (four_bits four) (l, state)) (append-nil out)
 
-behind_place : (out : List ℕ) (o : Option Place) (p : Place) → ((q : Place) → o ≡ Some q → q.1 < 256) → behind out o ≡ Some p → p.1 < 256
-behind_place out None p below h = absurd (cc h)
-behind_place out (Some q) p below h = omega (arith, below q refl, some_place (out ++ q.0, q.1) p h)
+after_place : (out : List ℕ) (o : Option Place) (p : Place) → ((q : Place) → o ≡ Some q → q.1 < 256) → afterwards out o ≡ Some p → p.1 < 256
+after_place out None p below h = absurd (cc h)
+after_place out (Some q) p below h = omega (arith, below q refl, some_place (out ++ q.0, q.1) p h)
 
 pub step_below : (four : ℕ) (out : List ℕ) (state : ℕ) (p : Place) → state < 256 → four < 16 → step four (out, state) ≡ Some p → p.1 < 256
 step_below four out state p below small h =
     let s = stepped out (descend (four_bits four) ([], state)) (symbol_at state four) (next_state state four) (entry_right state four below small) in
-    behind_place out (descend (four_bits four) ([], state)) p s.below (sym s.same ∙ h)
+    after_place out (descend (four_bits four) ([], state)) p s.below (sym s.same ∙ h)
 
 descend_on-append : (xs ys : List ℕ) → ((p : Place) → descend (xs ++ ys) p ≡ descend_on ys (descend xs p)) → (next : Option Place) → descend_on (xs ++ ys) next ≡ descend_on ys (descend_on xs next)
 descend_on-append xs ys h None = refl
@@ -182,8 +182,8 @@ walk-append : (xs ys : List ℕ) (p : Place) → walk (xs ++ ys) p ≡ walk_on y
 walk-append [] ys p = refl
 walk-append (x ∷ xs) ys p = walk_on-append xs ys (walk-append xs ys) (step x p)
 
-to_state-behind : (out symbols : List ℕ) (symbol state : ℕ) → to_state (out ++ symbols) symbol state ≡ behind out (to_state symbols symbol state)
-to_state-behind out symbols symbol state =
+to_state-afterwards : (out symbols : List ℕ) (symbol state : ℕ) → to_state (out ++ symbols) symbol state ≡ afterwards out (to_state symbols symbol state)
+to_state-afterwards out symbols symbol state =
     elim (cases_lt symbol 256) [
       | inl there ↦ rw (lt-ltb symbol 256 there) (ap (λ l. Some (l, state)) (append_assoc out symbols (symbol ∷ [])))
       | inr none ↦ rw (le-ltb symbol 256 none) (elim (cases_lt symbol 257) [
@@ -192,28 +192,28 @@ to_state-behind out symbols symbol state =
       ])
     ]
 
-walk_on-behind : (fours out : List ℕ) → ((symbols : List ℕ) (state : ℕ) → walk fours (out ++ symbols, state) ≡ behind out (walk fours (symbols, state))) → (next : Option Place) → walk_on fours (behind out next) ≡ behind out (walk_on fours next)
-walk_on-behind fours out more None = refl
-walk_on-behind fours out more (Some p) = more p.0 p.1
+walk_on-afterwards : (fours out : List ℕ) → ((symbols : List ℕ) (state : ℕ) → walk fours (out ++ symbols, state) ≡ afterwards out (walk fours (symbols, state))) → (next : Option Place) → walk_on fours (afterwards out next) ≡ afterwards out (walk_on fours next)
+walk_on-afterwards fours out more None = refl
+walk_on-afterwards fours out more (Some p) = more p.0 p.1
 
-walk-behind : (fours out symbols : List ℕ) (state : ℕ) → walk fours (out ++ symbols, state) ≡ behind out (walk fours (symbols, state))
-walk-behind [] out symbols state = refl
-walk-behind (four ∷ fours) out symbols state =
-    ap (walk_on fours) (to_state-behind out symbols (symbol_at state four) (next_state state four)) ∙ walk_on-behind fours out (walk-behind fours out) (step four (symbols, state))
+walk-afterwards : (fours out symbols : List ℕ) (state : ℕ) → walk fours (out ++ symbols, state) ≡ afterwards out (walk fours (symbols, state))
+walk-afterwards [] out symbols state = refl
+walk-afterwards (four ∷ fours) out symbols state =
+    ap (walk_on fours) (to_state-afterwards out symbols (symbol_at state four) (next_state state four)) ∙ walk_on-afterwards fours out (walk-afterwards fours out) (step four (symbols, state))
 
-at_end-behind : (out : List ℕ) (o : Option Place) → at_end (behind out o) ≡ option_map (λ text. out ++ text) (at_end o)
-at_end-behind out None = refl
-at_end-behind out (Some p) = padded (nat_le p.1 7)
+at_end-afterwards : (out : List ℕ) (o : Option Place) → at_end (afterwards out o) ≡ option_map (λ text. out ++ text) (at_end o)
+at_end-afterwards out None = refl
+at_end-afterwards out (Some p) = padded (nat_le p.1 7)
   where
     padded : (b : Bool) → cond b (Some (out ++ p.0)) None ≡ option_map (λ text. out ++ text) (cond b (Some p.0) None)
     padded true = refl
     padded false = refl
 
--- the same behind what stood there before
-pub text_behind : (bytes out : List ℕ) → at_end (walk (flat_map halves bytes) (out, 0)) ≡ option_map (λ text. out ++ text) (symbols_of bytes)
-text_behind bytes out =
-    ap (λ l. at_end (walk (flat_map halves bytes) (l, 0))) (sym (append-nil out)) ∙ ap at_end (walk-behind (flat_map halves bytes) out [] 0)
-    ∙ at_end-behind out (walk (flat_map halves bytes) ([], 0)) ∙ ap (option_map (λ text. out ++ text)) (sym (symbols_of-walk bytes))
+-- the same after what stood there before
+pub text_after : (bytes out : List ℕ) → at_end (walk (flat_map halves bytes) (out, 0)) ≡ option_map (λ text. out ++ text) (symbols_of bytes)
+text_after bytes out =
+    ap (λ l. at_end (walk (flat_map halves bytes) (l, 0))) (sym (append-nil out)) ∙ ap at_end (walk-afterwards (flat_map halves bytes) out [] 0)
+    ∙ at_end-afterwards out (walk (flat_map halves bytes) ([], 0)) ∙ ap (option_map (λ text. out ++ text)) (sym (symbols_of-walk bytes))
 
 -- one byte more
 pub walk-byte : (bytes out : List ℕ) (i : ℕ) (p : Place) → i < length bytes → walk (flat_map halves (take i bytes)) (out, 0) ≡ Some p → walk (flat_map halves (take (i + 1) bytes)) (out, 0) ≡ walk (halves (get_or bytes i 0)) p
@@ -226,8 +226,8 @@ walk-bad bytes out i p within before bad =
     let ended : walk (flat_map halves (take (i + 1) bytes)) (out, 0) ≡ None = walk-byte bytes out i p within before ∙ bad in
     let whole : walk (flat_map halves (take (i + 1) bytes ++ drop (i + 1) bytes)) (out, 0) ≡ None =
     rw (flat_map-append halves (take (i + 1) bytes) (drop (i + 1) bytes), walk-append (flat_map halves (take (i + 1) bytes)) (flat_map halves (drop (i + 1) bytes)) (out, 0), ended) refl in
-    sym (text_behind bytes out) ∙ ap at_end (rw (take-append-drop (i + 1) bytes) at whole)
+    sym (text_after bytes out) ∙ ap at_end (rw (take-append-drop (i + 1) bytes) at whole)
 
 -- the walk over all bytes
 pub walk-all : (bytes out : List ℕ) (i : ℕ) (p : Place) → length bytes ≤ i → walk (flat_map halves (take i bytes)) (out, 0) ≡ Some p → option_map (λ text. out ++ text) (symbols_of bytes) ≡ at_end (Some p)
-walk-all bytes out i p all before = sym (text_behind bytes out) ∙ ap at_end (rw (take_all i bytes all) at before)
+walk-all bytes out i p all before = sym (text_after bytes out) ∙ ap at_end (rw (take_all i bytes all) at before)

@@ -26,7 +26,7 @@ raw_string huffman x =
     if nat_le x.0 (length x.1) then Some (record { huffman = huffman; bytes = take x.0 x.1; rest = drop x.0 x.1 })
     else None
 
--- the string at the front: a flag, a length and so many bytes; none where it is cut off
+-- the string at the start: a flag, a length and so many bytes; none where it is cut off
 abbrev pub raw_string_at : List ℕ → Option RawString
 raw_string_at [] = None
 raw_string_at (first ∷ bytes) = option_and_then (raw_string (nat_le 128 first)) (integer_at 7 first bytes)
@@ -35,15 +35,15 @@ abbrev pub text_of : Bool → List ℕ → Option (List ℕ)
 text_of true bytes = symbols_of bytes
 text_of false bytes = Some bytes
 
--- the text at the front, and what follows it
+-- the text at the start, and what follows it
 abbrev pub text_at : List ℕ → Result (List ℕ × List ℕ) HpackFault
 text_at bytes =
     and_then (ok_or (raw_string_at bytes) BadInteger) λ raw.
     and_then (ok_or (text_of raw.huffman raw.bytes) BadHuffman) λ text. Ok (text, raw.rest)
 
--- the same, behind what was read before it
-abbrev pub text_behind : List ℕ → List ℕ → Result (List ℕ × List ℕ) HpackFault
-text_behind before bytes = and_then (text_at bytes) λ text. Ok (before ++ text.0, text.1)
+-- the same, after what was read before it
+abbrev pub text_after : List ℕ → List ℕ → Result (List ℕ × List ℕ) HpackFault
+text_after before bytes = and_then (text_at bytes) λ text. Ok (before ++ text.0, text.1)
 
 -- the integer after a first byte
 abbrev pub index_at : ℕ → ℕ → List ℕ → Result (ℕ × List ℕ) HpackFault

@@ -57,15 +57,15 @@ abbrev pub code_of : ℕ → List ℕ
 code_of s = unwrap_or (option_map (λ c. c.bits) (find (λ c. c.symbol == s) symbol_codes)) []
 
 -- whether the second list begins with the first
-abbrev pub is_front : List ℕ → List ℕ → Bool
-is_front [] ys = true
-is_front (x ∷ xs) [] = false
-is_front (x ∷ xs) (y ∷ ys) = (x == y) && is_front xs ys
+abbrev pub is_prefix : List ℕ → List ℕ → Bool
+is_prefix [] ys = true
+is_prefix (x ∷ xs) [] = false
+is_prefix (x ∷ xs) (y ∷ ys) = (x == y) && is_prefix xs ys
 
 -- no code of a list begins another one of it
 abbrev pub is_free : List SymbolCode → Bool
 is_free [] = true
-is_free (c ∷ cs) = list_all (λ d. not (is_front c.bits d.bits) && not (is_front d.bits c.bits)) cs && is_free cs
+is_free (c ∷ cs) = list_all (λ d. not (is_prefix c.bits d.bits) && not (is_prefix d.bits c.bits)) cs && is_free cs
 
 -- the bits of a byte, the highest one first
 abbrev pub byte_bits : ℕ → List ℕ

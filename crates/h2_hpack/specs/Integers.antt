@@ -9,7 +9,7 @@ integer_limit = 4294967295
 abbrev pub most_bytes : ℕ
 most_bytes = 5
 
--- the rest at the front of some bytes, in at most so many, and what follows it; its last byte is below 128
+-- the rest at the start of some bytes, in at most so many, and what follows it; its last byte is below 128
 abbrev pub tail_at : ℕ → List ℕ → Option (ℕ × List ℕ)
 tail_at zero bytes = None
 tail_at (suc most) [] = None

@@ -37,7 +37,7 @@ BlocksAreRepresentations = (t : Table) (block : List ℕ) → AllByRecursion (λ
 abbrev pub EncodingIsRead : Type 0
 EncodingIsRead = (t : Table) (fields : List Field) → list_size fields ≤ list_limit → block_of t (block_bytes fields) ≡ Ok (record { fields = fields; table = t })
 
--- nor where the block begins with a table size update to 0, behind which the table is empty and stays so
+-- nor where the block begins with a table size update to 0, after which the table is empty and stays so
 abbrev pub UpdateIsRead : Type 0
 UpdateIsRead = (t : Table) (fields : List Field) → list_size fields ≤ list_limit → block_of t (size_update_to_zero ∷ block_bytes fields) ≡ Ok (record { fields = fields; table = record { entries = []; limit = 0 } })
 

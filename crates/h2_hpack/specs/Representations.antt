@@ -8,7 +8,7 @@ use Rattle.h2_hpack.specs.Blocks.{Reading}
 use Rattle.h2_hpack.specs.Huffman.{IsHuffman}
 use Rattle.h2_hpack.specs.Tables.{Table, list_size, field_at, table_with, table_resized}
 
--- the bytes of an integer behind a full prefix (section 5.1): all but the last are 128 or more
+-- the bytes of an integer after a full prefix (section 5.1): all but the last are 128 or more
 abbrev pub IsTail : List ℕ → Type 0
 IsTail [] = ⊥
 IsTail (b ∷ bytes) = ((b < 128) × (bytes ≡ [])) ⊎ ((128 ≤ b) × IsTail bytes)
@@ -81,7 +81,7 @@ IsNameIndex indexing bytes index = IsInteger (name_bits indexing) (name_mark ind
 
 -- bytes that begin with some x, and what follows it
 abbrev pub Begins : {A : Type 0} → (List ℕ → A → Type 0) → List ℕ → A → List ℕ → Type 0
-Begins IsOf bytes x rest = (front : List ℕ) × (bytes ≡ front ++ rest) × IsOf front x
+Begins IsOf bytes x rest = (leading : List ℕ) × (bytes ≡ leading ++ rest) × IsOf leading x
 
 abbrev pub NoneBegins : {A : Type 0} → (List ℕ → A → Type 0) → List ℕ → Type 0
 NoneBegins {A} IsOf bytes = (x : A) (rest : List ℕ) → Begins IsOf bytes x rest → ⊥
@@ -168,7 +168,7 @@ IndexedFault before bytes BadIndex = (index : ℕ) × (rest : List ℕ) × Begin
 IndexedFault before bytes TooLong = IsTooLong before bytes
 IndexedFault before bytes _ = ⊥
 
--- a string has to follow: for the name behind the index 0, and for the value behind the name
+-- a string has to follow: for the name after the index 0, and for the value after the name
 abbrev pub StringFollows : Indexing → Reading → List ℕ → List ℕ → Type 0
 StringFollows indexing before bytes rest = Begins (IsNameIndex indexing) bytes 0 rest ⊎ ((name : Name) × (text : List ℕ) × Begins (IsName indexing) bytes name rest × IsNameOf before.table name text)
 

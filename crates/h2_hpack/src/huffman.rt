@@ -63,7 +63,7 @@ fn symbol_at(state: u8, four: u8) -> u16
     SYMBOL[state as usize * 16 + four as usize]
 }
 
-/// The state behind four bits.
+/// The state after four bits.
 #[tactic(auto, unfolding(crate::specs::Walk::next_state))]
 fn next_state(state: u8, four: u8) -> u8
     requires { four < 16 }

@@ -4,7 +4,7 @@ ghost use Rattle.h2_hpack.specs.Integers.{tail_at, integer_at, tail_bytes, integ
 
 use grpc_base::NoMemory;
 
-/// The rest of an integer at the front of some bytes, in at most `most` of them, and what follows it.
+/// The rest of an integer at the start of some bytes, in at most `most` of them, and what follows it.
 fn tail(bytes: &[u8], most: u32) -> Option<(u64, &[u8])>
     requires { most ≤ 8 }
     ensures value { option_map (λ x. (x.0, x.1.now)) result ≡ tail_at most bytes.now }

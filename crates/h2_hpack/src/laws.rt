@@ -31,13 +31,13 @@ pub fn encoding_is_read()
 {}
 
 /// The same where the block begins with `SIZE_UPDATE_TO_ZERO`, which leaves the decoder's table empty for good.
-pub fn encoding_is_read_behind_an_update()
+pub fn encoding_is_read_after_an_update()
     ensures read { UpdateIsRead }
     ensures constant { SIZE_UPDATE_TO_ZERO ≡ size_update_to_zero }
 {}
 
 /// What `encode_fields` writes of a list of at most 16,384 has at most 16,359 bytes, as many as a single field of two long
-/// strings takes; so it fits a frame, also behind `SIZE_UPDATE_TO_ZERO`.
+/// strings takes; so it fits a frame, also after `SIZE_UPDATE_TO_ZERO`.
 pub fn encoding_fits_a_frame()
     ensures { (fields : List Field) → list_size fields ≤ list_limit → EncodingIsShort fields }
 {}

@@ -22,5 +22,5 @@ pub use encoder::{SIZE_UPDATE_TO_ZERO, encode_fields};
 pub use fault::HpackFault;
 pub use laws::{
     blocks_are_read_in_turn, blocks_are_representations, encoding_fits_a_frame, encoding_is_read,
-    encoding_is_read_behind_an_update, huffman_code_is_whole, huffman_text_is_exact,
+    encoding_is_read_after_an_update, huffman_code_is_whole, huffman_text_is_exact,
 };

@@ -21,7 +21,7 @@ pub(crate) enum StaticMatch {
 /// which the names of gRPC begin.
 fn places_of(name: &[u8]) -> (u64, u64)
     ensures before { list_any (same_name name.now) (take result.0 static_table) ≡ false }
-    ensures behind { list_any (same_name name.now) (drop result.1 static_table) ≡ false }
+    ensures afterwards { list_any (same_name name.now) (drop result.1 static_table) ≡ false }
     ensures within { result.1 ≤ 61 }
 {
     let [first, ..] = name else {
@@ -42,7 +42,7 @@ fn places_of(name: &[u8]) -> (u64, u64)
 fn places_of_pseudo(name: &[u8]) -> (u64, u64)
     requires { get_or name.now 0 0 ≡ 58 }
     ensures before { list_any (same_name name.now) (take result.0 static_table) ≡ false }
-    ensures behind { list_any (same_name name.now) (drop result.1 static_table) ≡ false }
+    ensures afterwards { list_any (same_name name.now) (drop result.1 static_table) ≡ false }
     ensures within { result.1 ≤ 61 }
 {
     let [_, second, ..] = name else {
@@ -58,11 +58,11 @@ fn places_of_pseudo(name: &[u8]) -> (u64, u64)
 }
 
 /// The same for a name that begins with `c`, as the content type of each request and response does.
-#[tactic(auto, using(crate::proofs::LookupLemmas::content_type_before, crate::proofs::LookupLemmas::content_type_behind, crate::proofs::LookupLemmas::c_none_before, crate::proofs::LookupLemmas::c_none_behind))]
+#[tactic(auto, using(crate::proofs::LookupLemmas::content_type_before, crate::proofs::LookupLemmas::content_type_after, crate::proofs::LookupLemmas::c_none_before, crate::proofs::LookupLemmas::c_none_after))]
 fn places_of_c(name: &[u8]) -> (u64, u64)
     requires { get_or name.now 0 0 ≡ 99 }
     ensures before { list_any (same_name name.now) (take result.0 static_table) ≡ false }
-    ensures behind { list_any (same_name name.now) (drop result.1 static_table) ≡ false }
+    ensures afterwards { list_any (same_name name.now) (drop result.1 static_table) ≡ false }
     ensures within { result.1 ≤ 61 }
 {
     if name == b"content-type".as_slice() {

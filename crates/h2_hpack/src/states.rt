@@ -1,7 +1,7 @@
 // The states of the Huffman code, sixteen entries a state: where the next four bits lead from it. A state is an inner
 // node of the code's tree, and the states 0 to 29 are reached by as many one bits.
 
-/// The state behind four bits.
+/// The state after four bits.
 pub(crate) static NEXT_STATE: [u8; 4096] = [
     41, 42, 43, 44, 45, 46, 47, 48, 49, 50, 51, 52, 53, 54, 55, 4, 62, 63, 64, 65, 66, 67, 68, 69,
     70, 71, 72, 73, 74, 75, 76, 5, 79, 80, 81, 82, 83, 84, 85, 86, 87, 88, 89, 90, 91, 92, 93, 6,

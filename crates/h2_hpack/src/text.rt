@@ -1,6 +1,6 @@
 // Strings of a header block.
 ghost use Rattle.std.specs.Prelude.{◌≡◌, ◌≢◌, ◌≤◌, ◌<◌, ◌++◌, length, nat_le, Ok, Err, None, Some, IfOk, IfErr, IfSome, OnOk, option_map};
-ghost use Rattle.h2_hpack.specs.Blocks.{raw_string_at, text_at, text_behind, text_of};
+ghost use Rattle.h2_hpack.specs.Blocks.{raw_string_at, text_at, text_after, text_of};
 
 use crate::fault::HpackFault;
 use crate::huffman::decode;
@@ -37,7 +37,7 @@ fn frequent(bytes: &[u8]) -> Option<&'static [u8]>
     if text == bytes { Some(text) } else { None }
 }
 
-/// The text at the front of some bytes, where it is a frequent one that is spelled plainly, and what follows it.
+/// The text at the start of some bytes, where it is a frequent one that is spelled plainly, and what follows it.
 #[tactic(auto, using(crate::proofs::TextLemmas::plain_text))]
 pub(crate) fn frequent_text(bytes: &[u8]) -> Option<(&'static [u8], &[u8])>
     ensures text { IfSome result (λ x. text_at bytes.now ≡ Ok (x.0.now, x.1.now)) }
@@ -51,7 +51,7 @@ pub(crate) fn frequent_text(bytes: &[u8]) -> Option<(&'static [u8], &[u8])>
     Some((text, raw.rest))
 }
 
-/// The text at the front of some bytes, and what follows it.
+/// The text at the start of some bytes, and what follows it.
 #[tactic(auto, using(crate::proofs::TextLemmas::alone))]
 pub(crate) fn text(alloc: Global, bytes: &[u8]) -> Result<(Octets, &[u8]), HpackFault>
     ensures ok { IfOk result (λ x. text_at bytes.now ≡ Ok (x.0, x.1.now)) }
@@ -66,9 +66,9 @@ pub(crate) fn text(alloc: Global, bytes: &[u8]) -> Result<(Octets, &[u8]), Hpack
     Ok((Octets::of_vec(text)?, rest))
 }
 
-/// Appends the text at the front of some bytes, and gives what follows it.
+/// Appends the text at the start of some bytes, and gives what follows it.
 pub(crate) fn append_text<'a>(out: &mut Vec<u8>, bytes: &'a [u8]) -> Result<&'a [u8], HpackFault>
-    ensures ok { IfOk result (λ rest. text_behind out.old.items bytes.now ≡ Ok (out.new.items, rest.now)) }
+    ensures ok { IfOk result (λ rest. text_after out.old.items bytes.now ≡ Ok (out.new.items, rest.now)) }
     ensures shorter { IfOk result (λ rest. length rest.now ≤ length bytes.now) }
     ensures fault { IfErr result (λ e. e ≢ HpackFault.NoMemory → text_at bytes.now ≡ Err e) }
 {
@@ -79,7 +79,7 @@ pub(crate) fn append_text<'a>(out: &mut Vec<u8>, bytes: &'a [u8]) -> Result<&'a 
     Ok(raw.rest)
 }
 
-/// The string at the front of some bytes; None where they cut it off.
+/// The string at the start of some bytes; None where they cut it off.
 fn raw_string(bytes: &[u8]) -> Option<RawString<'_>>
     ensures value { option_map (λ x. record { huffman = x.huffman; bytes = x.bytes.now; rest = x.rest.now }) result ≡ raw_string_at bytes.now }
     ensures shorter { IfSome result (λ x. length x.rest.now ≤ length bytes.now) }

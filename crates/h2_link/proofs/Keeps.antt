@@ -6,13 +6,13 @@ use Rattle.h2_link.specs.declared.live.LiveStream.{LiveStream}
 use Rattle.h2_link.specs.declared.send.Share.{Share}
 use Rattle.h2_link.specs.Drains.{Outgoing, Sent, Sends, next, next_control, next_head, next_data, opens, sender, share_as, share_of, share_or, least_of, sent_control, sent_head, sent_data}
 use Rattle.h2_link.specs.Feeds.{Line}
-use Rattle.h2_link.specs.Laws.{KeepsHeard, KeepsWindows}
+use Rattle.h2_link.specs.Laws.{KeepsReceived, KeepsWindows}
 use Rattle.h2_link.specs.Wire.{Wire}
 
-self_kept : (w : Wire) → KeepsHeard w w
+self_kept : (w : Wire) → KeepsReceived w w
 self_kept w = record { read = refl; broken = refl; ready = refl; retiring = refl; settings = (refl, refl); block = refl; table = refl }
 
-kept_on : (a b c : Wire) → KeepsHeard a b → KeepsHeard b c → KeepsHeard a c
+kept_on : (a b c : Wire) → KeepsReceived a b → KeepsReceived b c → KeepsReceived a c
 kept_on a b c h k = record {
   read = k.read ∙ h.read;
   broken = k.broken ∙ h.broken;
@@ -23,36 +23,36 @@ kept_on a b c h k = record {
   table = k.table ∙ h.table;
 }
 
-data_keeps : (w : Wire) (g : ℕ → Line) (s : Sent) (o : Option Share) → next_data w g o ≡ Some s → KeepsHeard w s.wire
+data_keeps : (w : Wire) (g : ℕ → Line) (s : Sent) (o : Option Share) → next_data w g o ≡ Some s → KeepsReceived w s.wire
 data_keeps w g s None n = absurd (cc)
 data_keeps w g s (Some x) n =
     let same : sent_data w g x ≡ s = cc in
-    let P : Sent → Type 0 = λ v. KeepsHeard w v.wire in
-    let made : KeepsHeard w (sent_data w g x).wire = record { read = refl; broken = refl; ready = refl; retiring = refl; settings = (refl, refl); block = refl; table = refl } in
+    let P : Sent → Type 0 = λ v. KeepsReceived w v.wire in
+    let made : KeepsReceived w (sent_data w g x).wire = record { read = refl; broken = refl; ready = refl; retiring = refl; settings = (refl, refl); block = refl; table = refl } in
     subst P same made
 
-head_keeps : (w : Wire) (g : ℕ → Line) (s : Sent) (o : Option ℕ) → next_head w g o ≡ Some s → KeepsHeard w s.wire
+head_keeps : (w : Wire) (g : ℕ → Line) (s : Sent) (o : Option ℕ) → next_head w g o ≡ Some s → KeepsReceived w s.wire
 head_keeps w g s None n = data_keeps w g s (sender w.window w.initial g 0 w.live) n
 head_keeps w g s (Some tag) n =
     let same : sent_head w g tag ≡ s = cc in
-    let P : Sent → Type 0 = λ v. KeepsHeard w v.wire in
-    let made : KeepsHeard w (sent_head w g tag).wire = record { read = refl; broken = refl; ready = refl; retiring = refl; settings = (refl, refl); block = refl; table = refl } in
+    let P : Sent → Type 0 = λ v. KeepsReceived w v.wire in
+    let made : KeepsReceived w (sent_head w g tag).wire = record { read = refl; broken = refl; ready = refl; retiring = refl; settings = (refl, refl); block = refl; table = refl } in
     subst P same made
 
-control_keeps : (w : Wire) (g : ℕ → Line) (s : Sent) (o : Option Control) → next_control w g o ≡ Some s → KeepsHeard w s.wire
+control_keeps : (w : Wire) (g : ℕ → Line) (s : Sent) (o : Option Control) → next_control w g o ≡ Some s → KeepsReceived w s.wire
 control_keeps w g s None n = head_keeps w g s (opens w) n
 control_keeps w g s (Some c) n =
     let same : sent_control w g c ≡ s = cc in
-    let P : Sent → Type 0 = λ v. KeepsHeard w v.wire in
-    let made : KeepsHeard w (sent_control w g c).wire = record { read = refl; broken = refl; ready = refl; retiring = refl; settings = (refl, refl); block = refl; table = refl } in
+    let P : Sent → Type 0 = λ v. KeepsReceived w v.wire in
+    let made : KeepsReceived w (sent_control w g c).wire = record { read = refl; broken = refl; ready = refl; retiring = refl; settings = (refl, refl); block = refl; table = refl } in
     subst P same made
 
-pub next_keeps : (w : Wire) (g : ℕ → Line) (s : Sent) → next w g ≡ Some s → KeepsHeard w s.wire
+pub next_keeps : (w : Wire) (g : ℕ → Line) (s : Sent) → next w g ≡ Some s → KeepsReceived w s.wire
 next_keeps w g s n = control_keeps w g s (slice_get w.queue.items 0) n
 
-pub sends_keep : (w : Wire) (g : ℕ → Line) (fs : List Outgoing) (w2 : Wire) (g2 : ℕ → Line) → Sends w g fs w2 g2 → KeepsHeard w w2
+pub sends_keep : (w : Wire) (g : ℕ → Line) (fs : List Outgoing) (w2 : Wire) (g2 : ℕ → Line) → Sends w g fs w2 g2 → KeepsReceived w w2
 sends_keep w g [] w2 g2 h =
-    let P : Wire → Type 0 = λ v. KeepsHeard w v in subst P (sym h.0) (self_kept w)
+    let P : Wire → Type 0 = λ v. KeepsReceived w v in subst P (sym h.0) (self_kept w)
 sends_keep w g (f ∷ fs) w2 g2 h =
     kept_on w h.0.wire w2 (next_keeps w g h.0 h.1) (sends_keep h.0.wire h.0.lines fs w2 g2 h.3)
 

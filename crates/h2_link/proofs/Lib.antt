@@ -1,7 +1,7 @@
 pub mod Lists
 pub mod Windows
-pub mod Fronts
-pub mod Hearing
+pub mod Prefixes
+pub mod Receiving
 pub mod Resets
 pub mod Sending
 pub mod Cuts

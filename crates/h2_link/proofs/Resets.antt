@@ -8,5 +8,5 @@ use Rattle.h2_link.specs.Steps.{all_reset}
 
 pub one_more : (streams : List LiveStream) (i : ℕ) (s : LiveStream) (q next all : Queue) → i < length streams → s ≡ get_or streams i s → next ≡ reset_queued s.number cancel q → all_reset (drop i streams) q ≡ all → all_reset (drop (i + 1) streams) next ≡ all
 one_more streams i s q next all h e n a =
-    let front : drop i streams ≡ s ∷ drop (suc i) streams = drop-cons streams i s h ∙ ap (λ (x : LiveStream). x ∷ drop (suc i) streams) (sym e) in
-    rw add-one (ap (all_reset (drop (suc i) streams)) n ∙ (sym (ap (λ (t : List LiveStream). all_reset t q) front) ∙ a))
+    let prefix : drop i streams ≡ s ∷ drop (suc i) streams = drop-cons streams i s h ∙ ap (λ (x : LiveStream). x ∷ drop (suc i) streams) (sym e) in
+    rw add-one (ap (all_reset (drop (suc i) streams)) n ∙ (sym (ap (λ (t : List LiveStream). all_reset t q) prefix) ∙ a))

@@ -71,7 +71,7 @@ may_open w = not w.retiring && is_below (length w.live) w.limit && nat_lt w.open
 abbrev pub opens : Wire → Option ℕ
 opens w = if may_open w then slice_get w.waiting 0 else None
 
--- a header block, behind an update of the dynamic table's size to 0 where that is owed (RFC 7541, section 6.3)
+-- a header block, after an update of the dynamic table's size to 0 where that is owed (RFC 7541, section 6.3)
 abbrev pub head_block : Bool → List Field → List ℕ
 head_block resizes fields = (if resizes then size_update_to_zero ∷ [] else []) ++ block_bytes fields
 
@@ -86,7 +86,7 @@ sent_head w g tag = record {
 }
 
 -- then DATA of the lowest stream that may send. How many bytes, and whether END_STREAM: as many as 16,384, both windows and
--- what is left allow, and END_STREAM exactly if nothing is left behind them and nothing will be added; an empty frame only
+-- what is left allow, and END_STREAM exactly if nothing is left over them and nothing will be added; an empty frame only
 -- for its END_STREAM
 abbrev pub least_of : ℕ → ℕ → LiveStream → ℕ → ℕ
 least_of window initial s left = min (min 16384 window) (min (or_zero (send_window initial s)) left)

@@ -5,8 +5,8 @@ use Rattle.h2_link.specs.declared.live.LiveStream.{LiveStream}
 use Rattle.h2_link.specs.LinkErrors.{send_window}
 use Rattle.h2_link.specs.Wire.{Wire}
 
--- what was heard of the peer is the same in both
-pub record KeepsHeard (w w2 : Wire) : Type 0 where
+-- what was received of the peer is the same in both
+pub record KeepsReceived (w w2 : Wire) : Type 0 where
   pub read : w2.read ≡ w.read
   pub broken : w2.broken ≡ w.broken
   pub ready : w2.ready ≡ w.ready

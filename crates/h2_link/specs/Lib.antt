@@ -8,5 +8,5 @@ pub mod Steps
 pub mod Feeds
 pub mod Drains
 pub mod Outcomes
-pub mod Heard
+pub mod Received
 pub mod Laws

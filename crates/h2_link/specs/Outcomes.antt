@@ -6,15 +6,15 @@ use Rattle.h2_link.specs.Feeds.{Line}
 use Rattle.h2_link.specs.LinkErrors.{send_window}
 use Rattle.h2_link.specs.declared.send.Share.{Share}
 use Rattle.h2_stream.specs.Stream.{or_zero}
-use Rattle.h2_link.specs.Wire.{Wire, Told}
+use Rattle.h2_link.specs.Wire.{Wire, Report}
 
-abbrev pub outcome_of : Result (List LinkNews) ℕ → Wire → Result Told ℕ
+abbrev pub outcome_of : Result (List LinkNews) ℕ → Wire → Result Report ℕ
 outcome_of (Ok n) w = Ok (record { wire = w; news = n })
 outcome_of (Err code) w = Err code
 
-abbrev pub front_told : Option (ℕ × List LinkNews) → Wire → Option (ℕ × Told)
-front_told None w = None
-front_told (Some x) w = Some (x.0, record { wire = w; news = x.1 })
+abbrev pub prefix_reported : Option (ℕ × List LinkNews) → Wire → Option (ℕ × Report)
+prefix_reported None w = None
+prefix_reported (Some x) w = Some (x.0, record { wire = w; news = x.1 })
 
 -- what came of what stands next: it went, and fits, or nothing changed, since nothing does or it does not fit
 abbrev pub WentAs : Bool → ℕ → Wire → (ℕ → Line) → List ℕ → Option Sent → Wire → (ℕ → Line) → List ℕ → Type 0

@@ -12,7 +12,7 @@ pub record Queue : Type 0 where
 abbrev pub new_queue : Queue
 new_queue = record { items = []; fresh = 0 }
 
--- with a frame behind all others
+-- with a frame after all others
 abbrev pub queued : Queue → Control → Queue
 queued q c = record { items = q.items ++ c ∷ []; fresh = 0 }
 
@@ -25,9 +25,9 @@ abbrev pub unqueued : Queue → Queue
 unqueued q = record { items = drop 1 q.items; fresh = min q.fresh (length q.items - 1) }
 
 -- a reset of a later stream
-abbrev pub is_behind : ℕ → Control → Bool
-is_behind number (Reset stream code) = nat_lt number stream
-is_behind number _ = false
+abbrev pub comes_after : ℕ → Control → Bool
+comes_after number (Reset stream code) = nat_lt number stream
+comes_after number _ = false
 
 -- the first place of an item that passes a test, or the length
 abbrev pub first_place : (Control → Bool) → List Control → ℕ
@@ -38,7 +38,7 @@ first_place p (c ∷ cs) = if p c then 0 else suc (first_place p cs)
 abbrev pub reset_place : ℕ → Queue → ℕ
 reset_place number q =
     let start = length q.items - q.fresh in
-    start + first_place (is_behind number) (drop start q.items)
+    start + first_place (comes_after number) (drop start q.items)
 
 abbrev pub reset_queued : ℕ → ℕ → Queue → Queue
 reset_queued number code q = record {

@@ -7,7 +7,7 @@ use Rattle.h2_link.specs.Status.{is_interim}
 use Rattle.h2_link.specs.Wire.{largest_window}
 
 -- a header block of this status, without or with END_STREAM (section 8.1): an interim response with END_STREAM; a second
--- block behind the head, or one in its place that has no status, without END_STREAM
+-- block after the head, or one in its place that has no status, without END_STREAM
 abbrev pub headers_error : LiveStream → Option ℕ → Bool → Option ℕ
 headers_error s status end =
     if not s.head && is_interim status then (if end then Some protocol_error else None)

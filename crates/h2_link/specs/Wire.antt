@@ -77,8 +77,8 @@ blank read broken = record {
 abbrev pub fresh_wire : Wire
 fresh_wire = record (blank 0 None) { queue = queued new_queue Preface }
 
--- what a link is after a frame, and what it tells
-pub record Told : Type 0 where
+-- what a link is after a frame, and what it reports
+pub record Report : Type 0 where
   pub wire : Wire
   pub news : List LinkNews
 

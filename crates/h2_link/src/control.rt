@@ -1,6 +1,6 @@
 // Frames that are sent whatever the windows, in the order in which they were queued.
 ghost use Rattle.std.specs.Prelude.{◌≡◌, ◌<◌, ◌≤◌, ◌^◌, ◌==◌, if◌then◌else◌, length, slice_get, OnOk, Some, None};
-ghost use Rattle.h2_link.specs.Queues.{new_queue, queued, sealed, reset_queued, unqueued, reset_place, is_behind};
+ghost use Rattle.h2_link.specs.Queues.{new_queue, queued, sealed, reset_queued, unqueued, reset_place, comes_after};
 
 use crate::live::StreamNumber;
 use grpc_base::NoMemory;
@@ -127,7 +127,7 @@ impl Controls {
     {
         let start = self.items.len().saturating_sub(self.fresh);
         for place in start..self.items.len() {
-            if is_behind(stream, &self.items[place]) {
+            if comes_after(stream, &self.items[place]) {
                 return place;
             }
         }
@@ -138,7 +138,7 @@ impl Controls {
     pub(crate) fn first(&self) -> Option<Control>
         ensures { result ≡ slice_get self.now.items 0 }
     {
-        self.items.front().copied()
+        self.items.prefix().copied()
     }
 
     /// Takes the first frame off.
@@ -151,8 +151,8 @@ impl Controls {
 }
 
 /// Whether this is the reset of a later stream.
-fn is_behind(stream: StreamNumber, control: &Control) -> bool
-    ensures { result ≡ is_behind stream control.now }
+fn comes_after(stream: StreamNumber, control: &Control) -> bool
+    ensures { result ≡ comes_after stream control.now }
 {
     match control {
         Control::Reset {

@@ -11,7 +11,7 @@ use grpc_base::error_code::{CANCEL, FLOW_CONTROL_ERROR, PROTOCOL_ERROR};
 #[derive(Clone, Copy, Debug)]
 pub(crate) enum Effect {
     /// It goes on.
-    Goes(LiveStream),
+    Continues(LiveStream),
     /// Its attempt ends, and it is reset with this code, if with any.
     Ends(Option<u32>),
     /// A stream error: its attempt ends, and it is reset with this code.
@@ -46,7 +46,7 @@ pub(crate) fn headers_effect(stream: &LiveStream, status: Option<u32>, end: bool
     if end {
         return Effect::Ends(reset_owed(stream));
     }
-    Effect::Goes(LiveStream {
+    Effect::Continues(LiveStream {
         number: stream.number,
         tag: stream.tag,
         head: stream.head || !is_interim(status),
@@ -65,7 +65,7 @@ pub(crate) fn data_effect(stream: &LiveStream, end: bool) -> Effect
     if end {
         return Effect::Ends(reset_owed(stream));
     }
-    Effect::Goes(*stream)
+    Effect::Continues(*stream)
 }
 
 fn raised_credit(credit: i32, by: u32) -> i32
@@ -86,7 +86,7 @@ pub(crate) fn window_effect(initial: &WindowSize, stream: &LiveStream, by: u32) 
     if raised > i64::from(LARGEST_WINDOW) {
         return Effect::Faults(FLOW_CONTROL_ERROR);
     }
-    Effect::Goes(LiveStream {
+    Effect::Continues(LiveStream {
         number: stream.number,
         tag: stream.tag,
         head: stream.head,

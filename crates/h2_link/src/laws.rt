@@ -3,22 +3,22 @@ ghost use Rattle.std.specs.Prelude.{◌≡◌, ◌≢◌, ◌++◌, ℕ, List, S
 ghost use Rattle.h2_frame.specs.Readings.{Partial, reading_of};
 ghost use Rattle.h2_link.specs.Drains.{Outgoing, Sends, sender};
 ghost use Rattle.h2_link.specs.Feeds.{Line};
-ghost use Rattle.h2_link.specs.Heard.{heard, heard_behind};
-ghost use Rattle.h2_link.specs.Laws.{KeepsHeard, KeepsWindows};
+ghost use Rattle.h2_link.specs.Received.{handled, received_after};
+ghost use Rattle.h2_link.specs.Laws.{KeepsReceived, KeepsWindows};
 ghost use Rattle.h2_link.specs.declared.live.LiveStream.{LiveStream};
 ghost use Rattle.h2_link.specs.declared.send.Share.{Share};
 ghost use Rattle.h2_link.specs.Wire.{Wire, Seen};
 
-/// What a link hears does not depend on how its bytes are cut: what a piece shows, it shows whatever follows it, and a
+/// What a link receives does not depend on how its bytes are cut: what a piece shows, it shows whatever follows it, and a
 /// piece that shows nothing goes into what the next one shows.
 pub fn pieces_join()
-    ensures stays { (l : Seen) (front more : List ℕ) → reading_of (l.rest ++ front) ≢ Partial → heard l (front ++ more) ≡ heard l front }
-    ensures goes_on { (l : Seen) (front more : List ℕ) → reading_of (l.rest ++ front) ≡ Partial → heard l (front ++ more) ≡ heard_behind (length front) (heard (heard l front).link more) }
+    ensures stays { (l : Seen) (prefix more : List ℕ) → reading_of (l.rest ++ prefix) ≢ Partial → handled l (prefix ++ more) ≡ handled l prefix }
+    ensures goes_on { (l : Seen) (prefix more : List ℕ) → reading_of (l.rest ++ prefix) ≡ Partial → handled l (prefix ++ more) ≡ received_after (length prefix) (handled (handled l prefix).link more) }
 {}
 
-/// Sending leaves all that was heard of the peer as it was.
-pub fn sending_keeps_what_was_heard()
-    ensures { (w : Wire) (g : ℕ → Line) (frames : List Outgoing) (w2 : Wire) (g2 : ℕ → Line) → Sends w g frames w2 g2 → KeepsHeard w w2 }
+/// Sending leaves all that was received of the peer as it was.
+pub fn sending_keeps_what_was_received()
+    ensures { (w : Wire) (g : ℕ → Line) (frames : List Outgoing) (w2 : Wire) (g2 : ℕ → Line) → Sends w g frames w2 g2 → KeepsReceived w w2 }
 {}
 
 /// DATA is sent within a frame and within both windows (RFC 9113, section 6.9.1).

@@ -1,7 +1,7 @@
 // A link: what it is to its callers, and the calls that take bytes.
 ghost use Rattle.std.specs.Prelude.{◌≡◌, ◌<◌, ◌≤◌, ◌+◌, ◌^◌, ◌↔◌, ◌||◌, ◌++◌, [], true, IsTrue, length, is_some, IfOk, OnOk, OnErr, None, Err};
 ghost use Rattle.h2_frame.specs.Readings.{reading_of, Partial};
-ghost use Rattle.h2_link.specs.Heard.{heard};
+ghost use Rattle.h2_link.specs.Received.{handled};
 ghost use Rattle.h2_link.specs.Steps.{placed, cut, pinged, sealed_wire};
 ghost use Rattle.h2_link.specs.Wire.{fresh_wire, kept_bytes};
 
@@ -81,7 +81,7 @@ impl Link {
 
     /// The effects of the last frame are complete. The resets of one frame's effects are sent in the order of their
     /// streams: those that the frame itself made, and those that `reset` made before this call or the next frame.
-    /// Later ones stand behind them, in the order of the calls.
+    /// Later ones stand after them, in the order of the calls.
     pub fn seal(&mut self)
         ensures { self.new ≡ record self.old { wire = sealed_wire self.old.wire } }
     {
@@ -98,7 +98,7 @@ impl Link {
         rest as u64 + block as u64
     }
 
-    /// Takes a piece up to the byte that ends a frame or shows a fault, or else all of it, and tells the news of that
+    /// Takes a piece up to the byte that ends a frame or shows a fault, or else all of it, and reports the news of that
     /// one frame; so a caller can place and reset before it hands in the rest. Gone comes exactly where the link is
     /// broken.
     pub fn arrived(&mut self, piece: &[u8]) -> Result<Arrival, LinkFault>
@@ -106,19 +106,19 @@ impl Link {
         ensures gone { (result ≡ Err LinkFault.Gone) ↔ IsTrue (is_some self.old.wire.broken) }
         ensures same { result ≡ Err LinkFault.Gone → self.new ≡ self.old }
         ensures whole { OnOk result ((self.old.wire.broken ≡ None) × (reading_of self.old.rest ≡ Partial)) }
-        ensures taken { IfOk result (λ a. a.taken ≡ (heard self.old piece.now).taken) }
+        ensures taken { IfOk result (λ a. a.taken ≡ (handled self.old piece.now).taken) }
         ensures within { IfOk result (λ a. (1 ≤ a.taken) × (a.taken ≤ length piece.now)) }
-        ensures news { IfOk result (λ a. a.news ≡ (heard self.old piece.now).news) }
+        ensures news { IfOk result (λ a. a.news ≡ (handled self.old piece.now).news) }
         ensures read { IfOk result (λ a. a.read ≡ self.new.wire.read) }
-        ensures after { OnOk result (self.new ≡ (heard self.old piece.now).link) }
+        ensures after { OnOk result (self.new ≡ (handled self.old piece.now).link) }
     {
         if self.state.broken.is_some() {
             return Err(LinkFault::Gone);
         }
         let (taken, news) = if self.rest.is_empty() {
-            self.hear_first(piece)?
+            self.receive_first(piece)?
         } else {
-            self.hear_behind(piece)?
+            self.receive_after(piece)?
         };
         Ok(Arrival {
             taken,
@@ -128,15 +128,15 @@ impl Link {
     }
 
     /// A piece on a link that holds no bytes: a frame in it is not copied.
-    fn hear_first(&mut self, piece: &[u8]) -> Result<(usize, Items<LinkNews>), NoMemory>
+    fn receive_first(&mut self, piece: &[u8]) -> Result<(usize, Items<LinkNews>), NoMemory>
         requires some { 0 < length piece.now }
         requires none { self.old.rest ≡ [] }
-        ensures heard { IfOk result (λ a. record { taken = a.0; link = self.new; news = a.1 } ≡ heard self.old piece.now) }
+        ensures handled { IfOk result (λ a. record { taken = a.0; link = self.new; news = a.1 } ≡ handled self.old piece.now) }
         ensures within { IfOk result (λ a. (1 ≤ a.0) × (a.0 ≤ length piece.now)) }
     {
         let alloc = self.alloc;
-        match self.state.hear(alloc, piece)? {
-            Some(front) => Ok(front),
+        match self.state.receive(alloc, piece)? {
+            Some(prefix) => Ok(prefix),
             None => {
                 extend(&mut self.rest, piece)?;
                 Ok((piece.len(), Items::new(alloc)))
@@ -144,10 +144,10 @@ impl Link {
         }
     }
 
-    /// A piece behind the bytes that the link holds. Of the piece no more is copied than the longest frame needs.
-    fn hear_behind(&mut self, piece: &[u8]) -> Result<(usize, Items<LinkNews>), NoMemory>
+    /// A piece after the bytes that the link holds. Of the piece no more is copied than the longest frame needs.
+    fn receive_after(&mut self, piece: &[u8]) -> Result<(usize, Items<LinkNews>), NoMemory>
         requires { 0 < length piece.now }
-        ensures heard { IfOk result (λ a. record { taken = a.0; link = self.new; news = a.1 } ≡ heard self.old piece.now) }
+        ensures handled { IfOk result (λ a. record { taken = a.0; link = self.new; news = a.1 } ≡ handled self.old piece.now) }
         ensures within { IfOk result (λ a. (1 ≤ a.0) × (a.0 ≤ length piece.now)) }
     {
         let alloc = self.alloc;
@@ -155,7 +155,7 @@ impl Link {
         let held = joined.len();
         let more = piece.len().min(FRAME_BYTES - held);
         extend(&mut joined, &piece[..more])?;
-        match self.state.hear(alloc, joined.as_slice())? {
+        match self.state.receive(alloc, joined.as_slice())? {
             Some((shown, news)) => {
                 joined.clear();
                 self.rest = joined;

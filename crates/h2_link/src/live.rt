@@ -29,7 +29,7 @@ impl Model for StreamNumber {
 }
 
 impl StreamNumber {
-    /// The number of the stream that is opened behind so many.
+    /// The number of the stream that is opened after so many.
     pub(crate) fn of_place(opened: u32) -> StreamNumber
         requires { opened < 2 ^ 30 }
         ensures { result ≡ 2 * opened + 1 }

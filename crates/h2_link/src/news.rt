@@ -1,4 +1,4 @@
-// What a link tells its caller.
+// What a link reports to its caller.
 use grpc_base::{Fields, Items, Octets};
 
 /// News of a link. A tag names the stream that was opened for it; `seen` counts the link's bytes up to the end of the
@@ -7,7 +7,7 @@ use grpc_base::{Fields, Items, Octets};
 pub enum LinkNews {
     /// The peer's first SETTINGS came.
     Ready,
-    /// A whole header block, without or with END_STREAM. An interim response (a `:status` from 100 to 199) is told as
+    /// A whole header block, without or with END_STREAM. An interim response (a `:status` from 100 to 199) is reported as
     /// any other block is.
     Fields {
         tag: u64,
@@ -48,7 +48,7 @@ pub enum LinkNews {
     },
 }
 
-/// What one call of `arrived` took, and what it told.
+/// What one call of `arrived` took, and what it reported.
 #[derive(Debug, Drop)]
 pub struct Arrival {
     /// How many bytes of the piece were taken.

@@ -149,7 +149,7 @@ fn least_of(window: u32, own: u64, left: u64) -> u64
     frame.min(own.min(left))
 }
 
-/// The credit of a stream behind so many bytes of DATA more.
+/// The credit of a stream after so many bytes of DATA more.
 #[tactic(auto, using(crate::proofs::Windows::lowered))]
 fn lowered_credit(initial: &WindowSize, credit: i32, len: u32) -> i32
     requires { len ≤ or_zero (pos initial.now +ℤ credit) }

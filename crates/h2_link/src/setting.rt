@@ -42,9 +42,9 @@ pub(crate) fn with_settings(old: Settings, payload: &[u8]) -> Settings
 {
     let mut settings = old;
     let mut rest = payload;
-    while let Some((setting, behind)) = next_setting(rest) {
+    while let Some((setting, afterwards)) = next_setting(rest) {
         settings = with_setting(settings, setting);
-        rest = behind;
+        rest = afterwards;
     }
     settings
 }

@@ -110,7 +110,7 @@ impl State {
         ensures { OnOk result (self.new ≡ with_effect self.old place number effect) }
     {
         match effect {
-            Effect::Goes(stream) => self.live.put(place, stream),
+            Effect::Continues(stream) => self.live.put(place, stream),
             Effect::Ends(None) => self.live.remove(place),
             Effect::Ends(Some(code)) | Effect::Faults(code) => {
                 self.live.remove(place);

@@ -1,11 +1,11 @@
--- The client's preface at the front of some bytes.
+-- The client's preface at the start of some bytes.
 use Rattle.std.proofs.Common.{◌≡◌, ℕ, zero, suc, ◌<◌, ◌≤◌, ◌+◌, Bool, true, false, List, [], ◌∷◌, ◌++◌, length, refl, sym, ◌∙◌, ap, Some, None, arith, length-append}
 use Rattle.std.specs.Prelude.{◌==◌, if◌then◌else◌}
 use Rattle.std.proofs.lemmas.Bool.{eq-eqb, ne_eqb}
 use Rattle.grpc_base.specs.ErrorCodes.{protocol_error}
-use Rattle.h2_server.specs.Heard.{agreed, preface_by, preface_bytes, preface_front}
+use Rattle.h2_server.specs.Received.{agreed, preface_by, preface_bytes, preface_prefix}
 use Rattle.h2_server.specs.Steps.{broke}
-use Rattle.h2_server.specs.Wire.{Wire, Told}
+use Rattle.h2_server.specs.Wire.{Wire, Report}
 
 within_by : (same size : ℕ) (b : Bool) → same ≤ size → (if b then suc same else 0) ≤ suc size
 within_by same size true h = omega (arith, h)
@@ -55,7 +55,7 @@ agreed_full (t ∷ text) [] more e = absurd (omega (arith, e))
 agreed_full (t ∷ text) (b ∷ bytes) more e =
     full_by (agreed text bytes) (length text) (agreed text (bytes ++ more)) (b == t) (agreed_full text bytes more) e
 
--- the three answers of a front
+-- the three answers of a prefix
 pub by_full : (w : Wire) (size same : ℕ) → same ≡ 24 → preface_by w size same ≡ Some (24, record { wire = w; news = None })
 by_full w size same e = rw e refl
 

@@ -1,6 +1,6 @@
 pub mod Windows
 pub mod Shares
 pub mod Agreeing
-pub mod Fronts
-pub mod Hearing
+pub mod Prefixes
+pub mod Receiving
 pub mod Cuts

@@ -4,7 +4,7 @@ pub mod StreamErrors
 pub mod Settings
 pub mod Frames
 pub mod Steps
-pub mod Heard
+pub mod Received
 pub mod Sends
 pub mod Outcomes
 pub mod Laws

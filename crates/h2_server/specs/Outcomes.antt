@@ -5,16 +5,16 @@ use Rattle.h2_server.specs.declared.news.RequestNews.{RequestNews}
 use Rattle.h2_server.specs.declared.share.Share.{Share}
 use Rattle.h2_server.specs.LinkErrors.{send_window}
 use Rattle.h2_server.specs.Sends.{Sent}
-use Rattle.h2_server.specs.Wire.{Block, Seen, Wire, Told}
+use Rattle.h2_server.specs.Wire.{Block, Seen, Wire, Report}
 use Rattle.h2_stream.specs.Stream.{or_zero}
 
-abbrev pub outcome_of : Result (Option RequestNews) ℕ → Wire → Result Told ℕ
+abbrev pub outcome_of : Result (Option RequestNews) ℕ → Wire → Result Report ℕ
 outcome_of (Ok n) w = Ok (record { wire = w; news = n })
 outcome_of (Err code) w = Err code
 
-abbrev pub front_told : Option (ℕ × Option RequestNews) → Wire → Option (ℕ × Told)
-front_told None w = None
-front_told (Some x) w = Some (x.0, record { wire = w; news = x.1 })
+abbrev pub prefix_reported : Option (ℕ × Option RequestNews) → Wire → Option (ℕ × Report)
+prefix_reported None w = None
+prefix_reported (Some x) w = Some (x.0, record { wire = w; news = x.1 })
 
 -- what came of what stands next: it went, and fits, or nothing changed, since nothing does or it does not fit
 abbrev pub WentAs : Bool → ℕ → Wire → List ℕ → Option Sent → Wire → List ℕ → Type 0

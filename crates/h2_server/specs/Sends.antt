@@ -37,7 +37,7 @@ control_sent w c = record {
 abbrev pub next_control : Wire → Option Sent
 next_control w = option_map (control_sent w) (slice_get w.queue 0)
 
--- a header block of a response, behind an update of the dynamic table's size to 0 where that is owed (RFC 7541, section
+-- a header block of a response, after an update of the dynamic table's size to 0 where that is owed (RFC 7541, section
 -- 6.3); a stream that is closed, or whose response has ended, sends nothing
 abbrev pub block_bytes : Bool → List ℕ → List ℕ
 block_bytes resizes block = (if resizes then size_update_to_zero ∷ [] else []) ++ block
@@ -52,7 +52,7 @@ block_sent_at w block ends (Some x) = record {
 abbrev pub block_sent : Wire → ℕ → List ℕ → Bool → Sent
 block_sent w stream block ends = block_sent_at w block ends (found_from (is_answering stream) 0 w.live)
 
--- DATA: as many bytes as 16,384, both windows and what is left allow, and END_STREAM exactly if nothing is left behind them
+-- DATA: as many bytes as 16,384, both windows and what is left allow, and END_STREAM exactly if nothing is left over them
 -- and nothing will be added; an empty frame only for its END_STREAM
 abbrev pub least_of : ℕ → ℕ → LiveStream → ℕ → ℕ
 least_of window initial s left = min (min 16384 window) (min (or_zero (send_window initial s)) left)

@@ -39,7 +39,7 @@ pub record Wire : Type 0 where
 -- with what came of the next frame, or of the client's preface, which is the first thing that it sends (section 3.4)
 pub record Seen : Type 0 where
   -- whether the preface came
-  pub greeted : Bool
+  pub prefaced : Bool
   pub wire : Wire
   pub rest : List ℕ
 
@@ -72,9 +72,9 @@ fresh_wire = record (blank None) { queue = Settings ∷ [] }
 
 -- a new link before any byte
 abbrev pub fresh : Seen
-fresh = record { greeted = false; wire = fresh_wire; rest = [] }
+fresh = record { prefaced = false; wire = fresh_wire; rest = [] }
 
--- what a link is after a frame, and what it tells
-pub record Told : Type 0 where
+-- what a link is after a frame, and what it reports
+pub record Report : Type 0 where
   pub wire : Wire
   pub news : Option RequestNews

@@ -9,7 +9,7 @@ use grpc_base::error_code::{FLOW_CONTROL_ERROR, PROTOCOL_ERROR};
 #[derive(Clone, Copy, Debug)]
 pub(crate) enum Effect {
     /// It goes on.
-    Goes(LiveStream),
+    Continues(LiveStream),
     /// Both sides have ended it, or one has reset it.
     Closes,
     /// A stream error: it is reset with this code.
@@ -21,12 +21,12 @@ pub(crate) fn request_effect(stream: &LiveStream, end: bool) -> Effect
     ensures { result ≡ request_effect stream.now end }
 {
     if !end {
-        return Effect::Goes(*stream);
+        return Effect::Continues(*stream);
     }
     if stream.finished {
         return Effect::Closes;
     }
-    Effect::Goes(LiveStream {
+    Effect::Continues(LiveStream {
         number: stream.number,
         ended: true,
         finished: stream.finished,
@@ -39,12 +39,12 @@ pub(crate) fn response_effect(stream: &LiveStream, end: bool) -> Effect
     ensures { result ≡ response_effect stream.now end }
 {
     if !end {
-        return Effect::Goes(*stream);
+        return Effect::Continues(*stream);
     }
     if stream.ended {
         return Effect::Closes;
     }
-    Effect::Goes(LiveStream {
+    Effect::Continues(LiveStream {
         number: stream.number,
         ended: stream.ended,
         finished: true,
@@ -80,7 +80,7 @@ pub(crate) fn window_effect(initial: &WindowSize, stream: &LiveStream, by: u32) 
     if raised > i64::from(LARGEST_WINDOW) {
         return Effect::Faults(FLOW_CONTROL_ERROR);
     }
-    Effect::Goes(LiveStream {
+    Effect::Continues(LiveStream {
         number: stream.number,
         ended: stream.ended,
         finished: stream.finished,

@@ -62,11 +62,11 @@ fn has_bad_setting(frame: Frame) -> bool
     ensures { result ≡ list_any is_bad_setting (settings_of (seen frame.entry)) }
 {
     let mut rest = settings_of(frame);
-    while let Some((setting, behind)) = next_setting(rest) {
+    while let Some((setting, afterwards)) = next_setting(rest) {
         if is_bad_setting(setting) {
             return true;
         }
-        rest = behind;
+        rest = afterwards;
     }
     false
 }
@@ -135,11 +135,11 @@ fn has_overflow(live: &[LiveStream], frame: Frame) -> bool
     ensures { result ≡ list_any (overflows_streams live.now) (settings_of (seen frame.entry)) }
 {
     let mut rest = settings_of(frame);
-    while let Some((setting, behind)) = next_setting(rest) {
+    while let Some((setting, afterwards)) = next_setting(rest) {
         if overflows_streams(live, setting) {
             return true;
         }
-        rest = behind;
+        rest = afterwards;
     }
     false
 }

@@ -1,22 +1,22 @@
 // One HTTP/2 connection as a server keeps it: from bytes to news of its requests, and from responses to bytes.
 #![tactic(auto)]
 
+mod apply_frame;
 mod block;
 mod control;
 mod effect;
 mod fault;
-mod hear;
 mod judge;
 mod laws;
 mod link;
 mod live;
 mod news;
 mod preface;
+mod receive;
 mod send;
 mod setting;
 mod share;
 mod state;
-mod tell;
 
 pub use control::{Control, Increment};
 pub use fault::LinkFault;

@@ -1,14 +1,14 @@
 // A link: what it is to its callers, and the calls that take bytes.
 ghost use Rattle.std.specs.Prelude.{◌≡◌, ◌<◌, ◌≤◌, ◌+◌, ◌↔◌, ◌++◌, [], ℕ, length, IfOk, OnOk, OnErr, None, Some, Err};
 ghost use Rattle.std.specs.List.{list_any};
-ghost use Rattle.h2_server.specs.Heard.{IsPart, heard};
+ghost use Rattle.h2_server.specs.Received.{IsPart, handled};
 ghost use Rattle.h2_server.specs.Outcomes.{WentAs, kept_bytes};
 ghost use Rattle.h2_server.specs.Sends.{block_sent, data_sent, goaway_bytes, next_control, reset_sent, share_of};
 ghost use Rattle.h2_server.specs.Wire.{fresh};
 
 use crate::fault::LinkFault;
-use crate::hear::Front;
 use crate::news::Arrival;
+use crate::receive::Prefix;
 use crate::share::Share;
 use crate::state::State;
 use bytes::BytesMut;
@@ -26,20 +26,20 @@ pub(crate) const FRAME_BYTES: usize = 16_393;
 pub struct ServerLink {
     alloc: Global,
     /// Whether the client's preface came.
-    greeted: bool,
+    prefaced: bool,
     state: State,
     rest: Vec<u8>,
 }
 
 impl Model for ServerLink {
-    ghost use Rattle.h2_server.specs.Heard.{IsPart};
+    ghost use Rattle.h2_server.specs.Received.{IsPart};
     ghost use Rattle.h2_server.specs.Wire.{Seen};
 
     ghost Value = { Seen };
 
-    ghost view = { λ l. record { greeted = l.greeted; wire = l.state; rest = l.rest.items } };
+    ghost view = { λ l. record { prefaced = l.prefaced; wire = l.state; rest = l.rest.items } };
 
-    ghost invariant = { λ l. IsPart l.greeted l.rest.items };
+    ghost invariant = { λ l. IsPart l.prefaced l.rest.items };
 }
 
 impl ServerLink {
@@ -50,7 +50,7 @@ impl ServerLink {
         let state = State::new(alloc)?;
         Ok(ServerLink {
             alloc,
-            greeted: false,
+            prefaced: false,
             state,
             rest: Vec::new(alloc),
         })
@@ -73,42 +73,42 @@ impl ServerLink {
         rest as u64 + block as u64
     }
 
-    /// Takes a piece up to the byte that ends the preface or a frame or shows a fault, or else all of it, and tells the
+    /// Takes a piece up to the byte that ends the preface or a frame or shows a fault, or else all of it, and reports the
     /// news of that one frame; so a caller can act on them before it hands in the rest. Broken comes exactly where the
     /// link was broken before, with its code.
     pub fn arrived(&mut self, piece: &[u8]) -> Result<Arrival, LinkFault>
         requires { 0 < length piece.now }
         ensures gone { (code : ℕ) → (result ≡ Err (LinkFault.Broken code)) ↔ (self.old.wire.broken ≡ Some code) }
         ensures same { (code : ℕ) → result ≡ Err (LinkFault.Broken code) → self.new ≡ self.old }
-        ensures whole { OnOk result ((self.old.wire.broken ≡ None) × IsPart self.old.greeted self.old.rest) }
-        ensures taken { IfOk result (λ a. a.taken ≡ (heard self.old piece.now).taken) }
+        ensures whole { OnOk result ((self.old.wire.broken ≡ None) × IsPart self.old.prefaced self.old.rest) }
+        ensures taken { IfOk result (λ a. a.taken ≡ (handled self.old piece.now).taken) }
         ensures within { IfOk result (λ a. (1 ≤ a.taken) × (a.taken ≤ length piece.now)) }
-        ensures news { IfOk result (λ a. a.news ≡ (heard self.old piece.now).news) }
-        ensures after { OnOk result (self.new ≡ (heard self.old piece.now).link) }
+        ensures news { IfOk result (λ a. a.news ≡ (handled self.old piece.now).news) }
+        ensures after { OnOk result (self.new ≡ (handled self.old piece.now).link) }
     {
         if let Some(code) = self.state.broken {
             return Err(LinkFault::Broken { code });
         }
         let (taken, news) = if self.rest.is_empty() {
-            self.hear_first(piece)?
+            self.receive_first(piece)?
         } else {
-            self.hear_behind(piece)?
+            self.receive_after(piece)?
         };
         Ok(Arrival { taken, news })
     }
 
     /// A piece on a link that holds no bytes: a frame in it is not copied.
-    fn hear_first(&mut self, piece: &[u8]) -> Result<Front, NoMemory>
+    fn receive_first(&mut self, piece: &[u8]) -> Result<Prefix, NoMemory>
         requires some { 0 < length piece.now }
         requires none { self.old.rest ≡ [] }
-        ensures heard { IfOk result (λ a. record { taken = a.0; link = self.new; news = a.1 } ≡ heard self.old piece.now) }
+        ensures handled { IfOk result (λ a. record { taken = a.0; link = self.new; news = a.1 } ≡ handled self.old piece.now) }
         ensures within { IfOk result (λ a. (1 ≤ a.0) × (a.0 ≤ length piece.now)) }
     {
         let alloc = self.alloc;
-        match self.state.hear(alloc, self.greeted, piece)? {
-            Some(front) => {
-                self.greeted = true;
-                Ok(front)
+        match self.state.receive(alloc, self.prefaced, piece)? {
+            Some(prefix) => {
+                self.prefaced = true;
+                Ok(prefix)
             }
             None => {
                 extend(&mut self.rest, piece)?;
@@ -117,10 +117,10 @@ impl ServerLink {
         }
     }
 
-    /// A piece behind the bytes that the link holds. Of the piece no more is copied than the longest frame needs.
-    fn hear_behind(&mut self, piece: &[u8]) -> Result<Front, NoMemory>
+    /// A piece after the bytes that the link holds. Of the piece no more is copied than the longest frame needs.
+    fn receive_after(&mut self, piece: &[u8]) -> Result<Prefix, NoMemory>
         requires { 0 < length piece.now }
-        ensures heard { IfOk result (λ a. record { taken = a.0; link = self.new; news = a.1 } ≡ heard self.old piece.now) }
+        ensures handled { IfOk result (λ a. record { taken = a.0; link = self.new; news = a.1 } ≡ handled self.old piece.now) }
         ensures within { IfOk result (λ a. (1 ≤ a.0) × (a.0 ≤ length piece.now)) }
     {
         let alloc = self.alloc;
@@ -128,10 +128,10 @@ impl ServerLink {
         let held = joined.len();
         let more = piece.len().min(FRAME_BYTES - held);
         extend(&mut joined, &piece[..more])?;
-        match self.state.hear(alloc, self.greeted, joined.as_slice())? {
+        match self.state.receive(alloc, self.prefaced, joined.as_slice())? {
             Some((shown, news)) => {
                 joined.clear();
-                self.greeted = true;
+                self.prefaced = true;
                 self.rest = joined;
                 Ok((shown - held, news))
             }
@@ -152,7 +152,7 @@ impl ServerLink {
         self.state.send_control(room, out)
     }
 
-    /// Sends a header block of a response, without or with END_STREAM, behind a table size update to 0 where the
+    /// Sends a header block of a response, without or with END_STREAM, after a table size update to 0 where the
     /// acknowledgement of a SETTINGS_HEADER_TABLE_SIZE was sent and no block since. A stream that is closed, or whose
     /// response has ended, sends nothing.
     pub fn send_block(
@@ -170,7 +170,7 @@ impl ServerLink {
     }
 
     /// What a stream may send in one frame of so many bytes that are left: as many as 16,384 and both windows allow,
-    /// with END_STREAM exactly if nothing is left behind them and nothing will be added. None where that is neither a
+    /// with END_STREAM exactly if nothing is left over them and nothing will be added. None where that is neither a
     /// byte nor END_STREAM, and for a stream that is closed, or whose response has ended.
     pub fn share(&self, stream: u32, left: u64, finished: bool) -> Option<Share>
         ensures { result ≡ share_of self.now.wire stream left finished }

@@ -1,4 +1,4 @@
-// What a link tells its caller.
+// What a link reports to its caller.
 use grpc_base::{Fields, Octets};
 
 /// News of a link's requests. A stream is named by its number.
@@ -32,7 +32,7 @@ pub enum RequestNews {
     },
 }
 
-/// What one call of `arrived` took, and what it told.
+/// What one call of `arrived` took, and what it reported.
 #[derive(Debug, Drop)]
 pub struct Arrival {
     /// How many bytes of the piece were taken.

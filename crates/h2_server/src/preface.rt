@@ -1,7 +1,7 @@
 // The client's preface.
 ghost use Rattle.std.specs.Prelude.{◌≡◌, ◌≤◌, IfNone, IfSome, length};
-ghost use Rattle.h2_server.specs.Heard.{agreed, preface_front};
-ghost use Rattle.h2_server.specs.Outcomes.{front_told};
+ghost use Rattle.h2_server.specs.Received.{agreed, preface_prefix};
+ghost use Rattle.h2_server.specs.Outcomes.{prefix_reported};
 
 use crate::news::RequestNews;
 use crate::state::State;
@@ -27,14 +27,14 @@ fn agreed(text: &[u8], bytes: &[u8]) -> usize
 }
 
 impl State {
-    /// The preface at the front, or the byte that is another, with how many bytes show it; None for less than the
+    /// The preface at the start, or the byte that is another, with how many bytes show it; None for less than the
     /// preface.
-    pub(crate) fn hear_preface(
+    pub(crate) fn receive_preface(
         &mut self,
         alloc: Global,
         bytes: &[u8],
     ) -> Option<(usize, Option<RequestNews>)>
-        ensures front { front_told result self.new ≡ preface_front self.old bytes.now }
+        ensures prefix { prefix_reported result self.new ≡ preface_prefix self.old bytes.now }
         ensures same { IfNone result (self.new ≡ self.old) }
         ensures within { IfSome result (λ x. x.0 ≤ length bytes.now) }
     {

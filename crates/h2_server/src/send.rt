@@ -135,7 +135,7 @@ impl State {
         ensures { self.new ≡ record self.old { live = live_after place effect self.old.live } }
     {
         match effect {
-            Effect::Goes(stream) => self.live.put(place, stream),
+            Effect::Continues(stream) => self.live.put(place, stream),
             Effect::Closes | Effect::Faults(_) => self.live.remove(place),
         }
     }

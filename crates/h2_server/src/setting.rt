@@ -35,9 +35,9 @@ pub(crate) fn with_settings(old: ClientSettings, payload: &[u8]) -> ClientSettin
 {
     let mut settings = old;
     let mut rest = payload;
-    while let Some((setting, behind)) = next_setting(rest) {
+    while let Some((setting, afterwards)) = next_setting(rest) {
         settings = with_setting(settings, setting);
-        rest = behind;
+        rest = afterwards;
     }
     settings
 }

@@ -43,7 +43,7 @@ fn share_as(len: u32, left: u64, finished: bool) -> Option<Share>
     }
 }
 
-/// The credit of a stream behind so many bytes of DATA more.
+/// The credit of a stream after so many bytes of DATA more.
 #[tactic(auto, using(crate::proofs::Windows::lowered))]
 pub(crate) fn lowered_credit(initial: &WindowSize, credit: i32, len: u32) -> i32
     requires { len ≤ or_zero (pos initial.now +ℤ credit) }

@@ -94,7 +94,7 @@ impl State {
         ensures { OnOk result (self.new ≡ with_effect self.old place number effect) }
     {
         match effect {
-            Effect::Goes(stream) => self.live.put(place, stream),
+            Effect::Continues(stream) => self.live.put(place, stream),
             Effect::Closes => self.live.remove(place),
             Effect::Faults(code) => {
                 self.live.remove(place);

@@ -15,7 +15,7 @@ after_received end state = if end then after_remote_end state else state
 abbrev pub after_sent : Bool → StreamState → StreamState
 after_sent end state = if end then after_local_end state else state
 
--- a header block: the head, or behind it the trailers, which have END_STREAM (RFC 9113, section 8.1)
+-- a header block: the head, or after it the trailers, which have END_STREAM (RFC 9113, section 8.1)
 abbrev pub headers_step : StreamView → Bool → Result StreamView StreamFault
 headers_step s end =
     -- too late: passed over

@@ -14,7 +14,7 @@ use Rattle.channel_core.specs.Applying.{AnswersBy, refusal_of}
 use Rattle.channel_core.specs.Books.{lines_of}
 use Rattle.channel_core.specs.Core.{CoreSeen, IsNew, Runs, Steps, moment_of}
 use Rattle.channel_core.specs.Draining.{drained_limit, octets_by}
-use Rattle.journal_room.specs.Rooms.{AreWithinRoom, FitsBy}
+use Rattle.journal_room.specs.Rooms.{EntriesAreWithinRoom, FitsBy}
 use Rattle.channel_core.specs.States.{StateSeen}
 use Rattle.channel_core.specs.Steps.{overdue_ended}
 use Rattle.channel_core.specs.Tables.{DrainGives}
@@ -35,21 +35,21 @@ fits n m w (event.Drain link room) old new r h =
 fits n m w e old new r h = tt
 
 -- one entry more
-within_more : (es : List Entry) (x : Entry) → FitsBy x.event x.reply → AreWithinRoom es → AreWithinRoom (es ++ x ∷ [])
+within_more : (es : List Entry) (x : Entry) → FitsBy x.event x.reply → EntriesAreWithinRoom es → EntriesAreWithinRoom (es ++ x ∷ [])
 within_more [] x last all = (last, tt)
 within_more (e ∷ es) x last all = (all.0, within_more es x last all.1)
 
-within_step : (old new : CoreSeen) (s : Stamped) (r : Reply) → Steps old new s r → AreWithinRoom old.journal.entries → AreWithinRoom new.journal.entries
+within_step : (old new : CoreSeen) (s : Stamped) (r : Reply) → Steps old new s r → EntriesAreWithinRoom old.journal.entries → EntriesAreWithinRoom new.journal.entries
 within_step old new s r h all =
     let es : List Entry = old.journal.entries in
     let m : ℕ = moment_of es s in
     let x : Entry = record { moment = m; word = s.word; event = s.event; reply = r; state = applying.conn_of new.state } in
-    subst (λ (entries : List Entry). AreWithinRoom entries) (sym h.journal) (within_more es x (fits (length es + 1) m s.word s.event old.state new.state r h.by) all)
+    subst (λ (entries : List Entry). EntriesAreWithinRoom entries) (sym h.journal) (within_more es x (fits (length es + 1) m s.word s.event old.state new.state r h.by) all)
 
-within_runs : (old : CoreSeen) (events : List Stamped) (new : CoreSeen) → Runs old events new → AreWithinRoom old.journal.entries → AreWithinRoom new.journal.entries
-within_runs old [] new h all = subst (λ (c : CoreSeen). AreWithinRoom c.journal.entries) (sym h) all
+within_runs : (old : CoreSeen) (events : List Stamped) (new : CoreSeen) → Runs old events new → EntriesAreWithinRoom old.journal.entries → EntriesAreWithinRoom new.journal.entries
+within_runs old [] new h all = subst (λ (c : CoreSeen). EntriesAreWithinRoom c.journal.entries) (sym h) all
 within_runs old (s ∷ events) new h all = within_runs h.0 events new h.3 (within_step old h.0 s h.1 h.2 all)
 
 -- every list of events
-pub within_always : (authority : List ℕ) (new core : CoreSeen) (events : List Stamped) → IsNew authority new → Runs new events core → AreWithinRoom core.journal.entries
-within_always authority new core events is runs = within_runs new events core runs (subst (λ (entries : List Entry). AreWithinRoom entries) (sym is.2.journal) tt)
+pub within_always : (authority : List ℕ) (new core : CoreSeen) (events : List Stamped) → IsNew authority new → Runs new events core → EntriesAreWithinRoom core.journal.entries
+within_always authority new core events is runs = within_runs new events core runs (subst (λ (entries : List Entry). EntriesAreWithinRoom entries) (sym is.2.journal) tt)

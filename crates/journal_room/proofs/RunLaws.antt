@@ -9,7 +9,7 @@ use Rattle.lb_policy.specs.Table.{PolicySeen}
 use Rattle.policy_rack.specs.Kinds.{are_ready}
 use Rattle.channel_core.specs.Applying.{conn_of}
 use Rattle.channel_core.specs.Core.{CoreSeen, IsNewBy, Runs, Steps, moment_of}
-use Rattle.journal_room.specs.Posted.{ArePosted, IsPosted}
+use Rattle.journal_room.specs.Posted.{EventsArePosted, IsPosted}
 use Rattle.journal_room.specs.Rooms.{HadRoom, HasRoom}
 use Rattle.journal_room.specs.Runs.{HasRunBy, looks_of}
 use Rattle.journal_room.proofs.RoomLaws.{room_more}
@@ -24,7 +24,7 @@ pub runs_more : (new : CoreSeen) (events : List Stamped) (core next : CoreSeen) 
 runs_more new [] core next s r runs step = (next, r, subst (λ (c : CoreSeen). Steps c next s r) runs step, refl)
 runs_more new (e ∷ events) core next s r runs step = (runs.0, runs.1, runs.2, runs_more runs.0 events core next s r runs.3 step)
 
-pub posted_more : (events : List Stamped) (s : Stamped) → ArePosted events → IsPosted s.event → ArePosted (events ++ s ∷ [])
+pub posted_more : (events : List Stamped) (s : Stamped) → EventsArePosted events → IsPosted s.event → EventsArePosted (events ++ s ∷ [])
 posted_more [] s are is = (is, tt)
 posted_more (e ∷ events) s are is = (are.0, posted_more events s are.1 is)
 

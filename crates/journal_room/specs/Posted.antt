@@ -15,5 +15,5 @@ IsPosted (event.Begin request) = IsRequest request
 IsPosted (event.Resolved addresses config) = IsAddressList addresses
 IsPosted _ = Unit {0}
 
-abbrev pub ArePosted : List Stamped → Type 0
-ArePosted events = AllByRecursion (λ e. IsPosted e.event) events
+abbrev pub EventsArePosted : List Stamped → Type 0
+EventsArePosted events = AllByRecursion (λ e. IsPosted e.event) events

@@ -1,4 +1,4 @@
--- A channel that was given events, one behind another, each where its journal had room for it.
+-- A channel that was given events, one after another, each where its journal had room for it.
 -- Example: a new channel with `pick_first` is given one Tick. Its run has that event, and its journal one entry.
 use Rattle.std.specs.Prelude.{◌≡◌, ℕ, true, List, map}
 use Rattle.std.specs.Global.{Global}
@@ -7,7 +7,7 @@ use Rattle.grpc_base.specs.declared.kind.Kind.{Kind}
 use Rattle.lb_policy.specs.Table.{PolicySeen}
 use Rattle.policy_rack.specs.Kinds.{are_ready}
 use Rattle.channel_core.specs.Core.{CoreSeen, IsNewBy, Runs}
-use Rattle.journal_room.specs.Posted.{ArePosted}
+use Rattle.journal_room.specs.Posted.{EventsArePosted}
 use Rattle.journal_room.specs.Rooms.{HadRoom}
 
 -- what of a policy no step changes: its kind, and how many subchannels a tier of it has
@@ -24,5 +24,5 @@ pub record HasRunBy (authority : List ℕ) (policies : List PolicySeen) (events 
   pub ready : are_ready own ≡ true
   pub is_new : IsNewBy alloc authority own new
   pub runs : Runs new events core
-  pub posted : ArePosted events
+  pub posted : EventsArePosted events
   pub room : HadRoom core.journal.entries

@@ -1,4 +1,4 @@
--- What has been read of a text without a fault is the front of a JSON text.
+-- What has been read of a text without a fault is the prefix of a JSON text.
 use Rattle.std.proofs.Common.{◌≡◌, ℕ, zero, suc, ◌+◌, ◌*◌, ◌%◌, List, [], ◌∷◌, ◌++◌, true, None, refl, ap, sym, subst, ◌∙◌, inl, inr, append_assoc}
 use Rattle.json_text.specs.Tree.{Tree, number, string, list, object, Items, no_items, item_after, Members, no_members, member_after}
 use Rattle.json_text.specs.Strings.{is_between, settled, with_unit, nothing_read}

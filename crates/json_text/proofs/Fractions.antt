@@ -1,4 +1,4 @@
--- The places behind a point, summed digit by digit.
+-- The places after a point, summed digit by digit.
 use Rattle.std.proofs.Common.{◌≡◌, ℕ, zero, suc, ◌+◌, ◌-◌, ◌*◌, ◌/◌, ◌^◌, ◌<◌, ◌≤◌, List, [], ◌∷◌, Bool, true, false, refl, ap, sym, subst, ◌∙◌, inl, inr, length, arith}
 use Rattle.std.specs.Prelude.{nat_lt, ◌&&◌, ◌⊎◌}
 use Rattle.std.specs.List.{list_all}
@@ -74,14 +74,14 @@ left zero (d ∷ ds) h =
 left (suc q) (d ∷ ds) h =
     let p = both_are (is_ascii_digit d) (list_all is_ascii_digit ds) h in
     let k = left q ds p.1 in
-    let front : number_of (d ∷ ds) ≡ (d - 48) * 10 ^ length ds + number_of ds =
+    let prefix : number_of (d ∷ ds) ≡ (d - 48) * 10 ^ length ds + number_of ds =
     after_is (0 * 10 + digit_value d) ds ∙ ap (λ (x : ℕ). x * 10 ^ length ds + number_of ds) (omega (arith, value_is d p.0)) in
     let core : ((d - 48) * 10 ^ length ds + number_of ds) * 10 ^ suc q ≡ ((d - 48) * 10 ^ q + summed (10 ^ q / 10) ds) * 10 ^ suc (length ds) + 10 * k.0 =
     subst (λ (x : ℕ). ((d - 48) * 10 ^ length ds + number_of ds) * x ≡ ((d - 48) * 10 ^ q + summed (10 ^ q / 10) ds) * 10 ^ suc (length ds) + 10 * k.0) (power q)
     (subst (λ (x : ℕ). ((d - 48) * 10 ^ length ds + number_of ds) * (10 * 10 ^ q) ≡ ((d - 48) * 10 ^ q + summed (10 ^ q / 10) ds) * x + 10 * k.0) (power (length ds))
     (one_more (d - 48) (10 ^ length ds) (10 ^ q) (number_of ds) (summed (10 ^ q / 10) ds) k.0 k.1)) in (
       10 * k.0,
-      subst (λ (x : ℕ). x * 10 ^ suc q ≡ summed (10 ^ suc q / 10) (d ∷ ds) * 10 ^ length (d ∷ ds) + 10 * k.0) (sym front)
+      subst (λ (x : ℕ). x * 10 ^ suc q ≡ summed (10 ^ suc q / 10) (d ∷ ds) * 10 ^ length (d ∷ ds) + 10 * k.0) (sym prefix)
           (subst (λ (u : ℕ). ((d - 48) * 10 ^ length ds + number_of ds) * 10 ^ suc q ≡ ((d - 48) * u + summed (u / 10) ds) * 10 ^ suc (length ds) + 10 * k.0) (sym (tens q)) core),
       subst (λ (x : ℕ). 10 * k.0 < x) (power (length ds)) (omega (arith, k.2)),
     )

@@ -54,5 +54,5 @@ named_among name acc [] = or_false (is_named name acc)
     or_false false = refl
 named_among name acc (m ∷ ms) = named_among name (member_after acc m.0 (tree_of m.1)) ms ∙ or_turned (is_named name acc) (bytes_eq m.0 name) (any_named name ms)
 
-pub named_from_front : (name : List ℕ) (ms : List (List ℕ × Json)) → is_named name (members_of ms) ≡ any_named name ms
-named_from_front name ms = named_among name no_members ms
+pub named_from_prefix : (name : List ℕ) (ms : List (List ℕ × Json)) → is_named name (members_of ms) ≡ any_named name ms
+named_from_prefix name ms = named_among name no_members ms

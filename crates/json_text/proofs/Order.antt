@@ -15,7 +15,7 @@ use Rattle.std.proofs.lemmas.List.Folds.{list_any_at, list_any_none}
 use Rattle.std.proofs.lemmas.List.Sorted.{list_any-IsPermutation, IsPermutation-insert, IsNonDecreasingBy-insert, All-permutation}
 use Rattle.std.proofs.lemmas.Map.Text.{is_eq-slice_cmp}
 use Rattle.std.proofs.lemmas.Slice.Eq.{bytes_eq-Decides}
-use Rattle.json_text.specs.Order.{name_at, any_named, place_cmp, AreWithin, HaveAll, AreRising, placed}
+use Rattle.json_text.specs.Order.{name_at, any_named, place_cmp, PlacesAreWithin, HaveAll, NamesAreRising, placed}
 
 All-insert : (P : ℕ → Type 0) (xs : List ℕ) (i x : ℕ) → All P xs → P x → All P (insert xs i x)
 All-insert P xs i x h p = All-permutation P (x ∷ xs) (insert xs i x) (IsPermutation-insert xs i x) (λ k d below. first k d below)
@@ -46,10 +46,10 @@ higher : (x y q : List ℕ) → slice_cmp nat_cmp x y ≡ Greater → ordering_i
 higher x y q e = lower y x q (nat_list_cmp_total.antisymm y x ∙ ap ordering_reverse e)
 
 module _ {V : Type 0} where
-  name_front : (ms : List (List ℕ × V)) (m : List ℕ × V) (i : ℕ) → i < length ms → name_at (ms ++ m ∷ []) i ≡ name_at ms i
-  name_front [] m i h = absurd (omega arith)
-  name_front (x ∷ ms) m zero h = refl
-  name_front (x ∷ ms) m (suc i) h = name_front ms m i (omega arith)
+  name_prefix : (ms : List (List ℕ × V)) (m : List ℕ × V) (i : ℕ) → i < length ms → name_at (ms ++ m ∷ []) i ≡ name_at ms i
+  name_prefix [] m i h = absurd (omega arith)
+  name_prefix (x ∷ ms) m zero h = refl
+  name_prefix (x ∷ ms) m (suc i) h = name_prefix ms m i (omega arith)
 
   name_last : (ms : List (List ℕ × V)) (m : List ℕ × V) → name_at (ms ++ m ∷ []) (length ms) ≡ m.0
   name_last [] m = refl
@@ -68,7 +68,7 @@ module _ {V : Type 0} where
   is_named_at ms name i r e = sym (is_eq-slice_cmp (name_at ms i) name) ∙ ap is_eq e
 
   -- The search finds the name if a member has it.
-  pub search_finds : (ms : List (List ℕ × V)) (order name : List ℕ) (r : Result ℕ ℕ) → HaveAll ms order → AreRising ms order
+  pub search_finds : (ms : List (List ℕ × V)) (order name : List ℕ) (r : Result ℕ ℕ) → HaveAll ms order → NamesAreRising ms order
       → IsSearchInRange r (length order) → IsBinarySearchResult (place_cmp ms name) order r → is_ok r ≡ any_named name ms
   search_finds ms order name (Ok i) all rising bound position =
       sym (all name ∙ list_any_at (λ j. bytes_eq (name_at ms j) name) order i 0 bound (is_named_at ms name (get_or order i 0) Equal (position 0)))
@@ -86,25 +86,25 @@ module _ {V : Type 0} where
   name_of_item (x ∷ ms) zero d h = refl
   name_of_item (x ∷ ms) (suc i) d h = name_of_item ms i d (omega arith)
 
-  pub no_name_behind : (ms : List (List ℕ × V)) (i : ℕ) → length ms ≤ i → name_at ms i ≡ []
-  no_name_behind [] i h = refl
-  no_name_behind (x ∷ ms) zero h = absurd (omega arith)
-  no_name_behind (x ∷ ms) (suc i) h = no_name_behind ms i (omega arith)
+  pub no_name_after : (ms : List (List ℕ × V)) (i : ℕ) → length ms ≤ i → name_at ms i ≡ []
+  no_name_after [] i h = refl
+  no_name_after (x ∷ ms) zero h = absurd (omega arith)
+  no_name_after (x ∷ ms) (suc i) h = no_name_after ms i (omega arith)
 
   -- One member more.
-  within_same : (ms : List (List ℕ × V)) (m : List ℕ × V) (order : List ℕ) → AreWithin ms order → AreWithin (ms ++ m ∷ []) order
+  within_same : (ms : List (List ℕ × V)) (m : List ℕ × V) (order : List ℕ) → PlacesAreWithin ms order → PlacesAreWithin (ms ++ m ∷ []) order
   within_same ms m order h = λ k d below. omega (arith, length-append ms (m ∷ []), h k d below)
 
-  within_placed : (ms : List (List ℕ × V)) (m : List ℕ × V) (order : List ℕ) (r : Result ℕ ℕ) → AreWithin ms order → AreWithin (ms ++ m ∷ []) (placed r order (length ms))
+  within_placed : (ms : List (List ℕ × V)) (m : List ℕ × V) (order : List ℕ) (r : Result ℕ ℕ) → PlacesAreWithin ms order → PlacesAreWithin (ms ++ m ∷ []) (placed r order (length ms))
   within_placed ms m order (Ok i) h = within_same ms m order h
   within_placed ms m order (Err i) h =
       All-insert (λ j. j < length (ms ++ m ∷ [])) order i (length ms) (within_same ms m order h) (omega (arith, length-append ms (m ∷ [])))
 
-  same_names : (ms : List (List ℕ × V)) (m : List ℕ × V) (order name : List ℕ) → AreWithin ms order
+  same_names : (ms : List (List ℕ × V)) (m : List ℕ × V) (order name : List ℕ) → PlacesAreWithin ms order
       → list_any (λ i. bytes_eq (name_at (ms ++ m ∷ []) i) name) order ≡ list_any (λ i. bytes_eq (name_at ms i) name) order
-  same_names ms m order name h = any_same _ _ order (λ k d below. ap (λ (n : List ℕ). bytes_eq n name) (name_front ms m (get_or order k d) (h k d below)))
+  same_names ms m order name h = any_same _ _ order (λ k d below. ap (λ (n : List ℕ). bytes_eq n name) (name_prefix ms m (get_or order k d) (h k d below)))
 
-  whole_placed : (ms : List (List ℕ × V)) (m : List ℕ × V) (order : List ℕ) (r : Result ℕ ℕ) → AreWithin ms order → HaveAll ms order
+  whole_placed : (ms : List (List ℕ × V)) (m : List ℕ × V) (order : List ℕ) (r : Result ℕ ℕ) → PlacesAreWithin ms order → HaveAll ms order
       → (is_ok r ≡ true → any_named m.0 ms ≡ true) → HaveAll (ms ++ m ∷ []) (placed r order (length ms))
   whole_placed ms m order (Ok i) h all twice = λ name. named_last name ms m ∙ absorbed name (bytes_eq m.0 name) refl ∙ all name ∙ sym (same_names ms m order name h)
     where
@@ -118,9 +118,9 @@ module _ {V : Type 0} where
 
   same_index : (ms : List (List ℕ × V)) (m : List ℕ × V) (name : List ℕ) (i : ℕ) → i < length ms
       → ordering_index (place_cmp (ms ++ m ∷ []) name i) ≡ ordering_index (place_cmp ms name i)
-  same_index ms m name i h = ap (λ (n : List ℕ). ordering_index (slice_cmp nat_cmp n name)) (name_front ms m i h)
+  same_index ms m name i h = ap (λ (n : List ℕ). ordering_index (slice_cmp nat_cmp n name)) (name_prefix ms m i h)
 
-  rising_same : (ms : List (List ℕ × V)) (m : List ℕ × V) (order : List ℕ) → AreWithin ms order → AreRising ms order → AreRising (ms ++ m ∷ []) order
+  rising_same : (ms : List (List ℕ × V)) (m : List ℕ × V) (order : List ℕ) → PlacesAreWithin ms order → NamesAreRising ms order → NamesAreRising (ms ++ m ∷ []) order
   rising_same ms m order h rising = λ name j k d le below.
       omega (arith, same_index ms m name (get_or order j d) (h j d (omega arith)), same_index ms m name (get_or order k d) (h k d below), rising name j k d le below)
 
@@ -128,8 +128,8 @@ module _ {V : Type 0} where
       → ordering_index (place_cmp (ms ++ m ∷ []) name (length ms)) ≡ ordering_index (slice_cmp nat_cmp m.0 name)
   last_index ms m name = ap (λ (n : List ℕ). ordering_index (slice_cmp nat_cmp n name)) (name_last ms m)
 
-  rising_placed : (ms : List (List ℕ × V)) (m : List ℕ × V) (order : List ℕ) (r : Result ℕ ℕ) → AreWithin ms order → AreRising ms order
-      → IsSearchInRange r (length order) → IsBinarySearchResult (place_cmp ms m.0) order r → AreRising (ms ++ m ∷ []) (placed r order (length ms))
+  rising_placed : (ms : List (List ℕ × V)) (m : List ℕ × V) (order : List ℕ) (r : Result ℕ ℕ) → PlacesAreWithin ms order → NamesAreRising ms order
+      → IsSearchInRange r (length order) → IsBinarySearchResult (place_cmp ms m.0) order r → NamesAreRising (ms ++ m ∷ []) (placed r order (length ms))
   rising_placed ms m order (Ok i) h rising bound position = rising_same ms m order h rising
   rising_placed ms m order (Err i) h rising bound position = λ name.
       IsNonDecreasingBy-insert (λ j. ordering_index (place_cmp (ms ++ m ∷ []) name j)) order i (length ms)
@@ -148,12 +148,12 @@ module _ {V : Type 0} where
       ))
 
   pub one_more : (ms new : List (List ℕ × V)) (m : List ℕ × V) (order after : List ℕ) (r : Result ℕ ℕ)
-      → new ≡ ms ++ m ∷ [] → after ≡ placed r order (length ms) → AreWithin ms order → HaveAll ms order → AreRising ms order
+      → new ≡ ms ++ m ∷ [] → after ≡ placed r order (length ms) → PlacesAreWithin ms order → HaveAll ms order → NamesAreRising ms order
       → IsSearchInRange r (length order) → IsBinarySearchResult (place_cmp ms m.0) order r
-      → AreWithin new after × HaveAll new after × AreRising new after
+      → PlacesAreWithin new after × HaveAll new after × NamesAreRising new after
   one_more ms new m order after r e f h all rising bound position =
-      subst (λ (x : List (List ℕ × V)). AreWithin x after × HaveAll x after × AreRising x after) (sym e)
-      (subst (λ (x : List ℕ). AreWithin (ms ++ m ∷ []) x × HaveAll (ms ++ m ∷ []) x × AreRising (ms ++ m ∷ []) x) (sym f) (
+      subst (λ (x : List (List ℕ × V)). PlacesAreWithin x after × HaveAll x after × NamesAreRising x after) (sym e)
+      (subst (λ (x : List ℕ). PlacesAreWithin (ms ++ m ∷ []) x × HaveAll (ms ++ m ∷ []) x × NamesAreRising (ms ++ m ∷ []) x) (sym f) (
         within_placed ms m order r h,
         whole_placed ms m order r h all (λ y. sym (search_finds ms order m.0 r all rising bound position) ∙ y),
         rising_placed ms m order r h rising bound position,

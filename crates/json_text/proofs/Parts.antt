@@ -11,19 +11,19 @@ append_nil : {X : Type 0} (xs : List X) → xs ++ [] ≡ xs
 append_nil [] = refl
 append_nil {X = X} (x ∷ xs) = ap (λ (ys : List X). x ∷ ys) (append_nil xs)
 
-items_behind : (items : Items) (vs after : List Tree) → items_onto (items_from items vs) after ≡ items_onto items (vs ++ after)
-items_behind items [] after = refl
-items_behind items (v ∷ vs) after = items_behind (item_after items v) vs after
+items_after : (items : Items) (vs after : List Tree) → items_onto (items_from items vs) after ≡ items_onto items (vs ++ after)
+items_after items [] after = refl
+items_after items (v ∷ vs) after = items_after (item_after items v) vs after
 
 pub items_back : (vs : List Tree) → items_onto (items_from no_items vs) [] ≡ vs
-items_back vs = items_behind no_items vs [] ∙ append_nil vs
+items_back vs = items_after no_items vs [] ∙ append_nil vs
 
-members_behind : (front : Members) (ms after : List (List ℕ × Tree)) → members_onto (members_from front ms) after ≡ members_onto front (ms ++ after)
-members_behind front [] after = refl
-members_behind front (m ∷ ms) after = members_behind (member_after front m.0 m.1) ms after
+members_after : (prefix : Members) (ms after : List (List ℕ × Tree)) → members_onto (members_from prefix ms) after ≡ members_onto prefix (ms ++ after)
+members_after prefix [] after = refl
+members_after prefix (m ∷ ms) after = members_after (member_after prefix m.0 m.1) ms after
 
 pub members_back : (ms : List (List ℕ × Tree)) → members_onto (members_from no_members ms) [] ≡ ms
-members_back ms = members_behind no_members ms [] ∙ append_nil ms
+members_back ms = members_after no_members ms [] ∙ append_nil ms
 
 -- the tree of a list and of an object
 pub values_of_list : (vs : Vec Json Global) → values_in (tree_of (json.List vs)) ≡ Some (map tree_of vs.items)

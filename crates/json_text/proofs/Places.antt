@@ -1,4 +1,4 @@
--- What has been read of a text is the front of one, byte by byte.
+-- What has been read of a text is the prefix of one, byte by byte.
 use Rattle.std.proofs.Common.{◌≡◌, ℕ, List, [], ◌∷◌, ◌++◌, true, false, refl, ap, sym, subst, ◌∙◌, inl, inr, append_assoc, Ok, Err, Result, length, arith}
 use Rattle.std.specs.Prelude.{◌==◌, ◌⊎◌, nat_lt}
 use Rattle.std.proofs.lemmas.Bool.Decides.{nat_tests}
@@ -7,7 +7,7 @@ use Rattle.grpc_base.specs.declared.event.JsonFault.TheVariants as fault
 use Rattle.json_text.specs.Tree.{Tree, null, boolean, number, string, list, object, Items, no_items, item_after, Members, no_members, member_after, is_named}
 use Rattle.json_text.specs.Numbers.{is_digit, number_byte}
 use Rattle.json_text.specs.Strings.{quoted_next}
-use Rattle.json_text.specs.Reading.{Parent, in_list, in_object, Stage, at_top, at_first_value, at_value, at_first_name, at_name, at_colon, after_item, after_member, in_word, in_number, in_string, in_name, at_end, State, most_levels, put, opened, go, value_byte, top_byte, first_value_byte, next_value_byte, first_name_byte, next_name_byte, colon_byte, item_byte, member_byte, end_byte, behind_number, letters_left, word_byte, digit_byte, string_goes, named, name_goes, step_at, ended}
+use Rattle.json_text.specs.Reading.{Parent, in_list, in_object, Stage, at_top, at_first_value, at_value, at_first_name, at_name, at_colon, after_item, after_member, in_word, in_number, in_string, in_name, at_end, State, most_levels, put, opened, go, value_byte, top_byte, first_value_byte, next_value_byte, first_name_byte, next_name_byte, colon_byte, item_byte, member_byte, end_byte, after_number, letters_left, word_byte, digit_byte, string_goes, named, name_goes, step_at, ended}
 use Rattle.json_text.specs.Faults.{Awaits, RepeatsName, OpensTooDeep, ExponentAt}
 use Rattle.json_text.specs.Grammar.{IsBlank, IsString, Named, IsValue, InList, BeforeItem, InObject, BeforeName, IsObject, IsText, is_blank}
 use Rattle.json_text.specs.declared.number.Part.{Part}
@@ -24,7 +24,7 @@ abbrev pub IsInside : List Parent → Type 0
 IsInside [] = ⊥
 IsInside (q ∷ ps) = Unit {0}
 
--- the front of a text up to where a value may begin
+-- the prefix of a text up to where a value may begin
 abbrev pub Await : List Parent → List ℕ → Type 0
 Await [] p = IsBlank p
 Await (in_list items ∷ ps) p = (outer inner : List ℕ) × (p ≡ outer ++ 91 ∷ inner) × Await ps outer × BeforeItem items inner × IsInside ps
@@ -44,7 +44,7 @@ abbrev pub HasMember : Members → Type 0
 HasMember no_members = ⊥
 HasMember (member_after ms k v) = Unit {0}
 
--- the front of a text up to a place
+-- the prefix of a text up to a place
 abbrev pub Holds : Stage → List Parent → List ℕ → Type 0
 Holds at_top ps p = Await ps p
 Holds at_first_value ps p = (outer inner : List ℕ) × (p ≡ outer ++ 91 ∷ inner) × Await ps outer × IsBlank inner × IsInside ps
@@ -60,7 +60,7 @@ Holds (after_item items) ps p =
 Holds (after_member ms) ps p =
     (outer inner : List ℕ) × (p ≡ outer ++ 123 ∷ inner) × Await ps outer × InObject ms inner × HasMember ms
 Holds (in_word c cs v) ps p =
-    (outer front : List ℕ) × (p ≡ outer ++ front) × Await ps outer × IsValue v (front ++ c ∷ cs) × IsInside ps
+    (outer prefix : List ℕ) × (p ≡ outer ++ prefix) × Await ps outer × IsValue v (prefix ++ c ∷ cs) × IsInside ps
 Holds (in_number q start t) ps p = (outer : List ℕ) × (p ≡ outer ++ t) × Await ps outer × IsPart q t × IsInside ps × (start ≡ length outer)
 Holds (in_string q) ps p =
     (outer t : List ℕ) × (p ≡ outer ++ 34 ∷ t) × Await ps outer × InQuoted q.spot q.read t × IsInside ps
@@ -250,16 +250,16 @@ unfolding end_byte
 end_kept at v ps p b h =
     by_if (Kept at (p ++ b ∷ [])) (is_blank b) _ _ (λ y. (ended_blank IsBlank (IsValue v) p b h.0 y, h.1)) (λ n. refl)
 
-behind_kept : (at : ℕ) (v : Tree) (ps : List Parent) (p : List ℕ) (b : ℕ) → IsInside ps → Holds (put v ps).stage (put v ps).parents p → Kept at (p ++ b ∷ []) (behind_number at v ps b)
-unfolding behind_number
-behind_kept at v [] p b i h = absurd i
-behind_kept at v (in_list items ∷ ps) p b i h = item_kept at (item_after items v) ps p b h
-behind_kept at v (in_object ms name ∷ ps) p b i h = member_kept at (member_after ms name v) ps p b h
+after_kept : (at : ℕ) (v : Tree) (ps : List Parent) (p : List ℕ) (b : ℕ) → IsInside ps → Holds (put v ps).stage (put v ps).parents p → Kept at (p ++ b ∷ []) (after_number at v ps b)
+unfolding after_number
+after_kept at v [] p b i h = absurd i
+after_kept at v (in_list items ∷ ps) p b i h = item_kept at (item_after items v) ps p b h
+after_kept at v (in_object ms name ∷ ps) p b i h = member_kept at (member_after ms name v) ps p b h
 
-letters_left_kept : (at : ℕ) (cs : List ℕ) (v : Tree) (ps : List Parent) (p outer front : List ℕ) → p ≡ outer ++ front → Await ps outer → IsValue v (front ++ cs) → IsInside ps
+letters_left_kept : (at : ℕ) (cs : List ℕ) (v : Tree) (ps : List Parent) (p outer prefix : List ℕ) → p ≡ outer ++ prefix → Await ps outer → IsValue v (prefix ++ cs) → IsInside ps
     → Kept at p (letters_left cs v ps)
-letters_left_kept at [] v ps p outer front e h is i = put_kept at v ps outer p front e h (subst (IsValue v) (sym (append_nil front)) is) (inside_may v ps i)
-letters_left_kept at (c ∷ cs) v ps p outer front e h is i = (outer, front, e, h, is, i)
+letters_left_kept at [] v ps p outer prefix e h is i = put_kept at v ps outer p prefix e h (subst (IsValue v) (sym (append_nil prefix)) is) (inside_may v ps i)
+letters_left_kept at (c ∷ cs) v ps p outer prefix e h is i = (outer, prefix, e, h, is, i)
 
 word_kept : (at c : ℕ) (cs : List ℕ) (v : Tree) (ps : List Parent) (p : List ℕ) (b : ℕ) → Holds (in_word c cs v) ps p → Kept at (p ++ b ∷ []) (word_byte at c cs v ps b)
 unfolding word_byte
@@ -274,8 +274,8 @@ digit_kept : (at start : ℕ) (q : Part) (t : List ℕ) (ps : List Parent) (p : 
 unfolding digit_byte
 digit_kept at start q t ps p b (digit.Inside r) is h =
     (h.0, snoc2 p h.0 t b h.1, h.2, subst (PartGoes t b) is (part_goes q t b h.3), h.4, h.5)
-digit_kept at start q t ps p b digit.Behind is h =
-    behind_kept at (number t) ps p b h.4
+digit_kept at start q t ps p b digit.After is h =
+    after_kept at (number t) ps p b h.4
     (subst (λ (x : List ℕ). Holds (put (number t) ps).stage (put (number t) ps).parents x) (sym h.1)
     (put_holds (number t) ps h.0 t h.2 (refl, inl (subst (PartGoes t b) is (part_goes q t b h.3))) (inside_may (number t) ps h.4)))
 digit_kept at start q t ps p b digit.Exponent is h =
@@ -285,14 +285,14 @@ digit_kept at start q t ps p b digit.Wrong is h = refl
 string_kept : (at : ℕ) (ps : List Parent) (p outer t : List ℕ) (b : ℕ) (n : QuotedNext) → QuotedGoes t b n → p ≡ outer ++ 34 ∷ t → Await ps outer → IsInside ps
     → Kept at (p ++ b ∷ []) (string_goes at n ps)
 unfolding string_goes
-string_kept at ps p outer t b (next.Goes q) is e h i = (outer, t ++ b ∷ [], snoc2 p outer (34 ∷ t) b e, h, is, i)
+string_kept at ps p outer t b (next.Continues q) is e h i = (outer, t ++ b ∷ [], snoc2 p outer (34 ∷ t) b e, h, is, i)
 string_kept at ps p outer t b (next.Closed s) is e h i = put_kept at (string s) ps outer _ (34 ∷ (t ++ b ∷ [])) (snoc2 p outer (34 ∷ t) b e) h is (inside_may (string s) ps i)
 string_kept at ps p outer t b next.Wrong is e h i = refl
 
 name_kept : (at start : ℕ) (ms : Members) (ps : List Parent) (p outer f t : List ℕ) (b : ℕ) (n : QuotedNext) → QuotedGoes t b n → p ≡ outer ++ (123 ∷ (f ++ 34 ∷ t)) → Await ps outer → BeforeName ms f → start ≡ length (outer ++ 123 ∷ f)
     → Kept at (p ++ b ∷ []) (name_goes at ms start n ps)
 unfolding name_goes named
-name_kept at start ms ps p outer f t b (next.Goes q) is e h before begun = (outer, f, t ++ b ∷ [], snoc3 p outer (123 ∷ f) (34 ∷ t) b e, h, before, is, begun)
+name_kept at start ms ps p outer f t b (next.Continues q) is e h before begun = (outer, f, t ++ b ∷ [], snoc3 p outer (123 ∷ f) (34 ∷ t) b e, h, before, is, begun)
 name_kept at start ms ps p outer f t b (next.Closed s) is e h before begun =
     by_if (Kept at (p ++ b ∷ [])) (is_named s ms) _ _
     (λ y. (length ps, ms, s, outer, f, 34 ∷ (t ++ b ∷ []), snoc3 p outer (123 ∷ f) (34 ∷ t) b e, begun, awaits ps outer h, before, is, y))

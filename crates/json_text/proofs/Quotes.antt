@@ -1,4 +1,4 @@
--- What has been read of a string is the front of one, byte by byte.
+-- What has been read of a string is the prefix of one, byte by byte.
 use Rattle.std.proofs.Common.{◌≡◌, ℕ, zero, suc, ◌+◌, ◌-◌, ◌*◌, ◌%◌, ◌<◌, List, [], ◌∷◌, ◌++◌, Bool, true, false, Option, Some, None, refl, ap, sym, subst, ◌∙◌, inl, inr, append_assoc, arith}
 use Rattle.std.specs.Prelude.{◌==◌, ◌||◌, if◌then◌else◌, nat_lt}
 use Rattle.std.proofs.lemmas.Bool.Decides.{nat_tests}
@@ -26,7 +26,7 @@ HexFits zero value part =
     → (x y z : ℕ) × (part ++ b ∷ [] ≡ 92 ∷ 117 ∷ x ∷ y ∷ z ∷ b ∷ []) × (hex_value x y z b ≡ Some ((value * 16 + d) % 65536))
 HexFits (suc m) value part = (b d : ℕ) → hex_digit b ≡ Some d → HexFits m ((value * 16 + d) % 65536) (part ++ b ∷ [])
 
--- the front of a string, behind its opening quote
+-- the prefix of a string, after its opening quote
 abbrev pub InQuoted : Spot → Read → List ℕ → Type 0
 InQuoted spot.Between r t = Chars t r
 InQuoted (spot.Tail low high more) r t =
@@ -37,7 +37,7 @@ InQuoted (spot.Hex left value) r t = (u part : List ℕ) × (t ≡ u ++ part) ×
 
 -- what one byte more makes of it
 abbrev pub QuotedGoes : List ℕ → ℕ → QuotedNext → Type 0
-QuotedGoes t b (next.Goes q) = InQuoted q.spot q.read (t ++ b ∷ [])
+QuotedGoes t b (next.Continues q) = InQuoted q.spot q.read (t ++ b ∷ [])
 QuotedGoes t b (next.Closed s) = IsString s (34 ∷ (t ++ b ∷ []))
 QuotedGoes t b next.Wrong = Unit {0}
 
@@ -84,7 +84,7 @@ four b₁ d₁ h₁ b₂ d₂ h₂ b₃ d₃ h₃ b₄ d₄ h₄ =
 hex_begins : HexFits 3 0 (92 ∷ 117 ∷ [])
 hex_begins b₁ d₁ h₁ b₂ d₂ h₂ b₃ d₃ h₃ b₄ d₄ h₄ = (b₁, b₂, b₃, refl, four b₁ d₁ h₁ b₂ d₂ h₂ b₃ d₃ h₃ b₄ d₄ h₄)
 
--- a letter behind a backslash
+-- a letter after a backslash
 pub letter : (r : Read) (t u : List ℕ) (b unit : ℕ) → t ≡ u ++ 92 ∷ [] → Chars u r → escape_value b ≡ Some unit → Chars (t ++ b ∷ []) (with_unit r unit)
 letter r t u b unit e h is =
     chars_as (t ++ b ∷ []) (u ++ spelling (escape b)) (with_unit r unit) (with_unit r unit) (snoc2 t u (92 ∷ []) b e) refl

@@ -1,4 +1,4 @@
--- A JSON text is read to its end without a fault of syntax, unless another fault is told first: the steps.
+-- A JSON text is read to its end without a fault of syntax, unless another fault is reported first: the steps.
 use Rattle.std.proofs.Common.{◌≡◌, ℕ, ◌+◌, List, [], ◌∷◌, ◌++◌, Bool, true, false, refl, ap, sym, subst, ◌∙◌, inl, inr, Ok, Err, Result, length, arith}
 use Rattle.std.proofs.lemmas.Bool.Decides.{nat_tests}
 use Rattle.std.specs.Prelude.{◌⊎◌, ◌≤◌, if◌then◌else◌, nat_lt}
@@ -8,7 +8,7 @@ use Rattle.json_text.specs.Reading.{Parent, Stage, at_top, at_first_value, at_va
 use Rattle.json_text.specs.Tree.{Tree, Items, Members}
 use Rattle.json_text.specs.Grammar.{IsBlank, is_blank}
 
--- a fault that is not one of syntax, which only this lets be told
+-- a fault that is not one of syntax, which only this lets be reported
 abbrev pub IsOther : Type 0 → {A : Type 0} → Result A JsonFault → Type 0
 IsOther Q (Ok x) = ⊥
 IsOther Q (Err (fault.Syntax k)) = ⊥
@@ -21,7 +21,7 @@ IsOther Q (Err fault.NoMemory) = ⊥
 abbrev pub at_stage : Stage → List Parent → State
 at_stage stage parents = record { stage = stage; parents = parents }
 
--- from one place with these bytes to another with those, or to another fault, which only Q lets be told
+-- from one place with these bytes to another with those, or to another fault, which only Q lets be reported
 abbrev pub Reaches : Type 0 → ℕ → State → List ℕ → State → List ℕ → Type 0
 Reaches Q at s bs t cs = ((later : ℕ) × (run at s bs ≡ run later t cs)) ⊎ IsOther Q (run at s bs)
 

@@ -1,4 +1,4 @@
--- A number is read to its end, or its exponent is told.
+-- A number is read to its end, or its exponent is reported.
 use Rattle.std.proofs.Common.{◌≡◌, ℕ, ◌+◌, List, [], ◌∷◌, ◌++◌, Bool, true, false, refl, ap, sym, subst, ◌∙◌, inl, inr, append_assoc, Ok, Result, arith}
 use Rattle.std.specs.Prelude.{◌==◌, ◌||◌}
 use Rattle.std.proofs.lemmas.Bool.Decides.{nat_tests}
@@ -6,7 +6,7 @@ use Rattle.grpc_base.specs.declared.event.JsonFault.{JsonFault}
 use Rattle.grpc_base.specs.declared.event.JsonFault.TheVariants as fault
 use Rattle.json_text.specs.Tree.{Tree, number}
 use Rattle.json_text.specs.Numbers.{is_digit, is_e, is_sign, number_byte}
-use Rattle.json_text.specs.Reading.{Parent, in_list, in_object, at_value, in_number, State, put, step_at, step, run, ◌>>=◌, next_value_byte, value_byte, digit_byte, behind_number}
+use Rattle.json_text.specs.Reading.{Parent, in_list, in_object, at_value, in_number, State, put, step_at, step, run, ◌>>=◌, next_value_byte, value_byte, digit_byte, after_number}
 use Rattle.json_text.specs.Grammar.{AreDigits, IsDigits, IsMinus, IsWhole, IsInteger, IsPlain, IsPlusMinus, HasExponent, IsNumber, is_blank}
 use Rattle.json_text.specs.declared.number.Part.{Part}
 use Rattle.json_text.specs.declared.number.Part.TheVariants as part
@@ -20,9 +20,9 @@ use Rattle.json_text.proofs.Reach.{at_stage, Reaches, here, join, along, one, ot
 abbrev pub is_delim : ℕ → Bool
 is_delim b = is_blank b || (b == 44) || (b == 93) || (b == 125)
 
-abbrev pub IsBehind : List ℕ → Type 0
-IsBehind [] = ⊥
-IsBehind (b ∷ bs) = is_delim b ≡ true
+abbrev pub IsAfter : List ℕ → Type 0
+IsAfter [] = ⊥
+IsAfter (b ∷ bs) = is_delim b ≡ true
 
 abbrev pub digits_at : Part → ℕ → List ℕ → List Parent → State
 digits_at q start t ps = at_stage (in_number q start t) ps
@@ -36,19 +36,19 @@ inside Q at q r start t ps b bs e =
 exponent : (Q : Type 0) → (at : ℕ) (q : Part) (start : ℕ) (t : List ℕ) (ps : List Parent) (b : ℕ) (bs cs : List ℕ) (s : State) → number_byte q b ≡ byte.Exponent → Q
     → Reaches Q at (digits_at q start t ps) (b ∷ bs) s cs
 unfolding digit_byte
-exponent Q at q start t ps b bs cs s e told =
-    other Q at (digits_at q start t ps) s b bs cs (fault.Number start) (ap (λ (n : NumberByte). digit_byte at n start t ps b) e) told
+exponent Q at q start t ps b bs cs s e reported =
+    other Q at (digits_at q start t ps) s b bs cs (fault.Number start) (ap (λ (n : NumberByte). digit_byte at n start t ps b) e) reported
 
-put_step : (at : ℕ) (v : Tree) (ps : List Parent) (b : ℕ) → IsInside ps → behind_number at v ps b ≡ step at (put v ps) b
-unfolding behind_number
+put_step : (at : ℕ) (v : Tree) (ps : List Parent) (b : ℕ) → IsInside ps → after_number at v ps b ≡ step at (put v ps) b
+unfolding after_number
 put_step at v [] b i = absurd i
 put_step at v (in_list items ∷ ps) b i = refl
 put_step at v (in_object ms name ∷ ps) b i = refl
 
-behind : (Q : Type 0) → (at : ℕ) (q : Part) (start : ℕ) (t : List ℕ) (ps : List Parent) (b : ℕ) (bs : List ℕ) → IsInside ps → number_byte q b ≡ byte.Behind
+afterwards : (Q : Type 0) → (at : ℕ) (q : Part) (start : ℕ) (t : List ℕ) (ps : List Parent) (b : ℕ) (bs : List ℕ) → IsInside ps → number_byte q b ≡ byte.After
     → Reaches Q at (digits_at q start t ps) (b ∷ bs) (put (number t) ps) (b ∷ bs)
 unfolding digit_byte
-behind Q at q start t ps b bs i e =
+afterwards Q at q start t ps b bs i e =
     inl (at, ap (λ (r : Result State JsonFault). r >>= λ u. run (at + 1) u bs) (ap (λ (n : NumberByte). digit_byte at n start t ps b) e ∙ put_step at (number t) ps b i))
 
 landing : (Q : Type 0) → (at : ℕ) (s : State) (bs : List ℕ) (q : Part) (start : ℕ) (t u : List ℕ) (ps : List Parent) (cs : List ℕ) → t ≡ u
@@ -72,7 +72,7 @@ fraction_digit b h = then_is (is_digit b) _ _ h
 
 -- where a number may end
 abbrev CanStop : Part → Type 0
-CanStop q = ((d : ℕ) → is_delim d ≡ true → number_byte q d ≡ byte.Behind) × ((e : ℕ) → is_e e ≡ true → number_byte q e ≡ byte.Inside part.Mark)
+CanStop q = ((d : ℕ) → is_delim d ≡ true → number_byte q d ≡ byte.After) × ((e : ℕ) → is_e e ≡ true → number_byte q e ≡ byte.Inside part.Mark)
 
 delim_digit : (d : ℕ) → is_delim d ≡ true → is_digit d ≡ false
 delim_digit d h = grind (arith, nat_tests)
@@ -98,7 +98,7 @@ whole_stops = (λ d h. else_is (is_digit d) _ _ (delim_digit d h) ∙ zero_stops
 fraction_stops : CanStop part.Fraction
 fraction_stops = (λ d h. else_is (is_digit d) _ _ (delim_digit d h) ∙ else_is (is_e d) _ _ (delim_e d h), λ e h. else_is (is_digit e) _ _ (e_digit e h) ∙ then_is (is_e e) _ _ h)
 
--- the first digit of a number, and one behind a minus
+-- the first digit of a number, and one after a minus
 digit_first : (at : ℕ) (ps : List Parent) (d : ℕ) → (d == 48) ≡ false → is_digit d ≡ true → step_at at at_value ps d ≡ Ok (digits_at part.Whole at (d ∷ []) ps)
 unfolding next_value_byte value_byte
 digit_first at ps d n y =
@@ -119,8 +119,8 @@ minus_digit : (d : ℕ) → (d == 48) ≡ false → is_digit d ≡ true → numb
 minus_digit d n y = else_is (d == 48) _ _ n ∙ then_is (is_digit d) _ _ y
 
 -- what follows at a place inside a number
-abbrev Goes : (Q : Type 0) → List ℕ → List Parent → List ℕ → State → List ℕ → Type 0
-Goes Q t ps bs s cs = (later start : ℕ) (q : Part) → CanStop q → Reaches Q later (digits_at q start t ps) bs s cs
+abbrev Continues : (Q : Type 0) → List ℕ → List Parent → List ℕ → State → List ℕ → Type 0
+Continues Q t ps bs s cs = (later start : ℕ) (q : Part) → CanStop q → Reaches Q later (digits_at q start t ps) bs s cs
 
 abbrev GoesWhole : (Q : Type 0) → List ℕ → List Parent → List ℕ → State → List ℕ → Type 0
 GoesWhole Q t ps bs s cs =
@@ -147,17 +147,17 @@ minus_reach : (Q : Type 0) → (d : ℕ) (ds : List ℕ) → IsWhole (d ∷ ds) 
 minus_reach Q d ds w at ps bs s cs k =
     join Q at (at_stage at_value ps) (digits_at part.Minus at (45 ∷ []) ps) s (45 ∷ d ∷ (ds ++ bs)) (d ∷ (ds ++ bs)) cs
     (one Q at (at_stage at_value ps) (digits_at part.Minus at (45 ∷ []) ps) 45 (d ∷ (ds ++ bs)) (minus_first at ps))
-    (λ later. behind_minus w later)
+    (λ later. after_minus w later)
   where
-    behind_minus : IsWhole (d ∷ ds) → (later : ℕ) → Reaches Q later (digits_at part.Minus at (45 ∷ []) ps) (d ∷ (ds ++ bs)) s cs
-    behind_minus (inl h) later =
+    after_minus : IsWhole (d ∷ ds) → (later : ℕ) → Reaches Q later (digits_at part.Minus at (45 ∷ []) ps) (d ∷ (ds ++ bs)) s cs
+    after_minus (inl h) later =
         let text : d ∷ (ds ++ bs) ≡ 48 ∷ bs = (let a = h.0 in let b = h.1 in cc) in
         let seen : 45 ∷ 48 ∷ [] ≡ 45 ∷ d ∷ ds = (let a = h.0 in let b = h.1 in cc) in
         along Q later (digits_at part.Minus at (45 ∷ []) ps) s _ (48 ∷ bs) cs text
         (join Q later (digits_at part.Minus at (45 ∷ []) ps) (digits_at part.Zero at (45 ∷ 48 ∷ []) ps) s (48 ∷ bs) bs cs
         (inside Q later part.Minus part.Zero at (45 ∷ []) ps 48 bs refl)
         (λ end. subst (λ (x : List ℕ). Reaches Q end (digits_at part.Zero at x ps) bs s cs) (sym seen) (k end at part.Zero zero_stops refl)))
-    behind_minus (inr h) later =
+    after_minus (inr h) later =
         join Q later (digits_at part.Minus at (45 ∷ []) ps) (digits_at part.Whole at (45 ∷ d ∷ []) ps) s (d ∷ (ds ++ bs)) (ds ++ bs) cs
         (inside Q later part.Minus part.Whole at (45 ∷ []) ps d (ds ++ bs) (minus_digit d h.0 h.1))
         (λ end. join Q end (digits_at part.Whole at (45 ∷ d ∷ []) ps) (digits_at part.Whole at (45 ∷ d ∷ ds) ps) s (ds ++ bs) bs cs
@@ -179,22 +179,22 @@ integer_reach Q t h at ps bs s cs k =
     along Q at (at_stage at_value ps) s (t ++ bs) ((h.0 ++ h.1) ++ bs) cs (ap (λ (x : List ℕ). x ++ bs) h.2)
     (integer_parts Q h.0 h.1 h.3 h.4 at ps bs s cs (λ later start q a b. subst (λ (x : List ℕ). Reaches Q later (digits_at q start x ps) bs s cs) h.2 (k later start q a b)))
 
-plain_reach : (Q : Type 0) → (t : List ℕ) → IsPlain t → (at : ℕ) (ps : List Parent) (bs : List ℕ) (s : State) (cs : List ℕ) → Goes Q t ps bs s cs
+plain_reach : (Q : Type 0) → (t : List ℕ) → IsPlain t → (at : ℕ) (ps : List Parent) (bs : List ℕ) (s : State) (cs : List ℕ) → Continues Q t ps bs s cs
     → Reaches Q at (at_stage at_value ps) (t ++ bs) s cs
 plain_reach Q t (inl h) at ps bs s cs k = integer_reach Q t h at ps bs s cs (λ later start q a b. k later start q a)
-plain_reach Q t (inr (front, [], e, int, ds)) at ps bs s cs k = absurd ds
-plain_reach Q t (inr (front, (d ∷ digits), e, int, ds)) at ps bs s cs k =
-    along Q at (at_stage at_value ps) s (t ++ bs) (front ++ (46 ∷ d ∷ (digits ++ bs))) cs
-    (ap (λ (x : List ℕ). x ++ bs) e ∙ append_assoc front (46 ∷ d ∷ digits) bs)
-    (integer_reach Q front int at ps (46 ∷ d ∷ (digits ++ bs)) s cs (λ later start q a b.
-    join Q later (digits_at q start front ps) (digits_at part.Point start (front ++ 46 ∷ []) ps) s (46 ∷ d ∷ (digits ++ bs)) (d ∷ (digits ++ bs)) cs
-    (inside Q later q part.Point start front ps 46 (d ∷ (digits ++ bs)) b)
-    (λ at₂. join Q at₂ (digits_at part.Point start (front ++ 46 ∷ []) ps) (digits_at part.Fraction start ((front ++ 46 ∷ []) ++ d ∷ []) ps) s (d ∷ (digits ++ bs)) (digits ++ bs) cs
-    (inside Q at₂ part.Point part.Fraction start (front ++ 46 ∷ []) ps d (digits ++ bs) (then_is (is_digit d) _ _ ds.0))
-    (λ at₃. join Q at₃ (digits_at part.Fraction start ((front ++ 46 ∷ []) ++ d ∷ []) ps) (digits_at part.Fraction start (((front ++ 46 ∷ []) ++ d ∷ []) ++ digits) ps) s (digits ++ bs) bs cs
-    (digits_reach Q part.Fraction fraction_digit digits ds.1 at₃ start ((front ++ 46 ∷ []) ++ d ∷ []) ps bs)
+plain_reach Q t (inr (prefix, [], e, int, ds)) at ps bs s cs k = absurd ds
+plain_reach Q t (inr (prefix, (d ∷ digits), e, int, ds)) at ps bs s cs k =
+    along Q at (at_stage at_value ps) s (t ++ bs) (prefix ++ (46 ∷ d ∷ (digits ++ bs))) cs
+    (ap (λ (x : List ℕ). x ++ bs) e ∙ append_assoc prefix (46 ∷ d ∷ digits) bs)
+    (integer_reach Q prefix int at ps (46 ∷ d ∷ (digits ++ bs)) s cs (λ later start q a b.
+    join Q later (digits_at q start prefix ps) (digits_at part.Point start (prefix ++ 46 ∷ []) ps) s (46 ∷ d ∷ (digits ++ bs)) (d ∷ (digits ++ bs)) cs
+    (inside Q later q part.Point start prefix ps 46 (d ∷ (digits ++ bs)) b)
+    (λ at₂. join Q at₂ (digits_at part.Point start (prefix ++ 46 ∷ []) ps) (digits_at part.Fraction start ((prefix ++ 46 ∷ []) ++ d ∷ []) ps) s (d ∷ (digits ++ bs)) (digits ++ bs) cs
+    (inside Q at₂ part.Point part.Fraction start (prefix ++ 46 ∷ []) ps d (digits ++ bs) (then_is (is_digit d) _ _ ds.0))
+    (λ at₃. join Q at₃ (digits_at part.Fraction start ((prefix ++ 46 ∷ []) ++ d ∷ []) ps) (digits_at part.Fraction start (((prefix ++ 46 ∷ []) ++ d ∷ []) ++ digits) ps) s (digits ++ bs) bs cs
+    (digits_reach Q part.Fraction fraction_digit digits ds.1 at₃ start ((prefix ++ 46 ∷ []) ++ d ∷ []) ps bs)
     (λ at₄. subst (λ (x : List ℕ). Reaches Q at₄ (digits_at part.Fraction start x ps) bs s cs)
-    (e ∙ sym (append_assoc (front ++ 46 ∷ []) (d ∷ []) digits ∙ append_assoc front (46 ∷ []) (d ∷ digits)))
+    (e ∙ sym (append_assoc (prefix ++ 46 ∷ []) (d ∷ []) digits ∙ append_assoc prefix (46 ∷ []) (d ∷ digits)))
     (k at₄ start part.Fraction fraction_stops))))))
 
 sign_digit : (d : ℕ) → is_digit d ≡ true → is_sign d ≡ false
@@ -202,26 +202,26 @@ sign_digit d h = grind (arith, nat_tests)
 
 mark_reach : (Q : Type 0) → (sign digits : List ℕ) → IsPlusMinus sign → IsDigits digits → Q → (at start : ℕ) (t : List ℕ) (ps : List Parent) (bs : List ℕ) (s : State) (cs : List ℕ)
     → Reaches Q at (digits_at part.Mark start t ps) ((sign ++ digits) ++ bs) s cs
-mark_reach Q sign [] m w told at start t ps bs s cs = absurd w
-mark_reach Q [] (d ∷ ds) m w told at start t ps bs s cs =
-    exponent Q at part.Mark start t ps d (ds ++ bs) cs s (else_is (is_sign d) _ _ (sign_digit d w.0) ∙ then_is (is_digit d) _ _ w.0) told
-mark_reach Q (c ∷ []) (d ∷ ds) m w told at start t ps bs s cs =
+mark_reach Q sign [] m w reported at start t ps bs s cs = absurd w
+mark_reach Q [] (d ∷ ds) m w reported at start t ps bs s cs =
+    exponent Q at part.Mark start t ps d (ds ++ bs) cs s (else_is (is_sign d) _ _ (sign_digit d w.0) ∙ then_is (is_digit d) _ _ w.0) reported
+mark_reach Q (c ∷ []) (d ∷ ds) m w reported at start t ps bs s cs =
     join Q at (digits_at part.Mark start t ps) (digits_at part.Sign start (t ++ c ∷ []) ps) s (c ∷ d ∷ (ds ++ bs)) (d ∷ (ds ++ bs)) cs
     (inside Q at part.Mark part.Sign start t ps c (d ∷ (ds ++ bs)) (then_is (is_sign c) _ _ m))
-    (λ later. exponent Q later part.Sign start (t ++ c ∷ []) ps d (ds ++ bs) cs s (then_is (is_digit d) _ _ w.0) told)
-mark_reach Q (c ∷ e ∷ sign) (d ∷ ds) m w told at start t ps bs s cs = absurd m
+    (λ later. exponent Q later part.Sign start (t ++ c ∷ []) ps d (ds ++ bs) cs s (then_is (is_digit d) _ _ w.0) reported)
+mark_reach Q (c ∷ e ∷ sign) (d ∷ ds) m w reported at start t ps bs s cs = absurd m
 
-number_stops : (Q : Type 0) → (t : List ℕ) (ps : List Parent) (bs : List ℕ) → IsInside ps → IsBehind bs → Goes Q t ps bs (put (number t) ps) bs
+number_stops : (Q : Type 0) → (t : List ℕ) (ps : List Parent) (bs : List ℕ) → IsInside ps → IsAfter bs → Continues Q t ps bs (put (number t) ps) bs
 number_stops Q t ps [] i h later start q stops = absurd h
-number_stops Q t ps (b ∷ bs) i h later start q stops = behind Q later q start t ps b bs i (stops.0 b h)
+number_stops Q t ps (b ∷ bs) i h later start q stops = afterwards Q later q start t ps b bs i (stops.0 b h)
 
-pub number_reach : (Q : Type 0) → (t : List ℕ) → IsNumber t → (HasExponent t → Q) → (at : ℕ) (ps : List Parent) (bs : List ℕ) → IsInside ps → IsBehind bs
+pub number_reach : (Q : Type 0) → (t : List ℕ) → IsNumber t → (HasExponent t → Q) → (at : ℕ) (ps : List Parent) (bs : List ℕ) → IsInside ps → IsAfter bs
     → Reaches Q at (at_stage at_value ps) (t ++ bs) (put (number t) ps) bs
-number_reach Q t (inl h) told at ps bs i b = plain_reach Q t h at ps bs (put (number t) ps) bs (number_stops Q t ps bs i b)
-number_reach Q t (inr h) told at ps bs i b =
+number_reach Q t (inl h) reported at ps bs i b = plain_reach Q t h at ps bs (put (number t) ps) bs (number_stops Q t ps bs i b)
+number_reach Q t (inr h) reported at ps bs i b =
     along Q at (at_stage at_value ps) (put (number t) ps) (t ++ bs) (h.0 ++ (h.1 ∷ ((h.2 ++ h.3) ++ bs))) bs
     (ap (λ (x : List ℕ). x ++ bs) h.4 ∙ append_assoc h.0 (h.1 ∷ (h.2 ++ h.3)) bs)
     (plain_reach Q h.0 h.5 at ps (h.1 ∷ ((h.2 ++ h.3) ++ bs)) (put (number t) ps) bs (λ later start q stops.
     join Q later (digits_at q start h.0 ps) (digits_at part.Mark start (h.0 ++ h.1 ∷ []) ps) (put (number t) ps) (h.1 ∷ ((h.2 ++ h.3) ++ bs)) ((h.2 ++ h.3) ++ bs) bs
     (inside Q later q part.Mark start h.0 ps h.1 ((h.2 ++ h.3) ++ bs) (stops.1 h.1 h.6))
-    (λ end. mark_reach Q h.2 h.3 h.7 h.8 (told h) end start (h.0 ++ h.1 ∷ []) ps bs (put (number t) ps) bs)))
+    (λ end. mark_reach Q h.2 h.3 h.7 h.8 (reported h) end start (h.0 ++ h.1 ∷ []) ps bs (put (number t) ps) bs)))

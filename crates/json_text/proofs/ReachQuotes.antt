@@ -17,7 +17,7 @@ use Rattle.json_text.proofs.Reach.{at_stage, Reaches, here, join, along, one, th
 
 -- a place that goes on with the string
 abbrev pub GoesOn : (Quoted → Stage) → List Parent → Type 0
-GoesOn W ps = (at b : ℕ) (q r : Quoted) → quoted_next q b ≡ next.Goes r → step_at at (W q) ps b ≡ Ok (at_stage (W r) ps)
+GoesOn W ps = (at b : ℕ) (q r : Quoted) → quoted_next q b ≡ next.Continues r → step_at at (W q) ps b ≡ Ok (at_stage (W r) ps)
 
 abbrev pub quoted : Spot → Read → Quoted
 quoted s r = record { spot = s; read = r }
@@ -26,7 +26,7 @@ module _ (Q : Type 0) (W : Quoted → Stage) (ps : List Parent) (goes : GoesOn W
   abbrev at_quoted : Spot → Read → State
   at_quoted s r = at_stage (W (quoted s r)) ps
 
-  by_byte : (at : ℕ) (s u : Spot) (r v : Read) (b : ℕ) (bs : List ℕ) → next_by r b (string_byte s b) ≡ next.Goes (quoted u v)
+  by_byte : (at : ℕ) (s u : Spot) (r v : Read) (b : ℕ) (bs : List ℕ) → next_by r b (string_byte s b) ≡ next.Continues (quoted u v)
       → Reaches Q at (at_quoted s r) (b ∷ bs) (at_quoted u v) bs
   by_byte at s u r v b bs e = one Q at (at_quoted s r) (at_quoted u v) b bs (goes at b (quoted s r) (quoted u v) e)
 
@@ -218,7 +218,7 @@ module _ (Q : Type 0) (W : Quoted → Stage) (ps : List Parent) (goes : GoesOn W
       (silent Q W ps goes at₂ spot.Escape (spot.Hex 3 0) r 117 (a ∷ b ∷ c ∷ d ∷ bs) refl)
       (λ at₃. hex_reach at₃ a b c d p.0 p.1 p.2 p.3 r bs p.4 p.5 p.6 p.7)))
 
-  -- the characters behind the opening quote
+  -- the characters after the opening quote
   pub chars_reach : (t : List ℕ) (r : Read) → Chars t r → (at : ℕ) (bs : List ℕ) → Reaches Q at (between nothing_read) (t ++ bs) (between r) bs
   chars_reach t r no_chars at bs = here Q at (between nothing_read) bs
   chars_reach t r (char_after {t = u} {r = q} h c s reads) at bs =

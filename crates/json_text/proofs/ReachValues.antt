@@ -1,4 +1,4 @@
--- A JSON text is read to its end without a fault of syntax, unless another fault is told first.
+-- A JSON text is read to its end without a fault of syntax, unless another fault is reported first.
 use Rattle.std.proofs.Common.{◌≡◌, ℕ, ◌+◌, List, [], ◌∷◌, ◌++◌, true, false, refl, ap, sym, subst, ◌∙◌, inl, inr, append_assoc, Ok, Result, arith}
 use Rattle.std.specs.Prelude.{◌==◌}
 use Rattle.std.proofs.lemmas.Bool.Decides.{nat_tests}

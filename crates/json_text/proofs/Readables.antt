@@ -7,7 +7,7 @@ use Rattle.grpc_base.specs.declared.event.JsonFault.TheVariants as fault
 use Rattle.json_text.specs.Tree.{Tree, number, string, list, object, Items, no_items, item_after, Members, no_members, member_after, is_named}
 use Rattle.json_text.specs.Numbers.{is_digit, number_byte}
 use Rattle.json_text.specs.Strings.{quoted_next}
-use Rattle.json_text.specs.Reading.{Parent, in_list, in_object, Stage, at_top, at_first_value, at_value, at_first_name, at_name, at_colon, after_item, after_member, in_word, in_number, in_string, in_name, at_end, State, most_levels, most_bytes, put, opened, value_byte, top_byte, first_value_byte, next_value_byte, first_name_byte, next_name_byte, colon_byte, item_byte, member_byte, end_byte, behind_number, letters_left, word_byte, digit_byte, string_goes, named, name_goes, step_at, step, ◌>>=◌, run, at_start, ended, reading}
+use Rattle.json_text.specs.Reading.{Parent, in_list, in_object, Stage, at_top, at_first_value, at_value, at_first_name, at_name, at_colon, after_item, after_member, in_word, in_number, in_string, in_name, at_end, State, most_levels, most_bytes, put, opened, value_byte, top_byte, first_value_byte, next_value_byte, first_name_byte, next_name_byte, colon_byte, item_byte, member_byte, end_byte, after_number, letters_left, word_byte, digit_byte, string_goes, named, name_goes, step_at, step, ◌>>=◌, run, at_start, ended, reading}
 use Rattle.json_text.specs.Grammar.{is_blank, IsText}
 use Rattle.json_text.specs.Readable.{IsReadable, AreReadable, HasReadable}
 use Rattle.json_text.specs.declared.number.Part.{Part}
@@ -120,11 +120,11 @@ end_good : (at : ℕ) (v : Tree) (ps : List Parent) (b : ℕ) → IsReadable v 0
 unfolding end_byte
 end_good at v ps b h a = by_if Good (is_blank b) _ _ (λ y. (h, a)) (λ n. tt)
 
-behind_good : (at : ℕ) (v : Tree) (ps : List Parent) (b : ℕ) → IsReadable v (length ps) → Around ps → Good (behind_number at v ps b)
-unfolding behind_number
-behind_good at v [] b h a = end_good at v [] b h tt
-behind_good at v (in_list items ∷ ps) b h a = item_good at (item_after items v) ps b (a.0, (a.1, h)) a.2
-behind_good at v (in_object ms name ∷ ps) b h a = member_good at (member_after ms name v) ps b (a.0, (a.1, a.2, h)) a.3
+after_good : (at : ℕ) (v : Tree) (ps : List Parent) (b : ℕ) → IsReadable v (length ps) → Around ps → Good (after_number at v ps b)
+unfolding after_number
+after_good at v [] b h a = end_good at v [] b h tt
+after_good at v (in_list items ∷ ps) b h a = item_good at (item_after items v) ps b (a.0, (a.1, h)) a.2
+after_good at v (in_object ms name ∷ ps) b h a = member_good at (member_after ms name v) ps b (a.0, (a.1, a.2, h)) a.3
 
 letters_good : (cs : List ℕ) (v : Tree) (ps : List Parent) → IsReadable v (length ps) → Around ps → Good (letters_left cs v ps)
 letters_good [] v ps h a = put_good v ps h a
@@ -138,19 +138,19 @@ digit_good : (at start : ℕ) (q : Part) (t : List ℕ) (ps : List Parent) (b : 
     → Good (digit_byte at n start t ps b)
 unfolding digit_byte
 digit_good at start q t ps b (digit.Inside r) is h a = (tt, a)
-digit_good at start q t ps b digit.Behind is h a = behind_good at (number t) ps b (subst (PartGoes t b) is (part_goes q t b h)) a
+digit_good at start q t ps b digit.After is h a = after_good at (number t) ps b (subst (PartGoes t b) is (part_goes q t b h)) a
 digit_good at start q t ps b digit.Exponent is h a = tt
 digit_good at start q t ps b digit.Wrong is h a = tt
 
 string_good : (at : ℕ) (ps : List Parent) (n : QuotedNext) → Around ps → Good (string_goes at n ps)
 unfolding string_goes
-string_good at ps (next.Goes q) a = (tt, a)
+string_good at ps (next.Continues q) a = (tt, a)
 string_good at ps (next.Closed s) a = put_good (string s) ps tt a
 string_good at ps next.Wrong a = tt
 
 name_good : (at start : ℕ) (ms : Members) (ps : List Parent) (n : QuotedNext) → At (at_name ms) (length ps) → Around ps → Good (name_goes at ms start n ps)
 unfolding name_goes named
-name_good at start ms ps (next.Goes q) h a = (h, a)
+name_good at start ms ps (next.Continues q) h a = (h, a)
 name_good at start ms ps (next.Closed s) h a = by_if Good (is_named s ms) _ _ (λ y. tt) (λ n. (tt, (h.0, h.1, n, a)))
 name_good at start ms ps next.Wrong h a = tt
 

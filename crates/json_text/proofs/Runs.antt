@@ -1,4 +1,4 @@
--- What is read is a value of which the bytes are a text, and up to a fault the bytes are the front of one.
+-- What is read is a value of which the bytes are a text, and up to a fault the bytes are the prefix of one.
 use Rattle.std.proofs.Common.{◌≡◌, ℕ, suc, ◌+◌, ◌<◌, ◌≤◌, List, [], ◌∷◌, ◌++◌, refl, ap, sym, subst, ◌∙◌, append_assoc, length-append, Ok, Err, Result, length, take, arith, add-one, inl, inr}
 use Rattle.std.specs.Prelude.{◌⊎◌, nat_lt}
 use Rattle.grpc_base.specs.declared.event.JsonFault.{JsonFault}
@@ -6,7 +6,7 @@ use Rattle.grpc_base.specs.declared.event.JsonFault.TheVariants as fault
 use Rattle.json_text.specs.Tree.{Tree}
 use Rattle.json_text.specs.Reading.{Stage, at_end, State, most_bytes, ◌>>=◌, step, run, at_start, ended, reading}
 use Rattle.json_text.specs.Grammar.{IsText, CanEnd}
-use Rattle.json_text.specs.Faults.{RepeatsName, OpensTooDeep, ExponentAt, Behind}
+use Rattle.json_text.specs.Faults.{RepeatsName, OpensTooDeep, ExponentAt, After}
 use Rattle.std.proofs.lemmas.List.{take_all}
 use Rattle.std.proofs.lemmas.Bool.Decides.{nat_tests}
 use Rattle.json_text.proofs.Tools.{by_if, append_nil}
@@ -15,34 +15,34 @@ use Rattle.json_text.proofs.Ends.{holds_ends}
 use Rattle.json_text.proofs.Reach.{IsOther, at_stage}
 use Rattle.json_text.proofs.ReachTexts.{text_reach}
 
-abbrev pub FrontOf : ℕ → List ℕ → List ℕ → ℕ → Type 0
-FrontOf at p bs k = (n : ℕ) × (k ≡ at + n) × (n < length bs) × CanEnd (p ++ take n bs)
+abbrev pub PrefixOf : ℕ → List ℕ → List ℕ → ℕ → Type 0
+PrefixOf at p bs k = (n : ℕ) × (k ≡ at + n) × (n < length bs) × CanEnd (p ++ take n bs)
 
--- a fault that the byte behind n of these tells
-abbrev pub ToldBy : (List ℕ → Type 0) → List ℕ → List ℕ → Type 0
-ToldBy P p bs = (n : ℕ) × (n < length bs) × P (p ++ take (suc n) bs)
+-- a fault that the byte after n of these reports
+abbrev pub ReportedBy : (List ℕ → Type 0) → List ℕ → List ℕ → Type 0
+ReportedBy P p bs = (n : ℕ) × (n < length bs) × P (p ++ take (suc n) bs)
 
 -- what holds once all of these bytes are read
 abbrev pub RunKept : ℕ → List ℕ → List ℕ → Result State JsonFault → Type 0
 RunKept at p bs (Ok s) = Holds s.stage s.parents (p ++ bs)
-RunKept at p bs (Err (fault.Syntax k)) = FrontOf at p bs k
-RunKept at p bs (Err (fault.RepeatedKey k)) = ToldBy (λ q. RepeatsName k q) p bs
-RunKept at p bs (Err (fault.TooDeep k)) = ToldBy (λ q. OpensTooDeep k q) p bs
-RunKept at p bs (Err (fault.Number k)) = ToldBy (λ q. ExponentAt k q) p bs
+RunKept at p bs (Err (fault.Syntax k)) = PrefixOf at p bs k
+RunKept at p bs (Err (fault.RepeatedKey k)) = ReportedBy (λ q. RepeatsName k q) p bs
+RunKept at p bs (Err (fault.TooDeep k)) = ReportedBy (λ q. OpensTooDeep k q) p bs
+RunKept at p bs (Err (fault.Number k)) = ReportedBy (λ q. ExponentAt k q) p bs
 RunKept at p bs (Err fault.TooLong) = ⊥
 RunKept at p bs (Err fault.NoMemory) = ⊥
 
-told_further : (P : List ℕ → Type 0) (p bs : List ℕ) (b : ℕ) → ToldBy P (p ++ b ∷ []) bs → ToldBy P p (b ∷ bs)
-told_further P p bs b h = (suc h.0, omega (arith, h.1), subst P (append_assoc p (b ∷ []) (take (suc h.0) bs)) h.2)
+reported_further : (P : List ℕ → Type 0) (p bs : List ℕ) (b : ℕ) → ReportedBy P (p ++ b ∷ []) bs → ReportedBy P p (b ∷ bs)
+reported_further P p bs b h = (suc h.0, omega (arith, h.1), subst P (append_assoc p (b ∷ []) (take (suc h.0) bs)) h.2)
 
 -- one byte further on
 further : (at : ℕ) (p bs : List ℕ) (b : ℕ) (r : Result State JsonFault) → RunKept (at + 1) (p ++ b ∷ []) bs r → RunKept at p (b ∷ bs) r
 further at p bs b (Ok s) h = subst (λ (x : List ℕ). Holds s.stage s.parents x) (append_assoc p (b ∷ []) bs) h
 further at p bs b (Err (fault.Syntax k)) h =
     (suc h.0, omega arith, omega arith, subst CanEnd (append_assoc p (b ∷ []) (take h.0 bs)) h.3)
-further at p bs b (Err (fault.RepeatedKey k)) h = told_further (λ q. RepeatsName k q) p bs b h
-further at p bs b (Err (fault.TooDeep k)) h = told_further (λ q. OpensTooDeep k q) p bs b h
-further at p bs b (Err (fault.Number k)) h = told_further (λ q. ExponentAt k q) p bs b h
+further at p bs b (Err (fault.RepeatedKey k)) h = reported_further (λ q. RepeatsName k q) p bs b h
+further at p bs b (Err (fault.TooDeep k)) h = reported_further (λ q. OpensTooDeep k q) p bs b h
+further at p bs b (Err (fault.Number k)) h = reported_further (λ q. ExponentAt k q) p bs b h
 further at p bs b (Err fault.TooLong) h = absurd h
 further at p bs b (Err fault.NoMemory) h = absurd h
 
@@ -78,34 +78,34 @@ read_is_text bytes v =
     (λ y e. let g : ⊥ = cc in absurd g)
     (λ n e. end_is bytes v (run 0 at_start bytes) (run_kept 0 at_start [] bytes refl tt) e)
 
--- A fault of syntax is told behind the front of a JSON text.
+-- A fault of syntax is reported after the prefix of a JSON text.
 cut_off : (n k : ℕ) (stage : Stage) → ended n stage ≡ Err (fault.Syntax k) → k ≡ n
 cut_off n k (at_end w) e = let g : ⊥ = cc in absurd g
 cut_off n k stage e = cc
 
-run_front : (bytes : List ℕ) (k : ℕ) (r : Result State JsonFault) → RunKept 0 [] bytes r → (r >>= λ s. ended (length bytes) s.stage) ≡ Err (fault.Syntax k)
+run_relay_links : (bytes : List ℕ) (k : ℕ) (r : Result State JsonFault) → RunKept 0 [] bytes r → (r >>= λ s. ended (length bytes) s.stage) ≡ Err (fault.Syntax k)
     → (k ≤ length bytes) × CanEnd (take k bytes)
-run_front bytes k (Ok s) h e =
+run_relay_links bytes k (Ok s) h e =
     let whole : k ≡ length bytes = cut_off (length bytes) k s.stage e in
     let all : bytes ≡ take k bytes = sym (take_all k bytes (omega arith)) in
     (omega arith, subst CanEnd all (holds_ends s.stage s.parents bytes h))
-run_front bytes k (Err (fault.Syntax j)) h e =
+run_relay_links bytes k (Err (fault.Syntax j)) h e =
     let same : h.0 ≡ k = (let f : j ≡ k = cc in omega (arith, h.1)) in
     (omega (arith, h.2), subst (λ (n : ℕ). CanEnd (take n bytes)) same h.3)
-run_front bytes k (Err (fault.RepeatedKey j)) h e = let g : ⊥ = cc in absurd g
-run_front bytes k (Err (fault.TooDeep j)) h e = let g : ⊥ = cc in absurd g
-run_front bytes k (Err (fault.Number j)) h e = let g : ⊥ = cc in absurd g
-run_front bytes k (Err fault.TooLong) h e = let g : ⊥ = cc in absurd g
-run_front bytes k (Err fault.NoMemory) h e = let g : ⊥ = cc in absurd g
+run_relay_links bytes k (Err (fault.RepeatedKey j)) h e = let g : ⊥ = cc in absurd g
+run_relay_links bytes k (Err (fault.TooDeep j)) h e = let g : ⊥ = cc in absurd g
+run_relay_links bytes k (Err (fault.Number j)) h e = let g : ⊥ = cc in absurd g
+run_relay_links bytes k (Err fault.TooLong) h e = let g : ⊥ = cc in absurd g
+run_relay_links bytes k (Err fault.NoMemory) h e = let g : ⊥ = cc in absurd g
 
-pub syntax_front : (bytes : List ℕ) (k : ℕ) → reading bytes ≡ Err (fault.Syntax k) → (k ≤ length bytes) × CanEnd (take k bytes)
+pub syntax_prefix : (bytes : List ℕ) (k : ℕ) → reading bytes ≡ Err (fault.Syntax k) → (k ≤ length bytes) × CanEnd (take k bytes)
 unfolding reading
-syntax_front bytes k =
+syntax_prefix bytes k =
     by_if (λ (r : Result Tree JsonFault). r ≡ Err (fault.Syntax k) → (k ≤ length bytes) × CanEnd (take k bytes)) (nat_lt most_bytes (length bytes)) _ _
     (λ y e. let g : ⊥ = cc in absurd g)
-    (λ n e. run_front bytes k (run 0 at_start bytes) (run_kept 0 at_start [] bytes refl tt) e)
+    (λ n e. run_relay_links bytes k (run 0 at_start bytes) (run_kept 0 at_start [] bytes refl tt) e)
 
--- A text is told to be too long exactly where it is.
+-- A text is reported to be too long exactly where it is.
 run_short : (bytes : List ℕ) (r : Result State JsonFault) → RunKept 0 [] bytes r → (r >>= λ s. ended (length bytes) s.stage) ≡ Err fault.TooLong → ⊥
 run_short bytes (Ok s) h e = stage_short (length bytes) s.stage e
   where
@@ -132,7 +132,7 @@ too_long_only bytes =
     (λ y e. grind (arith, nat_tests))
     (λ n e. absurd (run_short bytes (run 0 at_start bytes) (run_kept 0 at_start [] bytes refl tt) e))
 
--- A fault of syntax stays, whatever follows the byte at which it is told.
+-- A fault of syntax stays, whatever follows the byte at which it is reported.
 abbrev DeadAt : ℕ → State → List ℕ → ℕ → Type 0
 DeadAt at s bs k = (n : ℕ) × (k ≡ at + n) × ((more : List ℕ) → run at s (take (suc n) bs ++ more) ≡ Err (fault.Syntax k))
 
@@ -184,7 +184,7 @@ syntax_first bytes k =
     (λ y e lt can. cc)
     (λ n e lt can. run_first bytes k (run 0 at_start bytes) refl e lt (subst (λ (m : ℕ). CanEnd (take m bytes)) (add-one k) can))
 
--- A text is read as its one value, unless another fault than one of syntax is told.
+-- A text is read as its one value, unless another fault than one of syntax is reported.
 text_ends : (v w : Tree) (n : ℕ) (r : Result State JsonFault) → (r ≡ Ok (at_stage (at_end v) [])) ⊎ IsOther (Unit {0}) r → (r >>= λ s. ended n s.stage) ≡ Ok w → w ≡ v
 text_ends v w n r (inl h) e = let f : (r >>= λ s. ended n s.stage) ≡ Ok v = ap (λ (x : Result State JsonFault). x >>= λ s. ended n s.stage) h in cc
 text_ends v w n (Ok s) (inr o) e = absurd o
@@ -213,33 +213,33 @@ text_is_right bytes v k h =
     (λ y e. cc) (λ n e. text_wrong v (length bytes) k (run 0 at_start bytes) (text_reach (Unit {0}) v bytes h (λ _. tt)) e)
 
 -- Each other fault stands where the grammar has it.
-behind_told : (P : List ℕ → Type 0) (bytes : List ℕ) → ToldBy P [] bytes → Behind P bytes
-behind_told P bytes h = (suc h.0, omega (arith, h.1), h.2)
+after_reported : (P : List ℕ → Type 0) (bytes : List ℕ) → ReportedBy P [] bytes → After P bytes
+after_reported P bytes h = (suc h.0, omega (arith, h.1), h.2)
 
 cut_off_only : (n : ℕ) (stage : Stage) (f : JsonFault) → ended n stage ≡ Err f → f ≡ fault.Syntax n
 cut_off_only n (at_end w) f e = let g : ⊥ = cc in absurd g
 cut_off_only n stage f e = cc
 
-run_tells : (bytes : List ℕ) (f : JsonFault) (r : Result State JsonFault) → RunKept 0 [] bytes r → (r >>= λ s. ended (length bytes) s.stage) ≡ Err f
+run_reports : (bytes : List ℕ) (f : JsonFault) (r : Result State JsonFault) → RunKept 0 [] bytes r → (r >>= λ s. ended (length bytes) s.stage) ≡ Err f
     → (f ≡ fault.Syntax (length bytes)) ⊎ RunKept 0 [] bytes (Err f)
-run_tells bytes f (Ok s) h e = inl (cut_off_only (length bytes) s.stage f e)
-run_tells bytes f (Err g) h e = let same : g ≡ f = cc in inr (subst (λ (x : JsonFault). RunKept 0 [] bytes (Err x)) same h)
+run_reports bytes f (Ok s) h e = inl (cut_off_only (length bytes) s.stage f e)
+run_reports bytes f (Err g) h e = let same : g ≡ f = cc in inr (subst (λ (x : JsonFault). RunKept 0 [] bytes (Err x)) same h)
 
-told : (bytes : List ℕ) (f : JsonFault) → reading bytes ≡ Err f → (f ≡ fault.TooLong) ⊎ ((f ≡ fault.Syntax (length bytes)) ⊎ RunKept 0 [] bytes (Err f))
+reported : (bytes : List ℕ) (f : JsonFault) → reading bytes ≡ Err f → (f ≡ fault.TooLong) ⊎ ((f ≡ fault.Syntax (length bytes)) ⊎ RunKept 0 [] bytes (Err f))
 unfolding reading
-told bytes f =
+reported bytes f =
     by_if (λ (r : Result Tree JsonFault). r ≡ Err f → (f ≡ fault.TooLong) ⊎ ((f ≡ fault.Syntax (length bytes)) ⊎ RunKept 0 [] bytes (Err f))) (nat_lt most_bytes (length bytes)) _ _
     (λ y e. inl cc)
-    (λ n e. inr (run_tells bytes f (run 0 at_start bytes) (run_kept 0 at_start [] bytes refl tt) e))
+    (λ n e. inr (run_reports bytes f (run 0 at_start bytes) (run_kept 0 at_start [] bytes refl tt) e))
 
-pub repeated_key_is : (bytes : List ℕ) (k : ℕ) → reading bytes ≡ Err (fault.RepeatedKey k) → Behind (λ q. RepeatsName k q) bytes
+pub repeated_key_is : (bytes : List ℕ) (k : ℕ) → reading bytes ≡ Err (fault.RepeatedKey k) → After (λ q. RepeatsName k q) bytes
 repeated_key_is bytes k e =
-    elim (told bytes (fault.RepeatedKey k) e) [ inl x ↦ (let g : ⊥ = cc in absurd g) | inr y ↦ elim y [ inl x ↦ (let g : ⊥ = cc in absurd g) | inr h ↦ behind_told (λ q. RepeatsName k q) bytes h ] ]
+    elim (reported bytes (fault.RepeatedKey k) e) [ inl x ↦ (let g : ⊥ = cc in absurd g) | inr y ↦ elim y [ inl x ↦ (let g : ⊥ = cc in absurd g) | inr h ↦ after_reported (λ q. RepeatsName k q) bytes h ] ]
 
-pub too_deep_is : (bytes : List ℕ) (k : ℕ) → reading bytes ≡ Err (fault.TooDeep k) → Behind (λ q. OpensTooDeep k q) bytes
+pub too_deep_is : (bytes : List ℕ) (k : ℕ) → reading bytes ≡ Err (fault.TooDeep k) → After (λ q. OpensTooDeep k q) bytes
 too_deep_is bytes k e =
-    elim (told bytes (fault.TooDeep k) e) [ inl x ↦ (let g : ⊥ = cc in absurd g) | inr y ↦ elim y [ inl x ↦ (let g : ⊥ = cc in absurd g) | inr h ↦ behind_told (λ q. OpensTooDeep k q) bytes h ] ]
+    elim (reported bytes (fault.TooDeep k) e) [ inl x ↦ (let g : ⊥ = cc in absurd g) | inr y ↦ elim y [ inl x ↦ (let g : ⊥ = cc in absurd g) | inr h ↦ after_reported (λ q. OpensTooDeep k q) bytes h ] ]
 
-pub number_is : (bytes : List ℕ) (k : ℕ) → reading bytes ≡ Err (fault.Number k) → Behind (λ q. ExponentAt k q) bytes
+pub number_is : (bytes : List ℕ) (k : ℕ) → reading bytes ≡ Err (fault.Number k) → After (λ q. ExponentAt k q) bytes
 number_is bytes k e =
-    elim (told bytes (fault.Number k) e) [ inl x ↦ (let g : ⊥ = cc in absurd g) | inr y ↦ elim y [ inl x ↦ (let g : ⊥ = cc in absurd g) | inr h ↦ behind_told (λ q. ExponentAt k q) bytes h ] ]
+    elim (reported bytes (fault.Number k) e) [ inl x ↦ (let g : ⊥ = cc in absurd g) | inr y ↦ elim y [ inl x ↦ (let g : ⊥ = cc in absurd g) | inr h ↦ after_reported (λ q. ExponentAt k q) bytes h ] ]

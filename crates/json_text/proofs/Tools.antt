@@ -12,7 +12,7 @@ by_if P false x y f g = g refl
 pub same : (b k : ℕ) → (b == k) ≡ true → b ≡ k
 same b k h = grind (arith, nat_tests)
 
--- one byte more, behind a first part
+-- one byte more, after a first part
 pub snoc2 : (p a c : List ℕ) (b : ℕ) → p ≡ a ++ c → p ++ b ∷ [] ≡ a ++ (c ++ b ∷ [])
 snoc2 p a c b e = ap (λ (x : List ℕ). x ++ b ∷ []) e ∙ append_assoc a c (b ∷ [])
 

@@ -3,7 +3,7 @@ use Rattle.std.specs.Prelude.{ℕ, ◌+◌, ◌-◌, ◌*◌, ◌/◌, ◌^◌, 
 use Rattle.std.specs.List.{list_all, ends_with}
 use Rattle.grpc_base.specs.Numbers.{is_number, number_of}
 
--- the digits behind a point, in units of which these many make 1; what is less than a unit is dropped
+-- the digits after a point, in units of which these many make 1; what is less than a unit is dropped
 abbrev pub fraction_of : ℕ → List ℕ → ℕ
 fraction_of units digits = number_of digits * units / 10 ^ length digits
 

@@ -3,16 +3,16 @@ use Rattle.std.specs.Prelude.{◌≡◌, ◌⊎◌, ℕ, zero, suc, ◌≤◌, t
 use Rattle.json_text.specs.Tree.{Items, Members, is_named}
 use Rattle.json_text.specs.Grammar.{IsBlank, HasExponent, IsString, Named, BeforeItem, BeforeName}
 
--- the front of a text up to where a value of a list may begin
+-- the prefix of a text up to where a value of a list may begin
 abbrev pub AwaitsItem : (List ℕ → Type 0) → List ℕ → Type 0
 AwaitsItem Outer p = (items : Items) × (outer inner : List ℕ) × (p ≡ outer ++ 91 ∷ inner) × Outer outer × BeforeItem items inner
 
--- the front of a text up to where a value of an object may begin
+-- the prefix of a text up to where a value of an object may begin
 abbrev pub AwaitsMember : (List ℕ → Type 0) → List ℕ → Type 0
 AwaitsMember Outer p =
     (members : Members) × (name outer inner : List ℕ) × (p ≡ outer ++ 123 ∷ inner) × Outer outer × Named (λ f. BeforeName members f) name inner
 
--- the front of a text up to where a value may begin, inside this many lists and objects
+-- the prefix of a text up to where a value may begin, inside this many lists and objects
 abbrev pub Awaits : ℕ → List ℕ → Type 0
 Awaits zero p = IsBlank p
 Awaits (suc zero) p = AwaitsMember IsBlank p
@@ -21,21 +21,21 @@ Awaits (suc (suc levels)) p = AwaitsItem (Awaits (suc levels)) p ⊎ AwaitsMembe
 -- a name that stands in its object already, the second beginning at k
 abbrev pub RepeatsName : ℕ → List ℕ → Type 0
 RepeatsName k p =
-    (levels : ℕ) × (members : Members) × (name outer front spelled : List ℕ) × (p ≡ outer ++ (123 ∷ (front ++ spelled)))
-    × (k ≡ length (outer ++ 123 ∷ front)) × Awaits levels outer × BeforeName members front × IsString name spelled
+    (levels : ℕ) × (members : Members) × (name outer prefix spelled : List ℕ) × (p ≡ outer ++ (123 ∷ (prefix ++ spelled)))
+    × (k ≡ length (outer ++ 123 ∷ prefix)) × Awaits levels outer × BeforeName members prefix × IsString name spelled
     × (is_named name members ≡ true)
 
 -- a bracket at k that opens a further level where 32 are open
 abbrev pub OpensTooDeep : ℕ → List ℕ → Type 0
 OpensTooDeep k p =
-    (levels : ℕ) × (front : List ℕ) × (b : ℕ) × (p ≡ front ++ b ∷ []) × (k ≡ length front) × (32 ≤ levels)
-    × Awaits levels front × ((b ≡ 91) ⊎ (b ≡ 123))
+    (levels : ℕ) × (prefix : List ℕ) × (b : ℕ) × (p ≡ prefix ++ b ∷ []) × (k ≡ length prefix) × (32 ≤ levels)
+    × Awaits levels prefix × ((b ≡ 91) ⊎ (b ≡ 123))
 
 -- a number with an exponent, beginning at k
 abbrev pub ExponentAt : ℕ → List ℕ → Type 0
 ExponentAt k p =
     (levels : ℕ) × (outer spelled : List ℕ) × (p ≡ outer ++ spelled) × (k ≡ length outer) × Awaits levels outer × HasExponent spelled
 
--- behind some first bytes of a text
-abbrev pub Behind : (List ℕ → Type 0) → List ℕ → Type 0
-Behind P bytes = (n : ℕ) × (n ≤ length bytes) × P (take n bytes)
+-- after some first bytes of a text
+abbrev pub After : (List ℕ → Type 0) → List ℕ → Type 0
+After P bytes = (n : ℕ) × (n ≤ length bytes) × P (take n bytes)

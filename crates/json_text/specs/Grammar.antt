@@ -39,7 +39,7 @@ IsInteger t = (minus whole : List ℕ) × (t ≡ minus ++ whole) × IsMinus minu
 
 -- a number without an exponent
 abbrev pub IsPlain : List ℕ → Type 0
-IsPlain t = IsInteger t ⊎ ((front digits : List ℕ) × (t ≡ front ++ 46 ∷ digits) × IsInteger front × IsDigits digits)
+IsPlain t = IsInteger t ⊎ ((prefix digits : List ℕ) × (t ≡ prefix ++ 46 ∷ digits) × IsInteger prefix × IsDigits digits)
 
 -- the sign of an exponent, or nothing
 abbrev pub IsPlusMinus : List ℕ → Type 0
@@ -49,8 +49,8 @@ IsPlusMinus (s ∷ t ∷ ts) = ⊥
 
 abbrev pub HasExponent : List ℕ → Type 0
 HasExponent t =
-    (front : List ℕ) × (e : ℕ) × (sign digits : List ℕ) × (t ≡ front ++ e ∷ (sign ++ digits))
-    × IsPlain front × (is_e e ≡ true) × IsPlusMinus sign × IsDigits digits
+    (prefix : List ℕ) × (e : ℕ) × (sign digits : List ℕ) × (t ≡ prefix ++ e ∷ (sign ++ digits))
+    × IsPlain prefix × (is_e e ≡ true) × IsPlusMinus sign × IsDigits digits
 
 abbrev pub IsNumber : List ℕ → Type 0
 IsNumber t = IsPlain t ⊎ HasExponent t
@@ -61,7 +61,7 @@ pub data Char : Type 0 where
   escape : ℕ → Char
   unicode : ℕ → ℕ → ℕ → ℕ → Char
 
--- the character that a letter behind a backslash stands for
+-- the character that a letter after a backslash stands for
 abbrev pub escape_value : ℕ → Option ℕ
 escape_value b =
     if (b == 34) || (b == 92) || (b == 47) then Some b
@@ -119,15 +119,15 @@ abbrev pub IsString : List ℕ → List ℕ → Type 0
 IsString s t = (inner : List ℕ) × (r : Read) × (t ≡ 34 ∷ (inner ++ 34 ∷ [])) × (s ≡ settled r) × Chars inner r
 
 -- Lists and objects (sections 4 and 5), with blanks round each of their brackets, commas and colons.
--- a value behind what stands before it, and blanks
+-- a value after what stands before it, and blanks
 abbrev pub Ended : (List ℕ → Type 0) → (List ℕ → Type 0) → List ℕ → Type 0
 Ended Before Value t = (f u w : List ℕ) × (t ≡ f ++ (u ++ w)) × Before f × Value u × IsBlank w
 
--- a comma behind that, and blanks
+-- a comma after that, and blanks
 abbrev pub Comma : (List ℕ → Type 0) → List ℕ → Type 0
 Comma Before t = (f w : List ℕ) × (t ≡ f ++ 44 ∷ w) × Before f × IsBlank w
 
--- a name behind what stands before it, and a colon
+-- a name after what stands before it, and a colon
 abbrev pub Named : (List ℕ → Type 0) → List ℕ → List ℕ → Type 0
 Named Before name t =
     (f s w x : List ℕ) × (t ≡ f ++ (s ++ (w ++ 58 ∷ x))) × Before f × IsString name s × IsBlank w × IsBlank x
@@ -172,6 +172,6 @@ IsObject v = ⊥
 abbrev pub IsText : Tree → List ℕ → Type 0
 IsText v t = Ended IsBlank (IsValue v) t × IsObject v
 
--- The front of a JSON text: some further bytes make one of these.
+-- The prefix of a JSON text: some further bytes make one of these.
 abbrev pub CanEnd : List ℕ → Type 0
 CanEnd p = (more : List ℕ) × (v : Tree) × IsText v (p ++ more)

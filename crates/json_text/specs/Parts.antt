@@ -5,7 +5,7 @@ use Rattle.json_text.specs.Tree.{Tree, boolean, number, string, list, object, It
 use Rattle.json_text.specs.Views.{tree_of}
 use Rattle.json_text.specs.declared.json.Json.{Json}
 
--- all of these, and then those behind them
+-- all of these, and then those after them
 abbrev pub items_onto : Items → List Tree → List Tree
 items_onto no_items after = after
 items_onto (item_after items v) after = items_onto items (v ∷ after)

@@ -1,5 +1,5 @@
 -- The reader, byte by byte: what is known of a JSON text after each byte of it, and the first fault. It is the
--- code's own course, told without its memory. What to believe of a text stands in Grammar, Readable and Faults.
+-- code's own course, reported without its memory. What to believe of a text stands in Grammar, Readable and Faults.
 use Rattle.std.specs.Prelude.{◌≡◌, ℕ, ◌+◌, true, false, ◌==◌, nat_lt, if◌then◌else◌, List, [], ◌∷◌, ◌++◌, length, Result, Ok, Err}
 use Rattle.grpc_base.specs.declared.event.JsonFault.{JsonFault}
 use Rattle.grpc_base.specs.declared.event.JsonFault.TheVariants as fault
@@ -126,11 +126,11 @@ member_byte at members parents b =
 unfoldable pub end_byte : ℕ → Tree → List Parent → ℕ → Result State JsonFault
 end_byte at v parents b = if is_blank b then go (at_end v) parents else wrong at
 
--- the byte behind a whole number
-unfoldable pub behind_number : ℕ → Tree → List Parent → ℕ → Result State JsonFault
-behind_number at v [] b = end_byte at v [] b
-behind_number at v (in_list items ∷ parents) b = item_byte at (item_after items v) parents b
-behind_number at v (in_object members name ∷ parents) b = member_byte at (member_after members name v) parents b
+-- the byte after a whole number
+unfoldable pub after_number : ℕ → Tree → List Parent → ℕ → Result State JsonFault
+after_number at v [] b = end_byte at v [] b
+after_number at v (in_list items ∷ parents) b = item_byte at (item_after items v) parents b
+after_number at v (in_object members name ∷ parents) b = member_byte at (member_after members name v) parents b
 
 abbrev pub letters_left : List ℕ → Tree → List Parent → Result State JsonFault
 letters_left [] v parents = Ok (put v parents)
@@ -141,12 +141,12 @@ word_byte at letter letters v parents b = if b == letter then letters_left lette
 
 unfoldable pub digit_byte : ℕ → NumberByte → ℕ → List ℕ → List Parent → ℕ → Result State JsonFault
 digit_byte at (digit.Inside part) start text parents b = go (in_number part start (text ++ b ∷ [])) parents
-digit_byte at digit.Behind start text parents b = behind_number at (number text) parents b
+digit_byte at digit.After start text parents b = after_number at (number text) parents b
 digit_byte at digit.Exponent start text parents b = Err (fault.Number start)
 digit_byte at digit.Wrong start text parents b = wrong at
 
 unfoldable pub string_goes : ℕ → QuotedNext → List Parent → Result State JsonFault
-string_goes at (next.Goes q) parents = go (in_string q) parents
+string_goes at (next.Continues q) parents = go (in_string q) parents
 string_goes at (next.Closed text) parents = Ok (put (string text) parents)
 string_goes at next.Wrong parents = wrong at
 
@@ -156,7 +156,7 @@ named members start name parents =
     if is_named name members then Err (fault.RepeatedKey start) else go at_colon (in_object members name ∷ parents)
 
 unfoldable pub name_goes : ℕ → Members → ℕ → QuotedNext → List Parent → Result State JsonFault
-name_goes at members start (next.Goes q) parents = go (in_name members start q) parents
+name_goes at members start (next.Continues q) parents = go (in_name members start q) parents
 name_goes at members start (next.Closed text) parents = named members start text parents
 name_goes at ms start next.Wrong parents = wrong at
 

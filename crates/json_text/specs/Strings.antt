@@ -40,7 +40,7 @@ tail_byte low high more b =
     if is_between low high b then (if more == 0 then byte.Plain spot.Between else byte.Plain (spot.Tail 128 191 (more - 1)))
     else byte.Wrong
 
--- the byte behind a backslash
+-- the byte after a backslash
 abbrev pub escaped_byte : ℕ → StringByte
 escaped_byte b =
     if (b == 34) || (b == 92) || (b == 47) then byte.Escaped b
@@ -116,9 +116,9 @@ abbrev pub with_unit : Read → ℕ → Read
 with_unit r unit = joined r.text r.high unit
 
 abbrev pub next_by : Read → ℕ → StringByte → QuotedNext
-next_by read b (byte.Inside s) = next.Goes (record { spot = s; read = read })
-next_by read b (byte.Plain s) = next.Goes (record { spot = s; read = with_byte read b })
-next_by read b (byte.Escaped unit) = next.Goes (record { spot = spot.Between; read = with_unit read unit })
+next_by read b (byte.Inside s) = next.Continues (record { spot = s; read = read })
+next_by read b (byte.Plain s) = next.Continues (record { spot = s; read = with_byte read b })
+next_by read b (byte.Escaped unit) = next.Continues (record { spot = spot.Between; read = with_unit read unit })
 next_by read b byte.Closing = next.Closed (settled read)
 next_by read b byte.Wrong = next.Wrong
 
@@ -126,6 +126,6 @@ next_by read b byte.Wrong = next.Wrong
 abbrev pub quoted_next : Quoted → ℕ → QuotedNext
 quoted_next q b = next_by q.read b (string_byte q.spot b)
 
--- behind the opening quote
+-- after the opening quote
 abbrev pub opened_quote : Quoted
 opened_quote = record { spot = spot.Between; read = nothing_read }

@@ -32,7 +32,7 @@ fn point_of(text: &[u8]) -> Option<usize>
     text.iter().position(|b| *b == b'.')
 }
 
-/// The digits behind a point, in units of which so many make 1; what is less than a unit is dropped.
+/// The digits after a point, in units of which so many make 1; what is less than a unit is dropped.
 fn fraction_of(units: u64, digits: &[u8]) -> u64
     requires places { (units ≡ 1000) ⊎ (units ≡ 1000000000) }
     requires number { IsTrue (is_number digits.now) }
@@ -48,7 +48,7 @@ fn fraction_of(units: u64, digits: &[u8]) -> u64
     value
 }
 
-/// The text before its first point, and behind it.
+/// The text before its first point, and after it.
 fn parts_of(text: &[u8]) -> (&[u8], Option<&[u8]>)
     ensures whole { result.0.now ≡ (parts_of text.now).0 }
     ensures digits { option_map (λ d. d.now) result.1 ≡ (parts_of text.now).1 }

@@ -1,7 +1,7 @@
 // The members of an object that is being read.
 ghost use Rattle.std.specs.Prelude.{◌≡◌, length, IfOk};
 ghost use Rattle.std.specs.List.Sorted.{IsSearchInRange, IsBinarySearchResult};
-ghost use Rattle.json_text.specs.Order.{name_at, place_cmp, AreWithin, HaveAll, AreRising, placed};
+ghost use Rattle.json_text.specs.Order.{name_at, place_cmp, PlacesAreWithin, HaveAll, NamesAreRising, placed};
 
 use crate::json::Json;
 use grpc_base::{NoMemory, Text};
@@ -13,12 +13,12 @@ pub struct Members {
     pub list: Vec<(Text, Json)>,
     // their places, in the order of their names
     order: Vec<usize>,
-    ghost within: { AreWithin list.items order.items },
+    ghost within: { PlacesAreWithin list.items order.items },
     ghost whole: { HaveAll list.items order.items },
-    ghost rising: { AreRising list.items order.items },
+    ghost rising: { NamesAreRising list.items order.items },
 }
 
-#[tactic(auto, using(crate::proofs::Order::name_of_item, crate::proofs::Order::no_name_behind))]
+#[tactic(auto, using(crate::proofs::Order::name_of_item, crate::proofs::Order::no_name_after))]
 fn name_at(list: &[(Text, Json)], place: usize) -> &[u8]
     ensures { result.now ≡ name_at list.now place }
 {
@@ -67,7 +67,7 @@ impl Members {
     }
 
     /// Whether one of them has this name; it is compared with about log n of n names.
-    #[tactic(auto, using(crate::proofs::Growth::named_from_front, crate::proofs::Order::search_finds))]
+    #[tactic(auto, using(crate::proofs::Growth::named_from_prefix, crate::proofs::Order::search_finds))]
     pub fn has(&self, name: &[u8]) -> bool
         ensures { result ≡ is_named name.now (members_of self.now.list.items) }
     {

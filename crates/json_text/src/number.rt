@@ -1,6 +1,6 @@
 // A number, byte by byte (RFC 8259, section 6).
 ghost use Rattle.std.specs.Prelude.{◌≡◌};
-ghost use Rattle.json_text.specs.Numbers.{number_byte, behind_whole};
+ghost use Rattle.json_text.specs.Numbers.{number_byte, after_whole};
 
 /// The part of a number that has been read.
 #[derive(Clone, Copy, Debug, PartialEq, Eq)]
@@ -13,7 +13,7 @@ pub enum Part {
     Whole,
     /// A point.
     Point,
-    /// Digits behind the point.
+    /// Digits after the point.
     Fraction,
     /// An `e`.
     Mark,
@@ -27,20 +27,20 @@ pub enum NumberByte {
     /// It belongs to the number.
     Inside(Part),
     /// The number ends before it.
-    Behind,
+    After,
     /// It is the first digit of an exponent.
     Exponent,
     /// No number goes on like this.
     Wrong,
 }
 
-fn behind_whole(byte: u8) -> NumberByte
-    ensures { result ≡ behind_whole byte }
+fn after_whole(byte: u8) -> NumberByte
+    ensures { result ≡ after_whole byte }
 {
     match byte {
         b'.' => NumberByte::Inside(Part::Point),
         b'e' | b'E' => NumberByte::Inside(Part::Mark),
-        _ => NumberByte::Behind,
+        _ => NumberByte::After,
     }
 }
 
@@ -52,11 +52,11 @@ pub fn number_byte(part: Part, byte: u8) -> NumberByte
         (Part::Minus, b'0') => NumberByte::Inside(Part::Zero),
         (Part::Minus | Part::Whole, b'0'..=b'9') => NumberByte::Inside(Part::Whole),
         (Part::Minus, _) => NumberByte::Wrong,
-        (Part::Zero | Part::Whole, _) => behind_whole(byte),
+        (Part::Zero | Part::Whole, _) => after_whole(byte),
         (Part::Point | Part::Fraction, b'0'..=b'9') => NumberByte::Inside(Part::Fraction),
         (Part::Point, _) => NumberByte::Wrong,
         (Part::Fraction, b'e' | b'E') => NumberByte::Inside(Part::Mark),
-        (Part::Fraction, _) => NumberByte::Behind,
+        (Part::Fraction, _) => NumberByte::After,
         (Part::Mark, b'+' | b'-') => NumberByte::Inside(Part::Sign),
         (Part::Mark | Part::Sign, b'0'..=b'9') => NumberByte::Exponent,
         (Part::Mark | Part::Sign, _) => NumberByte::Wrong,

@@ -19,21 +19,21 @@ pub enum Parent {
 pub enum Place {
     /// Before the object at the top.
     Top,
-    /// Behind the bracket that opens a list.
+    /// After the bracket that opens a list.
     FirstValue,
     /// Before a value.
     Value,
-    /// Behind the bracket that opens an object.
+    /// After the bracket that opens an object.
     FirstName,
-    /// Before a name, behind these members.
+    /// Before a name, after these members.
     Name(Members),
     /// Before a colon.
     Colon,
-    /// Behind a value of a list.
+    /// After a value of a list.
     AfterItem(Vec<Json>),
-    /// Behind a member of an object.
+    /// After a member of an object.
     AfterMember(Members),
-    /// Inside the word for a value: the next letter, and those behind it.
+    /// Inside the word for a value: the next letter, and those after it.
     InWord {
         letter: u8,
         letters: &'static [u8],
@@ -47,13 +47,13 @@ pub enum Place {
     },
     /// Inside a string that is a value.
     InString(Quoted),
-    /// Inside a name behind these members, which began at `start`.
+    /// Inside a name after these members, which began at `start`.
     InName {
         members: Members,
         start: u64,
         quoted: Quoted,
     },
-    /// Behind the object at the top.
+    /// After the object at the top.
     End(Json),
 }
 

@@ -1,7 +1,7 @@
 // One byte more of a text: the place that one comes to, or the fault.
 ghost use Rattle.std.specs.Prelude.{◌≡◌, ◌∷◌, [], IfOk};
 ghost use Rattle.json_text.specs.Grammar.{is_blank};
-ghost use Rattle.json_text.specs.Reading.{Gives, in_word, in_number, in_name, put, opened, value_byte, top_byte, first_value_byte, next_value_byte, first_name_byte, next_name_byte, colon_byte, item_byte, member_byte, end_byte, behind_number, word_byte, digit_byte, string_goes, name_goes, named, step};
+ghost use Rattle.json_text.specs.Reading.{Gives, in_word, in_number, in_name, put, opened, value_byte, top_byte, first_value_byte, next_value_byte, first_name_byte, next_name_byte, colon_byte, item_byte, member_byte, end_byte, after_number, word_byte, digit_byte, string_goes, name_goes, named, step};
 ghost use Rattle.json_text.specs.Tree.{item_after};
 ghost use Rattle.json_text.specs.Numbers.{number_byte};
 ghost use Rattle.json_text.specs.Strings.{quoted_next, opened_quote};
@@ -98,7 +98,7 @@ fn in_word(letter: u8, letters: &'static [u8], value: Json) -> Place
     }
 }
 
-/// Behind the first byte of a number.
+/// After the first byte of a number.
 fn in_number(alloc: Global, part: Part, start: u64, byte: u8) -> Result<Place, NoMemory>
     ensures { IfOk result (λ place. stage_of place ≡ in_number part start (byte ∷ [])) }
 {
@@ -124,7 +124,7 @@ fn top_byte(at: u64, parents: Vec<Parent>, byte: u8) -> Result<Reader, JsonFault
     Err(JsonFault::Syntax { at })
 }
 
-/// A byte behind the bracket that opens a list.
+/// A byte after the bracket that opens a list.
 #[tactic(auto, unfolding(crate::specs::Reading::first_value_byte))]
 fn first_value_byte(
     alloc: Global,
@@ -166,7 +166,7 @@ fn next_value_byte(
     value_byte(alloc, at, parents, byte)
 }
 
-/// Behind the opening quote of a name.
+/// After the opening quote of a name.
 fn in_name(alloc: Global, start: u64, members: Members) -> Place
     ensures { stage_of result ≡ in_name (members_of members.list.items) start opened_quote }
 {
@@ -177,7 +177,7 @@ fn in_name(alloc: Global, start: u64, members: Members) -> Place
     }
 }
 
-/// A byte behind the bracket that opens an object.
+/// A byte after the bracket that opens an object.
 #[tactic(auto, unfolding(crate::specs::Reading::first_name_byte))]
 fn first_name_byte(
     alloc: Global,
@@ -196,7 +196,7 @@ fn first_name_byte(
     Ok(Reader { place, parents })
 }
 
-/// A byte before a name, behind a comma.
+/// A byte before a name, after a comma.
 #[tactic(auto, unfolding(crate::specs::Reading::next_name_byte))]
 fn next_name_byte(
     alloc: Global,
@@ -228,7 +228,7 @@ fn colon_byte(at: u64, parents: Vec<Parent>, byte: u8) -> Result<Reader, JsonFau
     Ok(Reader { place, parents })
 }
 
-/// A byte behind a value of a list.
+/// A byte after a value of a list.
 #[tactic(auto, unfolding(crate::specs::Reading::item_byte))]
 fn item_byte(at: u64, items: Vec<Json>, parents: Vec<Parent>, byte: u8) -> Result<Reader, JsonFault>
     ensures { Gives state_of result (item_byte at (items_of items.items) (parents_of parents.items) byte) }
@@ -249,7 +249,7 @@ fn item_byte(at: u64, items: Vec<Json>, parents: Vec<Parent>, byte: u8) -> Resul
     }
 }
 
-/// A byte behind a member of an object.
+/// A byte after a member of an object.
 #[tactic(auto, unfolding(crate::specs::Reading::member_byte))]
 fn member_byte(
     at: u64,
@@ -275,7 +275,7 @@ fn member_byte(
     }
 }
 
-/// A byte behind the object at the top.
+/// A byte after the object at the top.
 #[tactic(auto, unfolding(crate::specs::Reading::end_byte))]
 fn end_byte(at: u64, value: Json, parents: Vec<Parent>, byte: u8) -> Result<Reader, JsonFault>
     ensures { Gives state_of result (end_byte at (tree_of value) (parents_of parents.items) byte) }
@@ -289,10 +289,10 @@ fn end_byte(at: u64, value: Json, parents: Vec<Parent>, byte: u8) -> Result<Read
     Err(JsonFault::Syntax { at })
 }
 
-/// The byte behind a whole number.
-#[tactic(auto, using(crate::proofs::Growth::parents_push), unfolding(crate::specs::Reading::behind_number))]
-fn behind_number(at: u64, value: Json, parents: Vec<Parent>, byte: u8) -> Result<Reader, JsonFault>
-    ensures { Gives state_of result (behind_number at (tree_of value) (parents_of parents.items) byte) }
+/// The byte after a whole number.
+#[tactic(auto, using(crate::proofs::Growth::parents_push), unfolding(crate::specs::Reading::after_number))]
+fn after_number(at: u64, value: Json, parents: Vec<Parent>, byte: u8) -> Result<Reader, JsonFault>
+    ensures { Gives state_of result (after_number at (tree_of value) (parents_of parents.items) byte) }
 {
     let mut parents = parents;
     match parents.pop() {
@@ -326,7 +326,7 @@ fn word_byte(
     Ok(Reader { place, parents })
 }
 
-/// A byte inside a number, or behind it.
+/// A byte inside a number, or after it.
 #[tactic(auto, unfolding(crate::specs::Reading::digit_byte))]
 fn digit_byte(
     at: u64,
@@ -345,7 +345,7 @@ fn digit_byte(
             let place = Place::InNumber { part, start, text };
             Ok(Reader { place, parents })
         }
-        NumberByte::Behind => behind_number(at, Json::Number(text), parents, byte),
+        NumberByte::After => after_number(at, Json::Number(text), parents, byte),
         NumberByte::Exponent => Err(JsonFault::Number { at: start }),
         NumberByte::Wrong => Err(JsonFault::Syntax { at }),
     }
@@ -357,7 +357,7 @@ fn string_byte(at: u64, quoted: Quoted, parents: Vec<Parent>, byte: u8) -> Resul
     ensures { Gives state_of result (string_goes at (quoted_next quoted byte) (parents_of parents.items)) }
 {
     match quoted.next(byte)? {
-        QuotedNext::Goes(quoted) => Ok(Reader {
+        QuotedNext::Continues(quoted) => Ok(Reader {
             place: Place::InString(quoted),
             parents,
         }),
@@ -398,7 +398,7 @@ fn name_byte(
     ensures { Gives state_of result (name_goes at (members_of members.list.items) start (quoted_next quoted byte) (parents_of parents.items)) }
 {
     match quoted.next(byte)? {
-        QuotedNext::Goes(quoted) => Ok(Reader {
+        QuotedNext::Continues(quoted) => Ok(Reader {
             place: Place::InName {
                 members,
                 start,

@@ -13,7 +13,7 @@ pub enum Spot {
     Between,
     /// Inside a character of several bytes: the next is from `low` to `high`, and `more` follow it.
     Tail { low: u8, high: u8, more: u8 },
-    /// Behind a backslash.
+    /// After a backslash.
     Escape,
     /// Before a digit of an escape: how many follow it, and the value of those before it.
     Hex { left: u8, value: u16 },
@@ -248,7 +248,7 @@ pub struct Quoted {
 #[derive(Debug, Drop)]
 pub enum QuotedNext {
     /// The string goes on.
-    Goes(Quoted),
+    Continues(Quoted),
     /// It is closed, with these characters.
     Closed(Text),
     /// No string goes on like this.
@@ -256,7 +256,7 @@ pub enum QuotedNext {
 }
 
 impl Quoted {
-    /// Behind the opening quote.
+    /// After the opening quote.
     pub fn new(alloc: Global) -> Quoted
         ensures { result ≡ opened_quote }
     {
@@ -278,6 +278,6 @@ impl Quoted {
             StringByte::Closing => return Ok(QuotedNext::Closed(read.settled()?)),
             StringByte::Wrong => return Ok(QuotedNext::Wrong),
         };
-        Ok(QuotedNext::Goes(Quoted { spot, read }))
+        Ok(QuotedNext::Continues(Quoted { spot, read }))
     }
 }

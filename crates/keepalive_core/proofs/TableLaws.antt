@@ -7,15 +7,15 @@ use Rattle.keepalive_core.specs.Table.{changed_at, changed_in, keep_of, opened_a
 use Rattle.keepalive_core.specs.declared.table.KeptLink.{KeptLink}
 
 -- a link that is not the first: the first one stays
-behind_first : (other place : ℕ) (change : KeepSeen → KeepSeen) (o : Option KeptLink) (k : KeptLink) (links : List KeptLink)
+after_the_first : (other place : ℕ) (change : KeepSeen → KeepSeen) (o : Option KeptLink) (k : KeptLink) (links : List KeptLink)
     → keep_of other (changed_at (suc place) change o (k ∷ links)) ≡ (if k.link == other then Some k.keep else keep_of other (changed_at place change o links))
-behind_first other place change (Some x) k links = refl
-behind_first other place change None k links = refl
+after_the_first other place change (Some x) k links = refl
+after_the_first other place change None k links = refl
 
-opened_behind_first : (link other place : ℕ) (keep : KeepSeen) (o : Option KeptLink) (k : KeptLink) (links : List KeptLink)
+opened_after_first : (link other place : ℕ) (keep : KeepSeen) (o : Option KeptLink) (k : KeptLink) (links : List KeptLink)
     → keep_of other (opened_at link (suc place) keep o (k ∷ links)) ≡ (if k.link == other then Some k.keep else keep_of other (opened_at link place keep o links))
-opened_behind_first link other place keep (Some x) k links = refl
-opened_behind_first link other place keep None k links = refl
+opened_after_first link other place keep (Some x) k links = refl
+opened_after_first link other place keep None k links = refl
 
 apart : (link other first : ℕ) → (first == link) ≡ false → (first == other) ≡ true → (link == other) ≡ false
 apart link other first miss hit = ne_eqb link other (λ e. eqb-false first link miss (eqb-true first other hit ∙ sym e))
@@ -40,7 +40,7 @@ first_changed : (link other : ℕ) (change : KeepSeen → KeepSeen) (k : KeptLin
     → keep_of other (changed_at (if b then 0 else suc (place_of link links)) change (slice_get (k ∷ links) (if b then 0 else suc (place_of link links))) (k ∷ links))
     ≡ (if link == other then option_map change (if k.link == other then Some k.keep else keep_of other links) else (if k.link == other then Some k.keep else keep_of other links))
 first_changed link other change k links later true here = own_changed change k.keep (keep_of other links) (k.link == other) (link == other) (ap (λ (n : ℕ). n == other) (eqb-true k.link link here))
-first_changed link other change k links later false here = behind_first other (place_of link links) change (slice_get links (place_of link links)) k links ∙ other_changed link other change k links later here (k.link == other) refl
+first_changed link other change k links later false here = after_the_first other (place_of link links) change (slice_get links (place_of link links)) k links ∙ other_changed link other change k links later here (k.link == other) refl
 
 none_changed : (change : KeepSeen → KeepSeen) (b : Bool) → ◌≡◌ {A = Option KeepSeen} None (if b then option_map change None else None)
 none_changed change true = refl
@@ -69,7 +69,7 @@ first_opened : (link other : ℕ) (keep : KeepSeen) (k : KeptLink) (links : List
     → keep_of other (opened_at link (if b then 0 else suc (place_of link links)) keep (slice_get (k ∷ links) (if b then 0 else suc (place_of link links))) (k ∷ links))
     ≡ (if link == other then Some keep else (if k.link == other then Some k.keep else keep_of other links))
 first_opened link other keep k links later true here = own_opened keep k.keep (keep_of other links) (k.link == other) (link == other) (ap (λ (n : ℕ). n == other) (eqb-true k.link link here))
-first_opened link other keep k links later false here = opened_behind_first link other (place_of link links) keep (slice_get links (place_of link links)) k links ∙ other_opened link other keep k links later here (k.link == other) refl
+first_opened link other keep k links later false here = opened_after_first link other (place_of link links) keep (slice_get links (place_of link links)) k links ∙ other_opened link other keep k links later here (k.link == other) refl
 
 pub opened_keeps : (link other : ℕ) (keep : KeepSeen) (links : List KeptLink)
     → keep_of other (opened_in link keep links) ≡ (if link == other then Some keep else keep_of other links)

@@ -38,14 +38,14 @@ until_lost [] = []
 until_lost (e ∷ older) = if has_lost older then until_lost older else e ∷ older
 
 -- bytes came at `now`, or the last moment at which they came stands
-abbrev pub heard_by : ℕ → ℕ → KeepKind → ℕ
-heard_by now before kind.Octets = now
-heard_by now before _ = before
+abbrev pub received_by : ℕ → ℕ → KeepKind → ℕ
+received_by now before kind.Octets = now
+received_by now before _ = before
 
 -- the moment of the last bytes, or the start
-abbrev pub heard_at : ℕ → List KeepEntry → ℕ
-heard_at start [] = start
-heard_at start (e ∷ older) = heard_by (latest start (e ∷ older)) (heard_at start older) e.kind
+abbrev pub received_at : ℕ → List KeepEntry → ℕ
+received_at start [] = start
+received_at start (e ∷ older) = received_by (latest start (e ∷ older)) (received_at start older) e.kind
 
 -- a ping is sent at `now`, bytes answer it, or it stands as it stood
 abbrev pub open_by : ℕ → Option ℕ → KeepKind → Option ℕ
@@ -79,7 +79,7 @@ pub record KeepSeen : Type 0 where
   pub lost : Option ℕ
 
 abbrev pub stand_of : KeepRule → ℕ → List KeepEntry → KeepSeen
-stand_of rule start log = record { rule = rule; moment = latest start log; heard = heard_at start log; pings = pings_of log; sent = open_at start log; lost = lost_at start log }
+stand_of rule start log = record { rule = rule; moment = latest start log; heard = received_at start log; pings = pings_of log; sent = open_at start log; lost = lost_at start log }
 
 -- where a link stands after all that was done
 abbrev pub stand_after : KeepRule → ℕ → List KeepEntry → KeepSeen
@@ -135,7 +135,7 @@ stands_after k done moment None =
     record {
       rule = k.rule;
       moment = max k.moment moment;
-      heard = heard_by (max k.moment moment) k.heard done;
+      heard = received_by (max k.moment moment) k.heard done;
       pings = if is_ping done then k.pings + 1 else k.pings;
       sent = open_by (max k.moment moment) k.sent done;
       lost = if is_lost done then Some (max k.moment moment) else None;

@@ -34,7 +34,7 @@ changed_at place change None links = links
 abbrev pub changed_in : ℕ → (KeepSeen → KeepSeen) → List KeptLink → List KeptLink
 changed_in link change links = changed_at (place_of link links) change (slice_get links (place_of link links)) links
 
--- the same with a link that is opened: its keepalive anew, or behind the others
+-- the same with a link that is opened: its keepalive anew, or after the others
 abbrev pub opened_at : ℕ → ℕ → KeepSeen → Option KeptLink → List KeptLink → List KeptLink
 opened_at link place keep (Some k) links = slice_set links place (record k { keep = keep })
 opened_at link place keep None links = links ++ record { link = link; keep = keep } ∷ []

@@ -27,7 +27,7 @@ fn is_same(kind: KeepKind, answer: KeepTurn) -> bool
 /// Whether an entry is what the rules say, and if so, what follows from it.
 fn follows(keep: &mut Keepalive, entry: &KeepEntry) -> bool
     requires { entry.now.moment ≤ moment_limit }
-    ensures told { result ≡ is_next keep.old entry.now }
+    ensures reported { result ≡ is_next keep.old entry.now }
     ensures stand { result ≡ true → keep.new ≡ stand_next keep.old entry.now.kind entry.now.moment }
 {
     match entry.kind {
@@ -39,7 +39,7 @@ fn follows(keep: &mut Keepalive, entry: &KeepEntry) -> bool
     }
 }
 
-/// The first entry, and those behind it.
+/// The first entry, and those after it.
 fn first_entry(log: &[KeepEntry]) -> Option<(&KeepEntry, &[KeepEntry])>
     ensures { MatchOption result (log.now ≡ []) (λ x. log.now ≡ x.0.now ∷ x.1.now) }
 {

@@ -72,11 +72,11 @@ impl Keepalive {
         ensures stand { self.new ≡ stand_next self.old kind.Octets moment }
         ensures law { (start : ℕ) (log : List KeepEntry) → self.old ≡ stand_after self.old.rule start log → self.new ≡ stand_after self.old.rule start (record { moment = moment; kind = kind.Octets } ∷ log) }
     {
-        self.hear(moment);
+        self.receive(moment);
     }
 
     /// Notes that bytes came.
-    fn hear(&mut self, moment: u64)
+    fn receive(&mut self, moment: u64)
         requires { moment ≤ moment_limit }
         ensures { self.new ≡ stand_next self.old kind.Octets moment }
     {

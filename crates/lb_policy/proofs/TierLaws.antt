@@ -29,27 +29,27 @@ shift test j m (s ∷ view) =
     let h : j + m + 1 ≡ j + 1 + m = omega arith in
     shift-step test j m (test s) (position_from test (j + 1) view) (position_from test (j + m + 1) view) (ap (λ (k : ℕ). position_from test k view) h ∙ shift test (j + 1) m view)
 
--- it is in front of a place, or behind
-front-step : (test : SubSeen → Bool) (j w : ℕ) (view : List SubSeen) (b : Bool) → (b || list_any test (take w view)) ≡ true → (list_any test (take w view) ≡ true → (i : ℕ) × (i < w) × (position_from test (j + 1) view ≡ Some (j + 1 + i))) → (i : ℕ) × (i < suc w) × (cond b (Some j) (position_from test (j + 1) view) ≡ Some (j + i))
-front-step test j w view true h next = let e : j ≡ j + 0 = omega arith in (0, omega arith, ap Some e)
-front-step test j w view false h next =
+-- it is before a place, or after
+prefix-step : (test : SubSeen → Bool) (j w : ℕ) (view : List SubSeen) (b : Bool) → (b || list_any test (take w view)) ≡ true → (list_any test (take w view) ≡ true → (i : ℕ) × (i < w) × (position_from test (j + 1) view ≡ Some (j + 1 + i))) → (i : ℕ) × (i < suc w) × (cond b (Some j) (position_from test (j + 1) view) ≡ Some (j + i))
+prefix-step test j w view true h next = let e : j ≡ j + 0 = omega arith in (0, omega arith, ap Some e)
+prefix-step test j w view false h next =
     let g : (i : ℕ) × (i < w) × (position_from test (j + 1) view ≡ Some (j + 1 + i)) = next h in
     let within : g.0 < w = g.1 in
     let e : j + 1 + g.0 ≡ j + suc g.0 = omega arith in
     (suc g.0, omega (arith, within), g.2 ∙ ap Some e)
 
-front : (test : SubSeen → Bool) (j w : ℕ) (view : List SubSeen) → list_any test (take w view) ≡ true → (i : ℕ) × (i < w) × (position_from test j view ≡ Some (j + i))
-front test j zero view h = let g : ⊥ = (cc) in absurd g
-front test j (suc w) [] h = let g : ⊥ = (cc) in absurd g
-front test j (suc w) (s ∷ view) h = front-step test j w view (test s) h (front test (j + 1) w view)
+prefix : (test : SubSeen → Bool) (j w : ℕ) (view : List SubSeen) → list_any test (take w view) ≡ true → (i : ℕ) × (i < w) × (position_from test j view ≡ Some (j + i))
+prefix test j zero view h = let g : ⊥ = (cc) in absurd g
+prefix test j (suc w) [] h = let g : ⊥ = (cc) in absurd g
+prefix test j (suc w) (s ∷ view) h = prefix-step test j w view (test s) h (prefix test (j + 1) w view)
 
-behind : (test : SubSeen → Bool) (j w : ℕ) (view : List SubSeen) → list_any test (take w view) ≡ false → position_from test j view ≡ position_from test (j + w) (drop w view)
-behind test j zero view h = let e : j ≡ j + 0 = omega arith in ap (λ (k : ℕ). position_from test k view) e
-behind test j (suc w) [] h = refl
-behind test j (suc w) (s ∷ view) h =
+afterwards : (test : SubSeen → Bool) (j w : ℕ) (view : List SubSeen) → list_any test (take w view) ≡ false → position_from test j view ≡ position_from test (j + w) (drop w view)
+afterwards test j zero view h = let e : j ≡ j + 0 = omega arith in ap (λ (k : ℕ). position_from test k view) e
+afterwards test j (suc w) [] h = refl
+afterwards test j (suc w) (s ∷ view) h =
     let parts : (test s ≡ false) × (list_any test (take w view) ≡ false) = or_parts (test s) (list_any test (take w view)) h in
     let e : j + 1 + w ≡ j + suc w = omega arith in
-    ap (λ (b : Bool). cond b (Some j) (position_from test (j + 1) view)) parts.0 ∙ behind test (j + 1) w view parts.1 ∙ ap (λ (k : ℕ). position_from test k (drop w view)) e
+    ap (λ (b : Bool). cond b (Some j) (position_from test (j + 1) view)) parts.0 ∙ afterwards test (j + 1) w view parts.1 ∙ ap (λ (k : ℕ). position_from test k (drop w view)) e
 
 -- the first tier with a subchannel that passes a test is that of the first such subchannel
 one-further : (w k : ℕ) → 0 < w → (o : Option ℕ) → option_map (λ (i : ℕ). k + 1 + i / w) o ≡ option_map (λ (i : ℕ). k + i / w) (option_map (λ (i : ℕ). w + i) o)
@@ -61,13 +61,13 @@ one-further w k h (Some i) =
 
 tier-step : (test : SubSeen → Bool) (w k : ℕ) (view : List SubSeen) (b : Bool) (rest : Option ℕ) → 0 < w → list_any test (take w view) ≡ b → rest ≡ option_map (λ (i : ℕ). k + 1 + i / w) (position_from test 0 (drop w view)) → cond b (Some k) rest ≡ option_map (λ (i : ℕ). k + i / w) (position_from test 0 view)
 tier-step test w k view true rest h e next =
-    let g : (i : ℕ) × (i < w) × (position_from test 0 view ≡ Some (0 + i)) = front test 0 w view e in
+    let g : (i : ℕ) × (i < w) × (position_from test 0 view ≡ Some (0 + i)) = prefix test 0 w view e in
     let at : 0 + g.0 ≡ g.0 = omega arith in
     let first : g.0 / w ≡ 0 = div-eq_of_lt g.1 in
     let same : k ≡ k + g.0 / w = omega (arith, first) in
     ap Some same ∙ sym (ap (option_map (λ (i : ℕ). k + i / w)) (g.2 ∙ ap Some at))
 tier-step test w k view false rest h e next =
-    next ∙ one-further w k h (position_from test 0 (drop w view)) ∙ ap (option_map (λ (i : ℕ). k + i / w)) (sym (behind test 0 w view e ∙ shift test 0 w (drop w view)))
+    next ∙ one-further w k h (position_from test 0 (drop w view)) ∙ ap (option_map (λ (i : ℕ). k + i / w)) (sym (afterwards test 0 w view e ∙ shift test 0 w (drop w view)))
 
 tier-from : (test : SubSeen → Bool) (w : ℕ) (view : List SubSeen) → 0 < w → (n k : ℕ) → length view ≤ k * w + n → position_from (λ (members : List SubSeen). list_any test members) k (map (tier w view) (range_with_len k n)) ≡ option_map (λ (i : ℕ). k + i / w) (position_from test 0 (drop (k * w) view))
 tier-from test w view h zero k long =
@@ -151,7 +151,7 @@ tiers-last w failed view h =
     ap is_some (standing-tier failed w view h) ∙ some-map w (position_from (upholds_tier failed) 0 view) ∙ some-place (upholds_tier failed) 0 view ∙ any-stands failed view in
     ap (λ (b : Bool). state_by b (is_some (first_tier (λ (t : List SubSeen). not (tier_has_failed failed t)) w view))) ready ∙ ap (state_by (tier_is_ready view)) hope ∙ same-state (tier_is_ready view) (list_any (λ (s : SubSeen). not (is_among failed s)) view)
 
--- no place in front of the first passes
+-- no place before the first passes
 before-step : (test : SubSeen → Bool) (j m i : ℕ) (s t : SubSeen) (view : List SubSeen) (b : Bool) → test t ≡ b → cond b (Some j) (position_from test (j + 1) view) ≡ Some m → slice_get (t ∷ view) i ≡ Some s → j + i < m → ((k : ℕ) → position_from test (j + 1) view ≡ Some m → slice_get view k ≡ Some s → j + 1 + k < m → test s ≡ false) → test s ≡ false
 before-step test j m i s t view true h e at within next = let same : j ≡ m = same_Some j m e in let g : ⊥ = omega (arith, within, same) in absurd g
 before-step test j m zero s t view false h e at within next = subst (λ (x : SubSeen). test x ≡ false) (same_Some t s at) h
@@ -176,9 +176,9 @@ div-up m i w h le =
     let floor : m / w * w ≤ m = div-mul-le_self m w in
     le-div (m / w) i w h (omega (arith, floor, le))
 
-in-front : (test : SubSeen → Bool) (w t : ℕ) (view : List SubSeen) → 0 < w → (o : Option ℕ) → position_from test 0 view ≡ o → option_map (λ (i : ℕ). i / w) o ≡ Some t → (i : ℕ) (s : SubSeen) → slice_get view i ≡ Some s → i / w < t → test s ≡ false
-in-front test w t view h None e f i s at early = absurd (none-some t f)
-in-front test w t view h (Some m) e f i s at early =
+in-prefix : (test : SubSeen → Bool) (w t : ℕ) (view : List SubSeen) → 0 < w → (o : Option ℕ) → position_from test 0 view ≡ o → option_map (λ (i : ℕ). i / w) o ≡ Some t → (i : ℕ) (s : SubSeen) → slice_get view i ≡ Some s → i / w < t → test s ≡ false
+in-prefix test w t view h None e f i s at early = absurd (none-some t f)
+in-prefix test w t view h (Some m) e f i s at early =
     let same : m / w ≡ t = same_Some (m / w) t f in
     let order : i < m = lt_of_not-le (λ (le : m ≤ i). let up : m / w ≤ i / w = div-up m i w h le in let g : ⊥ = omega (arith, up, same, early) in g) in
     before test 0 m view i s e at (omega (arith, order))
@@ -205,7 +205,7 @@ picked p n place state (Some t) h first e =
     let g : Found is_ready (tier p.width p.view t) n = found is_ready (tier p.width p.view t) place n (place-of (slice_get (subs_in is_ready (tier p.width p.view t)) place) state n e) in
     let taken : (g.1.place < p.width) × (slice_get (drop (t * p.width) p.view) g.1.place ≡ Some g.0) = taken-in p.width (drop (t * p.width) p.view) g.1.place g.0 g.1.at in
     let stands-at : StandsAt p t g.0 = record { place = t * p.width + g.1.place; at = dropped-in (t * p.width) p.view g.1.place g.0 taken.1; within = div-mul-add t p.width g.1.place taken.0 } in
-    (t, g.0, stands-at, g.3, g.2, λ u r early at. in-front (λ (s : SubSeen). is_ready s.state) p.width t p.view h (position_from (λ (s : SubSeen). is_ready s.state) 0 p.view) refl (sym (ready-tier p.width p.view h) ∙ first) at.place r at.at (let same : at.place / p.width ≡ u = at.within in omega (arith, same, early)))
+    (t, g.0, stands-at, g.3, g.2, λ u r early at. in-prefix (λ (s : SubSeen). is_ready s.state) p.width t p.view h (position_from (λ (s : SubSeen). is_ready s.state) 0 p.view) refl (sym (ready-tier p.width p.view h) ∙ first) at.place r at.at (let same : at.place / p.width ≡ u = at.within in omega (arith, same, early)))
 
 pub no-pick-passes : NoPickPassesAReadyTier
 no-pick-passes p n h e =
@@ -225,7 +225,7 @@ wished p i n (Some k) h first e =
     let g : Found is_starting (take ((k + 1) * p.width) p.view) n = found is_starting (take ((k + 1) * p.width) p.view) i n e in
     let taken : (g.1.place < (k + 1) * p.width) × (slice_get p.view g.1.place ≡ Some g.0) = taken-in ((k + 1) * p.width) p.view g.1.place g.0 g.1.at in
     let within : g.1.place / p.width < k + 1 = (div-lt_iff_lt-mul {x = g.1.place} {y = k + 1} h).1 taken.0 in
-    (g.1.place / p.width, g.0, record { place = g.1.place; at = taken.1; within = refl }, g.3, λ u r early at. failed-part (is_ready r.state) (is_among p.failed r) (in-front (upholds_tier p.failed) p.width k p.view h (position_from (upholds_tier p.failed) 0 p.view) refl (sym (standing-tier p.failed p.width p.view h) ∙ first) at.place r at.at (let same : at.place / p.width ≡ u = at.within in omega (arith, same, early, within))))
+    (g.1.place / p.width, g.0, record { place = g.1.place; at = taken.1; within = refl }, g.3, λ u r early at. failed-part (is_ready r.state) (is_among p.failed r) (in-prefix (upholds_tier p.failed) p.width k p.view h (position_from (upholds_tier p.failed) 0 p.view) refl (sym (standing-tier p.failed p.width p.view h) ∙ first) at.place r at.at (let same : at.place / p.width ≡ u = at.within in omega (arith, same, early, within))))
 
 pub no-wish-passes : NoWishPassesATierThatHasNotFailed
 no-wish-passes p i n h e =

@@ -53,7 +53,7 @@ abbrev pub is_among : List ℕ → SubSeen → Bool
 is_among numbers s = is_one_of numbers s.sub
 
 -- tiers: the places of a view in groups of so many. Tier t, counted from 0, has the places from t × width on, before
--- (t + 1) × width. There are no more of them than places: those behind the last place are empty
+-- (t + 1) × width. There are no more of them than places: those after the last place are empty
 abbrev pub tier : ℕ → List SubSeen → ℕ → List SubSeen
 tier width view t = take width (drop (t * width) view)
 

@@ -36,7 +36,7 @@ impl Model for Priority {
 
 impl Priority {
     /// A policy of tiers of so many subchannels, with the empty view and no turn. The first tier has the first ones of
-    /// the view, the second one those behind them, and so on.
+    /// the view, the second one those after them, and so on.
     pub fn new(width: u32) -> Result<Priority, BadWidth>
         ensures made { IfOk result (λ p. p ≡ new_tiered width) }
         ensures bad { is_err result ≡ ((width == 0) || nat_lt 64 width) }

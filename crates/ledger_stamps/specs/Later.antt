@@ -15,7 +15,7 @@ Written entry_of n None None = Unit {0}
 Written entry_of n None (Some stamp) = entry_of stamp ≡ n
 Written entry_of n (Some stamp) new = new ≡ Some stamp
 
--- each element of a list is followed by a later one in its place, and what stands behind is new
+-- each element of a list is followed by a later one in its place, and what stands after is new
 abbrev pub Grown : {X : Type 0} → (X → X → Type 0) → (X → Type 0) → List X → List X → Type 0
 Grown IsLater IsNew [] [] = Unit {0}
 Grown IsLater IsNew [] (x ∷ xs) = IsNew x × Grown IsLater IsNew [] xs

@@ -8,7 +8,7 @@ use grpc_base::{Items, NoMemory};
 use std::alloc::Global;
 use std::mem;
 
-/// Adds a call that began in this entry, and tells its number. Past 4,294,967,295 calls the answer is that of no memory. Where it
+/// Adds a call that began in this entry, and reports its number. Past 4,294,967,295 calls the answer is that of no memory. Where it
 /// is, the calls are as before.
 pub fn add_call(alloc: Global, calls: &mut Items<CallSeen>, entry: u64) -> Result<u32, NoMemory>
     ensures number { IfOk result (λ number. number ≡ length calls.new) }

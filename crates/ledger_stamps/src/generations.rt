@@ -6,7 +6,7 @@ use crate::place::{index_of, stamp};
 use attempt_ledger::{Ask, Generation};
 use grpc_base::{Items, Kind, NoMemory};
 
-/// Adds a generation of this kind, and tells its number. Past 4,294,967,295 generations the answer is that of no memory. Where it
+/// Adds a generation of this kind, and reports its number. Past 4,294,967,295 generations the answer is that of no memory. Where it
 /// is, the generations are as before.
 pub fn add_generation(generations: &mut Items<Generation>, kind: Kind) -> Result<u32, NoMemory>
     ensures number { IfOk result (λ number. number ≡ length generations.new) }

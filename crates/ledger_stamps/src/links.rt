@@ -6,7 +6,7 @@ use crate::place::{index_of, stamp};
 use attempt_ledger::LinkSeen;
 use grpc_base::{Items, NoMemory};
 
-/// Adds a link of a subchannel that came up in this entry, and tells its number. Past 4,294,967,295 links the answer is that of no
+/// Adds a link of a subchannel that came up in this entry, and reports its number. Past 4,294,967,295 links the answer is that of no
 /// memory. Where it is, the links are as before.
 pub fn add_link(links: &mut Items<LinkSeen>, sub: u32, entry: u64) -> Result<u32, NoMemory>
     ensures number { IfOk result (λ number. number ≡ length links.new) }

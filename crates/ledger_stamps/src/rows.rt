@@ -8,7 +8,7 @@ use grpc_base::{Items, NoMemory};
 use std::alloc::Global;
 use std::mem;
 
-/// Adds a row, and tells its place. On out of memory the rows are as before.
+/// Adds a row, and reports its place. On out of memory the rows are as before.
 pub fn add_row(rows: &mut Items<Row>, row: Row) -> Result<u64, NoMemory>
     ensures place { IfOk result (λ place. place ≡ length rows.new) }
     ensures ok { OnOk result (rows.new ≡ rows.old ++ row ∷ []) }

@@ -12,11 +12,11 @@ use Rattle.h2_hpack.specs.Blocks.{decoded, fields_in, state_after, table_in}
 use Rattle.h2_hpack.specs.declared.fault.HpackFault.{HpackFault}
 use Rattle.h2_hpack.specs.declared.fault.HpackFault.TheVariants as fault
 use Rattle.h2_link.specs.LinkErrors as link
-use Rattle.h2_link.specs.Steps.{block_held, continuation_told, found_from, headers_told, is_numbered, list_read, listed, opened_by}
+use Rattle.h2_link.specs.Steps.{block_held, continuation_reported, found_from, headers_reported, is_numbered, list_read, listed, opened_by}
 use Rattle.h2_link.specs.Steps as step
-use Rattle.h2_link.specs.Wire.{Block, Told, Wire}
+use Rattle.h2_link.specs.Wire.{Block, Report, Wire}
 use Rattle.h2_link.specs.declared.live.LiveStream.{LiveStream}
-use Rattle.link_actions.proofs.Hearing.{Heard, no_raise, no_settings, not_kind, of_settings}
+use Rattle.link_actions.proofs.Receiving.{Received, no_raise, no_settings, not_kind, of_settings}
 use Rattle.link_actions.proofs.History.{completed, given, table_of}
 use Rattle.link_actions.proofs.Lists.{both_if, if_false, if_true, or_none}
 use Rattle.link_actions.specs.Sees.{IsBlock}
@@ -29,9 +29,9 @@ use Rattle.session_actions.specs.declared.link.OpenBlock.{OpenBlock}
 use Rattle.session_actions.specs.declared.link.NextRead.TheVariants as nextread
 
 -- what is read in both: the same frame, or an error of the same code
-abbrev pub SameAs : ℕ → FrameSeen → Option OpenBlock → Wire → NextRead → Result Told ℕ → Type 0
+abbrev pub SameAs : ℕ → FrameSeen → Option OpenBlock → Wire → NextRead → Result Report ℕ → Type 0
 SameAs end f open_ w (nextread.Broken code) (Err e) = code ≡ e
-SameAs end f open_ w (nextread.Frame r) (Ok t) = (r.frame ≡ f) × (r.end ≡ end) × Heard f open_ w t.wire
+SameAs end f open_ w (nextread.Frame r) (Ok t) = (r.frame ≡ f) × (r.end ≡ end) × Received f open_ w t.wire
 SameAs end f open_ w _ _ = ⊥
 
 -- a frame of a header block says nothing else
@@ -60,9 +60,9 @@ pub record KeepsRest (w v : Wire) : Type 0 where
   pub window : v.window ≡ w.window
   pub opened : v.opened ≡ w.opened
 
-part_heard : (f : FrameSeen) (open_ : Option OpenBlock) (w v : Wire) → IsPart f → KeepsRest w v → IsBlock v.block (block_after open_ f)
-    → v.table ≡ state_after w.table (completed open_ f) → Heard f open_ w v
-part_heard f open_ w v part kept block table =
+part_received : (f : FrameSeen) (open_ : Option OpenBlock) (w v : Wire) → IsPart f → KeepsRest w v → IsBlock v.block (block_after open_ f)
+    → v.table ≡ state_after w.table (completed open_ f) → Received f open_ w v
+part_received f open_ w v part kept block table =
     let raise : raise_by 0 f ≡ 0 = part.raises in
     let same : v.window ≡ w.window = kept.window in
     record {
@@ -139,7 +139,7 @@ list_same f end seen open_ w v b (Ok fields) part last is no_block kept =
     (λ e. (
       refl,
       refl,
-      part_heard f open_ w (listed u fields b.ends seen at).wire part
+      part_received f open_ w (listed u fields b.ends seen at).wire part
           (keeps_listed w u fields b.ends seen at (record { whole = kept.whole; ready = kept.ready; retiring = kept.retiring; limit = kept.limit; initial = kept.initial; window = kept.window; opened = kept.opened }))
           (subst N (sym (after_last open_ f part.block last)) (subst B (sym (listed_block u fields b.ends seen at ∙ no_block)) tt))
           (listed_table u fields b.ends seen at
@@ -158,7 +158,7 @@ held_same f end open_ w v b part last is kept table =
     (λ e. (
       refl,
       refl,
-      part_heard f open_ w (record v { block = Some (block_of_open b) }) part
+      part_received f open_ w (record v { block = Some (block_of_open b) }) part
           (record { whole = kept.whole; ready = kept.ready; retiring = kept.retiring; limit = kept.limit; initial = kept.initial; window = kept.window; opened = kept.opened })
           (subst N (sym (after_more open_ f part.block last ∙ ap (λ (k : OpenBlock). Some k) is)) (refl, refl, refl))
           (table ∙ ap (state_after w.table) (sym (completes_none open_ f part.block last))),
@@ -177,11 +177,11 @@ part_same l f end seen open_ w v b part is no_block kept same table =
 
 -- HEADERS
 pub headers_same : (l : Link) (w : Wire) (f : FrameSeen) (end seen : ℕ) (open_ : Option OpenBlock) → (f.kind == headers_type) ≡ true → w.block ≡ None
-    → w.table ≡ table_of l → SameAs end f open_ w (part_read l f end (block_with open_ f)) (headers_told w f seen)
+    → w.table ≡ table_of l → SameAs end f open_ w (part_read l f end (block_with open_ f)) (headers_reported w f seen)
 headers_same l w f end seen open_ is no_block table =
     let b : OpenBlock = record { stream = f.stream; ends = has_flag f.flags end_stream_flag; bytes = content_of f } in
     let made : block_with open_ f ≡ b = if_true (f.kind == headers_type) b _ is in
-    let S : OpenBlock → Type 0 = λ k. SameAs end f open_ w (part_read l f end k) (headers_told w f seen) in
+    let S : OpenBlock → Type 0 = λ k. SameAs end f open_ w (part_read l f end k) (headers_reported w f seen) in
     subst S (sym made)
     (part_same l f end seen open_ w w b (part_of f headers_type (eqb-true f.kind headers_type is) refl refl refl refl) made no_block
     (record { whole = refl; ready = refl; retiring = refl; limit = refl; initial = refl; window = refl; opened = refl }) refl table)
@@ -196,7 +196,7 @@ begun_is n ends bytes o is_n is_ends is_bytes more =
 
 pub continuation_same : (l : Link) (w : Wire) (f : FrameSeen) (end seen : ℕ) (k : Option Block) (open_ : Option OpenBlock) → (f.kind == continuation_type) ≡ true
     → IsBlock k open_ → link.is_misplaced k f ≡ false → w.table ≡ table_of l
-    → SameAs end f open_ w (part_read l f end (block_with open_ f)) (continuation_told w f seen k)
+    → SameAs end f open_ w (part_read l f end (block_with open_ f)) (continuation_reported w f seen k)
 continuation_same l w f end seen None None is block placed table = absurd (cc)
 continuation_same l w f end seen None (Some o) is block placed table = absurd block
 continuation_same l w f end seen (Some k) None is block placed table = absurd block

@@ -18,7 +18,7 @@ use Rattle.lb_policy.specs.Table.{is_one_of}
 use Rattle.link_actions.proofs.Lists.{if_false, if_true, none_of, or_none}
 use Rattle.link_actions.proofs.Written.{ends_more, fed_still, raised_still, used_more}
 use Rattle.link_actions.specs.Laws.{with_written}
-use Rattle.link_actions.specs.Sees.{AreDistinct, AreFed, AreFresh, AreLive, AreOpened, IsFed, IsLive, WaitFed, written_for}
+use Rattle.link_actions.specs.Sees.{NumbersAreDistinct, StreamsAreFed, StreamsAreFresh, StreamsAreLive, StreamsAreOpened, IsFed, IsLive, WaitFed, written_for}
 use Rattle.session_actions.specs.Links.{has_written_end}
 use Rattle.session_actions.specs.Reading.{is_data_on, raised, used}
 use Rattle.session_actions.specs.declared.attempt.Attempt.{Attempt}
@@ -148,7 +148,7 @@ below_apart : (n k : ℕ) → k < n → (n == k) ≡ false
 below_apart n k h = grind (arith, nat_tests, h)
 
 tail_other : (l : Link) (n : ℕ) (content : List ℕ) (ends : Bool) (first bound : ℕ) (xs : List LiveStream) (others : List Attempt) → n < first
-    → AreOpened first bound xs → AreLive l xs others → AreLive (with_written (sent.Frame (data_frame n content ends)) l) xs others
+    → StreamsAreOpened first bound xs → StreamsAreLive l xs others → StreamsAreLive (with_written (sent.Frame (data_frame n content ends)) l) xs others
 tail_other l n content ends first bound [] [] low opened are = tt
 tail_other l n content ends first bound (x ∷ xs) (a ∷ others) low opened are =
     let from_ : first ≤ x.number = opened.0 in
@@ -160,7 +160,7 @@ tail_other l n content ends first bound (x ∷ xs) (a ∷ others) low opened are
 tail_other l n content ends first bound [] (a ∷ others) low opened are = absurd are
 tail_other l n content ends first bound (x ∷ xs) [] low opened are = absurd are
 
-pub number_in : (first bound i : ℕ) (xs : List LiveStream) (y : LiveStream) → AreOpened first bound xs → slice_get xs i ≡ Some y → first ≤ y.number
+pub number_in : (first bound i : ℕ) (xs : List LiveStream) (y : LiveStream) → StreamsAreOpened first bound xs → slice_get xs i ≡ Some y → first ≤ y.number
 number_in first bound i [] y opened e = absurd (cc)
 number_in first bound zero (x ∷ xs) y opened e = subst (λ (z : LiveStream). first ≤ z.number) (let same : x ≡ y = (cc) in same) opened.0
 number_in first bound (suc i) (x ∷ xs) y opened e =
@@ -206,13 +206,13 @@ own_live l y a content len ends open_ size is =
     }
 
 pub data_live : (l : Link) (y : LiveStream) (content : List ℕ) (len : ℕ) (ends : Bool) (first bound i : ℕ) (xs : List LiveStream) (others : List Attempt)
-    → y.finished ≡ false → length content ≡ len → AreOpened first bound xs → AreLive l xs others → slice_get xs i ≡ Some y
-    → AreLive (with_written (sent.Frame (data_frame y.number content ends)) l) (slice_set xs i (record y { finished = ends; credit = y.credit -ℤ pos len })) others
+    → y.finished ≡ false → length content ≡ len → StreamsAreOpened first bound xs → StreamsAreLive l xs others → slice_get xs i ≡ Some y
+    → StreamsAreLive (with_written (sent.Frame (data_frame y.number content ends)) l) (slice_set xs i (record y { finished = ends; credit = y.credit -ℤ pos len })) others
 data_live l y content len ends first bound i [] [] open_ size opened are e = absurd (cc)
 data_live l y content len ends first bound zero (x ∷ xs) (a ∷ others) open_ size opened are e =
     let same : x ≡ y = (cc) in
     let I : LiveStream → Type 0 = λ z. IsLive l z a in
-    let O : LiveStream → Type 0 = λ z. AreOpened (z.number + 1) bound xs in
+    let O : LiveStream → Type 0 = λ z. StreamsAreOpened (z.number + 1) bound xs in
     let next : y.number < y.number + 1 = omega arith in
     (own_live l y a content len ends open_ size (subst I same are.0), tail_other l y.number content ends (y.number + 1) bound xs others next (subst O same opened.2) are.1)
 data_live l y content len ends first bound (suc i) (x ∷ xs) (a ∷ others) open_ size opened are e =
@@ -225,13 +225,13 @@ data_live l y content len ends first bound i [] (a ∷ others) open_ size opened
 data_live l y content len ends first bound i (x ∷ xs) [] open_ size opened are e = absurd are
 
 -- the numbers and tags stay
-pub same_opened : (first bound i : ℕ) (xs : List LiveStream) (y v : LiveStream) → v.number ≡ y.number → slice_get xs i ≡ Some y → AreOpened first bound xs
-    → AreOpened first bound (slice_set xs i v)
+pub same_opened : (first bound i : ℕ) (xs : List LiveStream) (y v : LiveStream) → v.number ≡ y.number → slice_get xs i ≡ Some y → StreamsAreOpened first bound xs
+    → StreamsAreOpened first bound (slice_set xs i v)
 same_opened first bound i [] y v same e opened = absurd (cc)
 same_opened first bound zero (x ∷ xs) y v same e opened =
     let is : x ≡ y = (cc) in
     let number : x.number ≡ v.number = ap (λ (z : LiveStream). z.number) is ∙ sym same in
-    subst (λ (n : ℕ). (first ≤ n) × (n < bound) × AreOpened (n + 1) bound xs) number opened
+    subst (λ (n : ℕ). (first ≤ n) × (n < bound) × StreamsAreOpened (n + 1) bound xs) number opened
 same_opened first bound (suc i) (x ∷ xs) y v same e opened = (opened.0, opened.1, same_opened (x.number + 1) bound i xs y v same e opened.2)
 
 pub same_tags : (i : ℕ) (xs : List LiveStream) (y v : LiveStream) → v.tag ≡ y.tag → slice_get xs i ≡ Some y
@@ -257,8 +257,8 @@ one_other l m s g t len x a apart same is fed_ =
     subst L (sym (fed_other g t len x.tag apart)) (fed_still l m s a (g x.tag) done fed_)
 
 tail_fed : (l : Link) (s : Seen) (g : ℕ → Line) (n t len : ℕ) (content : List ℕ) (ends : Bool) (first bound : ℕ) (xs : List LiveStream) (others : List Attempt) (ns : List ℕ)
-    → n < first → AreOpened first bound xs → is_one_of (map (λ (z : LiveStream). z.tag) xs ++ ns) t ≡ false → AreLive l xs others → AreFed l s g xs others
-    → AreFed (with_written (sent.Frame (data_frame n content ends)) l) s (fed g t len) xs others
+    → n < first → StreamsAreOpened first bound xs → is_one_of (map (λ (z : LiveStream). z.tag) xs ++ ns) t ≡ false → StreamsAreLive l xs others → StreamsAreFed l s g xs others
+    → StreamsAreFed (with_written (sent.Frame (data_frame n content ends)) l) s (fed g t len) xs others
 tail_fed l s g n t len content ends first bound [] [] ns low opened apart are fed_ = tt
 tail_fed l s g n t len content ends first bound (x ∷ xs) (a ∷ others) ns low opened apart are fed_ =
     let from_ : first ≤ x.number = opened.0 in
@@ -303,15 +303,15 @@ tag_in zero (x ∷ xs) y ns k e apart =
 tag_in (suc i) (x ∷ xs) y ns k e apart = tag_in i xs y ns k e (none_of (x.tag == k) (is_one_of (map (λ (z : LiveStream). z.tag) xs ++ ns) k) apart).1
 
 pub data_fed : (l : Link) (s : Seen) (g : ℕ → Line) (y : LiveStream) (content : List ℕ) (len : ℕ) (ends : Bool) (first bound i : ℕ) (xs : List LiveStream) (others : List Attempt) (ns : List ℕ)
-    → length content ≡ len → len ≤ length (g y.tag).left → AreOpened first bound xs → AreDistinct (map (λ (z : LiveStream). z.tag) xs ++ ns) → AreLive l xs others → AreFed l s g xs others
+    → length content ≡ len → len ≤ length (g y.tag).left → StreamsAreOpened first bound xs → NumbersAreDistinct (map (λ (z : LiveStream). z.tag) xs ++ ns) → StreamsAreLive l xs others → StreamsAreFed l s g xs others
     → slice_get xs i ≡ Some y
-    → AreFed (with_written (sent.Frame (data_frame y.number content ends)) l) s (fed g y.tag len) (slice_set xs i (record y { finished = ends; credit = y.credit -ℤ pos len })) others
+    → StreamsAreFed (with_written (sent.Frame (data_frame y.number content ends)) l) s (fed g y.tag len) (slice_set xs i (record y { finished = ends; credit = y.credit -ℤ pos len })) others
 data_fed l s g y content len ends first bound i [] [] ns size within opened tags are fed_ e = absurd (cc)
 data_fed l s g y content len ends first bound zero (x ∷ xs) (a ∷ others) ns size within opened tags are fed_ e =
     let same : x ≡ y = (cc) in
     let I : LiveStream → Type 0 = λ z. IsLive l z a in
     let F : LiveStream → Type 0 = λ z. IsFed l s a (g z.tag) in
-    let O : LiveStream → Type 0 = λ z. AreOpened (z.number + 1) bound xs in
+    let O : LiveStream → Type 0 = λ z. StreamsAreOpened (z.number + 1) bound xs in
     let D : LiveStream → Type 0 = λ z. is_one_of (map (λ (v : LiveStream). v.tag) xs ++ ns) z.tag ≡ false in
     let next : y.number < y.number + 1 = omega arith in (
       own_fed l s g y a content len ends size within (subst I same are.0) (subst F same fed_.0),
@@ -337,15 +337,15 @@ one_waits l s g y content len ends a none apart fed_ =
     = ap (λ (o : Option ℕ). option_map_or (λ k. used k m) o 0) none ∙ sym (ap (λ (o : Option ℕ). option_map_or (λ k. used k l) o 0) none) in
     subst L (sym (fed_other g y.tag len a.place apart)) (fed_still l m s a (g a.place) done fed_)
 
-behind : (ns ms : List ℕ) (t : ℕ) → is_one_of (ns ++ ms) t ≡ false → is_one_of ms t ≡ false
-behind [] ms t e = e
-behind (n ∷ ns) ms t e = behind ns ms t (none_of (n == t) (is_one_of (ns ++ ms) t) e).1
+afterwards : (ns ms : List ℕ) (t : ℕ) → is_one_of (ns ++ ms) t ≡ false → is_one_of ms t ≡ false
+afterwards [] ms t e = e
+afterwards (n ∷ ns) ms t e = afterwards ns ms t (none_of (n == t) (is_one_of (ns ++ ms) t) e).1
 
-pub tag_apart : (i : ℕ) (xs : List LiveStream) (y : LiveStream) (ns : List ℕ) → slice_get xs i ≡ Some y → AreDistinct (map (λ (z : LiveStream). z.tag) xs ++ ns) → is_one_of ns y.tag ≡ false
+pub tag_apart : (i : ℕ) (xs : List LiveStream) (y : LiveStream) (ns : List ℕ) → slice_get xs i ≡ Some y → NumbersAreDistinct (map (λ (z : LiveStream). z.tag) xs ++ ns) → is_one_of ns y.tag ≡ false
 tag_apart i [] y ns e tags = absurd (cc)
 tag_apart zero (x ∷ xs) y ns e tags =
     let is : x ≡ y = (cc) in
-    subst (λ (z : LiveStream). is_one_of ns z.tag ≡ false) is (behind (map (λ (z : LiveStream). z.tag) xs) ns x.tag tags.0)
+    subst (λ (z : LiveStream). is_one_of ns z.tag ≡ false) is (afterwards (map (λ (z : LiveStream). z.tag) xs) ns x.tag tags.0)
 tag_apart (suc i) (x ∷ xs) y ns e tags = tag_apart i xs y ns e tags.1
 
 pub data_waits : (l : Link) (s : Seen) (g : ℕ → Line) (y : LiveStream) (content : List ℕ) (len : ℕ) (ends : Bool) (xs : List Attempt) → AllByRecursion (λ (a : Attempt). a.row.stream ≡ None) xs
@@ -356,7 +356,7 @@ data_waits l s g y content len ends (a ∷ xs) none apart fed_ =
     (one_waits l s g y content len ends a none.0 parts.0 fed_.0, data_waits l s g y content len ends xs none.1 parts.1 fed_.1)
 
 -- what was not opened
-pub number_below : (first bound i : ℕ) (xs : List LiveStream) (y : LiveStream) → AreOpened first bound xs → slice_get xs i ≡ Some y → y.number < bound
+pub number_below : (first bound i : ℕ) (xs : List LiveStream) (y : LiveStream) → StreamsAreOpened first bound xs → slice_get xs i ≡ Some y → y.number < bound
 number_below first bound i [] y opened e = absurd (cc)
 number_below first bound zero (x ∷ xs) y opened e = subst (λ (z : LiveStream). z.number < bound) (let same : x ≡ y = (cc) in same) opened.1
 number_below first bound (suc i) (x ∷ xs) y opened e = number_below (x.number + 1) bound i xs y opened.2 e
@@ -364,7 +364,7 @@ number_below first bound (suc i) (x ∷ xs) y opened e = number_below (x.number 
 no_zero : (k : ℕ) → 0 < k → (k == 0) ≡ false
 no_zero k h = grind (arith, nat_tests, h)
 
-pub data_fresh : (l : Link) (opened n : ℕ) (content : List ℕ) (ends : Bool) → n < 2 * opened + 1 → AreFresh l opened → AreFresh (with_written (sent.Frame (data_frame n content ends)) l) opened
+pub data_fresh : (l : Link) (opened n : ℕ) (content : List ℕ) (ends : Bool) → n < 2 * opened + 1 → StreamsAreFresh l opened → StreamsAreFresh (with_written (sent.Frame (data_frame n content ends)) l) opened
 data_fresh l opened n content ends low fresh k above =
     let was = fresh k above in
     let some : 0 < k = omega (arith, above) in

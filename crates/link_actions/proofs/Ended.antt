@@ -15,7 +15,7 @@ use Rattle.link_actions.proofs.Opened.{streams, waits}
 use Rattle.link_actions.proofs.Without.{all_filter, at_place, by_stream_filter, changed_at, distinct_filter, filter_swap, is_other, is_other_attempt, is_other_stream, live_without, map_filter, opened_without, place_is, places_at}
 use Rattle.link_actions.proofs.Written.{changed_here}
 use Rattle.link_actions.specs.Laws.{EndsKeep, without_tag}
-use Rattle.link_actions.specs.Sees.{AreDistinct, AreFed, AreLive, ArePlaced, IsFed, SeesLink, SeesOwed, SeesRead, WaitFed, by_stream}
+use Rattle.link_actions.specs.Sees.{NumbersAreDistinct, StreamsAreFed, StreamsAreLive, AttemptsStandInPlace, IsFed, SeesLink, SeesOwed, SeesRead, WaitFed, by_stream}
 use Rattle.session_actions.specs.AttemptEnds.{attempt_ended, attempt_ended_as, with_end, with_end_in_run}
 use Rattle.session_actions.specs.Attempts.{call_of, is_to_follow, with_attempt}
 use Rattle.session_actions.specs.Calls.{marked}
@@ -55,7 +55,7 @@ runs_only a e s (Some c) =
     (run_added a s (option_and_then (λ h. h.run) (config_of_call c s))) s
     (λ h. run_only a s (option_and_then (λ h. h.run) (config_of_call c s))) (λ h. refl)
 
-pub is_ended : (s : Seen) (t : ℕ) (e : RowEnd) (a : Attempt) → ArePlaced 1 s.attempts → numbered s.attempts t ≡ Some a
+pub is_ended : (s : Seen) (t : ℕ) (e : RowEnd) (a : Attempt) → AttemptsStandInPlace 1 s.attempts → numbered s.attempts t ≡ Some a
     → attempt_ended t e s ≡ ended_seen (is_some e.word) a.row.call t e (option_map_or (with_end_in_run a e s) (call_of a s) s).runs s
 is_ended s t e a places there =
     let u : Seen = option_map_or (with_end_in_run a e s) (call_of a s) s in
@@ -127,7 +127,7 @@ fed_ended : (l : Link) (s : Seen) (draws : Bool) (call t : ℕ) (e : RowEnd) (ru
 fed_ended l s draws call t e runs b line is = fed_by l s draws call t e runs b line (b.row.call == call) refl is
 
 all_ended : (l : Link) (s : Seen) (g : ℕ → Line) (draws : Bool) (call t : ℕ) (e : RowEnd) (runs : List ThrottleRun) (xs : List LiveStream) (others : List Attempt)
-    → AreFed l s g xs others → AreFed l (ended_seen draws call t e runs s) g xs others
+    → StreamsAreFed l s g xs others → StreamsAreFed l (ended_seen draws call t e runs s) g xs others
 all_ended l s g draws call t e runs [] [] are = tt
 all_ended l s g draws call t e runs (x ∷ xs) (a ∷ others) are =
     (fed_ended l s draws call t e runs a (g x.tag) are.0, all_ended l s g draws call t e runs xs others are.1)
@@ -140,15 +140,15 @@ waits_ended l s g draws call t e runs [] are = tt
 waits_ended l s g draws call t e runs (a ∷ xs) are =
     (fed_ended l s draws call t e runs a (g a.place) are.0, waits_ended l s g draws call t e runs xs are.1)
 
-fed_without : (l : Link) (s : Seen) (g : ℕ → Line) (t : ℕ) (xs : List LiveStream) (others : List Attempt) → AreLive l xs others → AreFed l s g xs others
-    → AreFed l s g (filter (is_other_stream t) xs) (filter (is_other_attempt t) others)
+fed_without : (l : Link) (s : Seen) (g : ℕ → Line) (t : ℕ) (xs : List LiveStream) (others : List Attempt) → StreamsAreLive l xs others → StreamsAreFed l s g xs others
+    → StreamsAreFed l s g (filter (is_other_stream t) xs) (filter (is_other_attempt t) others)
 fed_without l s g t [] [] are fed_ = tt
 fed_without l s g t (x ∷ xs) (a ∷ others) are fed_ =
     let fx : List LiveStream = filter (is_other_stream t) xs in
     let fa : List Attempt = filter (is_other_attempt t) others in
-    let rest : AreFed l s g fx fa = fed_without l s g t xs others are.1 fed_.1 in
-    subst (λ (c : Bool). AreFed l s g (cond (is_other_stream t x) (x ∷ fx) fx) (cond c (a ∷ fa) fa)) (ap (is_other t) are.0.tag)
-    (both_if (AreFed l s g) (is_other_stream t x) (x ∷ fx) fx (a ∷ fa) fa (λ e. (fed_.0, rest)) (λ e. rest))
+    let rest : StreamsAreFed l s g fx fa = fed_without l s g t xs others are.1 fed_.1 in
+    subst (λ (c : Bool). StreamsAreFed l s g (cond (is_other_stream t x) (x ∷ fx) fx) (cond c (a ∷ fa) fa)) (ap (is_other t) are.0.tag)
+    (both_if (StreamsAreFed l s g) (is_other_stream t x) (x ∷ fx) fx (a ∷ fa) fa (λ e. (fed_.0, rest)) (λ e. rest))
 fed_without l s g t [] (a ∷ others) are fed_ = absurd are
 fed_without l s g t (x ∷ xs) [] are fed_ = absurd are
 
@@ -203,9 +203,9 @@ still_owes l t w is = record { queue = is.queue; names = is.names; resizes = is.
 pub record AreLeft (l : Link) (s u : Seen) (t : ℕ) : Type 0 where
   pub streaming : by_stream (streaming_on l u) ≡ filter (is_other_attempt t) (by_stream (streaming_on l s))
   pub waiting : waiting_on l u ≡ filter (is_other_attempt t) (waiting_on l s)
-  pub places : ArePlaced 1 u.attempts
+  pub places : AttemptsStandInPlace 1 u.attempts
 
-pub are_left : (l : Link) (s : Seen) (draws : Bool) (call t : ℕ) (e : RowEnd) (runs : List ThrottleRun) (a : Attempt) → ArePlaced 1 s.attempts
+pub are_left : (l : Link) (s : Seen) (draws : Bool) (call t : ℕ) (e : RowEnd) (runs : List ThrottleRun) (a : Attempt) → AttemptsStandInPlace 1 s.attempts
     → numbered s.attempts t ≡ Some a → AreLeft l s (ended_seen draws call t e runs s) t
 are_left l s draws call t e runs a places there =
     let u : Seen = ended_seen draws call t e runs s in
@@ -215,7 +215,7 @@ are_left l s draws call t e runs a places there =
       streaming = ap by_stream (ap (filter streams) out ∙ filter_swap streams (is_other_attempt t) (outstanding_on l s))
           ∙ by_stream_filter (is_other_attempt t) (streaming_on l s);
       waiting = ap (filter waits) out ∙ filter_swap waits (is_other_attempt t) (outstanding_on l s);
-      places = subst (ArePlaced 1) (sym attempts) (places_at (with_end e) (λ b. refl) t 1 s.attempts places);
+      places = subst (AttemptsStandInPlace 1) (sym attempts) (places_at (with_end e) (λ b. refl) t 1 s.attempts places);
     }
 
 pub ends_keep : EndsKeep
@@ -231,18 +231,18 @@ ends_keep l s w g t a e is there =
       at = is.at;
       sees = record {
         reads = still_read l t w is.sees.reads;
-        live = subst (AreLive l xs) (sym left.streaming) (live_without l t w.live (by_stream (streaming_on l s)) is.sees.live);
+        live = subst (StreamsAreLive l xs) (sym left.streaming) (live_without l t w.live (by_stream (streaming_on l s)) is.sees.live);
       };
       owes = still_owes l t w is.owes;
       waits = ap (filter (is_other t)) is.waits ∙ sym (map_filter (λ (b : Attempt). b.place) (is_other t) (waiting_on l s))
           ∙ ap (map (λ (b : Attempt). b.place)) (sym left.waiting);
-      fed = subst (AreFed l u g xs) (sym left.streaming)
+      fed = subst (StreamsAreFed l u g xs) (sym left.streaming)
           (all_ended l s g draws call t e runs xs (filter (is_other_attempt t) (by_stream (streaming_on l s))) (fed_without l s g t w.live (by_stream (streaming_on l s)) is.sees.live is.fed));
       wait_fed = subst (WaitFed l u g) (sym left.waiting)
           (waits_ended l s g draws call t e runs (filter (is_other_attempt t) (waiting_on l s)) (all_filter (λ b. IsFed l s b (g b.place)) (is_other_attempt t) (waiting_on l s) is.wait_fed));
       opened = opened_without (is_other_stream t) 1 (2 * w.opened + 1) w.live is.opened;
       fresh = is.fresh;
-      tags = subst AreDistinct
+      tags = subst NumbersAreDistinct
           (sym (ap (λ (ns : List ℕ). ns ++ filter (is_other t) w.waiting) (map_filter (λ (x : LiveStream). x.tag) (is_other t) w.live)
           ∙ sym (filter-append (is_other t) (map (λ (x : LiveStream). x.tag) w.live) w.waiting)))
           (distinct_filter (is_other t) (map (λ (x : LiveStream). x.tag) w.live ++ w.waiting) is.tags);

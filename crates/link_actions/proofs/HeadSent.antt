@@ -17,7 +17,7 @@ use Rattle.link_actions.proofs.Opened.{AreBelow, IsFirst, first_is, one_more_str
 use Rattle.link_actions.proofs.Owed.{frames_more}
 use Rattle.link_actions.proofs.Written.{IsUnwritten, all_noted, all_still, changed_here, frame_unwritten, live_still, noted, still_fresh, waits_noted, waits_still}
 use Rattle.link_actions.specs.Laws.{with_written}
-use Rattle.link_actions.specs.Sees.{AreDistinct, AreFed, AreLive, AreOpened, IsFed, IsLive, SeesLink, WaitFed, by_stream, odds, written_for}
+use Rattle.link_actions.specs.Sees.{NumbersAreDistinct, StreamsAreFed, StreamsAreLive, StreamsAreOpened, IsFed, IsLive, SeesLink, WaitFed, by_stream, odds, written_for}
 use Rattle.session_actions.specs.Links.{frames_written, stream_number}
 use Rattle.session_actions.specs.Reading.{is_outstanding_on, opened_streams, raised, used}
 use Rattle.session_actions.specs.Writing.{streaming_on, waiting_on, with_stream}
@@ -34,7 +34,7 @@ with_attempts xs s = record s { attempts = xs }
 fed_attempts : (m : Link) (s : Seen) (xs : List Attempt) (a : Attempt) (line : Line) → IsFed m s a line → IsFed m (with_attempts xs s) a line
 fed_attempts m s xs a line is = record { call = is.call; call_is = is.call_is; fields = is.fields; written = is.written; left = is.left; finished = is.finished }
 
-all_attempts : (m : Link) (s : Seen) (g : ℕ → Line) (xs : List Attempt) (live : List LiveStream) (others : List Attempt) → AreFed m s g live others → AreFed m (with_attempts xs s) g live others
+all_attempts : (m : Link) (s : Seen) (g : ℕ → Line) (xs : List Attempt) (live : List LiveStream) (others : List Attempt) → StreamsAreFed m s g live others → StreamsAreFed m (with_attempts xs s) g live others
 all_attempts m s g xs [] [] are = tt
 all_attempts m s g xs (y ∷ live) (a ∷ others) are = (fed_attempts m s xs a (g y.tag) are.0, all_attempts m s g xs live others are.1)
 all_attempts m s g xs [] (a ∷ others) are = absurd are
@@ -45,21 +45,21 @@ wait_attempts m s g xs [] are = tt
 wait_attempts m s g xs (a ∷ others) are = (fed_attempts m s xs a (g a.place) are.0, wait_attempts m s g xs others are.1)
 
 -- one more at the end
-live_more : (m : Link) (live : List LiveStream) (others : List Attempt) (x : LiveStream) (a : Attempt) → AreLive m live others → IsLive m x a → AreLive m (live ++ x ∷ []) (others ++ a ∷ [])
+live_more : (m : Link) (live : List LiveStream) (others : List Attempt) (x : LiveStream) (a : Attempt) → StreamsAreLive m live others → IsLive m x a → StreamsAreLive m (live ++ x ∷ []) (others ++ a ∷ [])
 live_more m [] [] x a are is = (is, tt)
 live_more m (y ∷ live) (b ∷ others) x a are is = (are.0, live_more m live others x a are.1 is)
 live_more m [] (b ∷ others) x a are is = absurd are
 live_more m (y ∷ live) [] x a are is = absurd are
 
-fed_more : (m : Link) (s : Seen) (g : ℕ → Line) (live : List LiveStream) (others : List Attempt) (x : LiveStream) (a : Attempt) → AreFed m s g live others → IsFed m s a (g x.tag)
-    → AreFed m s g (live ++ x ∷ []) (others ++ a ∷ [])
+fed_more : (m : Link) (s : Seen) (g : ℕ → Line) (live : List LiveStream) (others : List Attempt) (x : LiveStream) (a : Attempt) → StreamsAreFed m s g live others → IsFed m s a (g x.tag)
+    → StreamsAreFed m s g (live ++ x ∷ []) (others ++ a ∷ [])
 fed_more m s g [] [] x a are is = (is, tt)
 fed_more m s g (y ∷ live) (b ∷ others) x a are is = (are.0, fed_more m s g live others x a are.1 is)
 fed_more m s g [] (b ∷ others) x a are is = absurd are
 fed_more m s g (y ∷ live) [] x a are is = absurd are
 
-opened_more : (first bound number : ℕ) (live : List LiveStream) (x : LiveStream) → x.number ≡ number → first ≤ number → bound ≤ number → AreOpened first bound live
-    → AreOpened first (number + 1) (live ++ x ∷ [])
+opened_more : (first bound number : ℕ) (live : List LiveStream) (x : LiveStream) → x.number ≡ number → first ≤ number → bound ≤ number → StreamsAreOpened first bound live
+    → StreamsAreOpened first (number + 1) (live ++ x ∷ [])
 opened_more first bound number [] x is low above opened = (omega (arith, is, low), omega (arith, is), tt)
 opened_more first bound number (y ∷ live) x is low above opened =
     let below : y.number < bound = opened.1 in
@@ -71,7 +71,7 @@ opened_more first bound number (y ∷ live) x is low above opened =
 number_is : (l : Link) (x : LiveStream) (a : Attempt) → IsLive l x a → stream_number a ≡ x.number
 number_is l x a is = ap (λ (o : Option ℕ). unwrap_or o 0) is.stream
 
-pub below_all : (l : Link) (first bound : ℕ) (live : List LiveStream) (others : List Attempt) → AreOpened first bound live → AreLive l live others → AreBelow bound others
+pub below_all : (l : Link) (first bound : ℕ) (live : List LiveStream) (others : List Attempt) → StreamsAreOpened first bound live → StreamsAreLive l live others → AreBelow bound others
 below_all l first bound [] [] opened are = tt
 below_all l first bound (x ∷ live) (a ∷ others) opened are =
     (subst (λ (n : ℕ). n < bound) (sym (number_is l x a are.0)) opened.1, below_all l (x.number + 1) bound live others opened.2 are.1)
@@ -100,9 +100,9 @@ next_odds : (n m : ℕ) → m ≡ suc n → odds n ++ (2 * n + 1) ∷ [] ≡ odd
 next_odds n m e = ap odds (sym e)
 
 -- tags
-moved : (front : List ℕ) (t : ℕ) (ns : List ℕ) → (front ++ t ∷ []) ++ ns ≡ front ++ t ∷ ns
+moved : (prefix : List ℕ) (t : ℕ) (ns : List ℕ) → (prefix ++ t ∷ []) ++ ns ≡ prefix ++ t ∷ ns
 moved [] t ns = refl
-moved (k ∷ front) t ns = ap (λ (xs : List ℕ). k ∷ xs) (moved front t ns)
+moved (k ∷ prefix) t ns = ap (λ (xs : List ℕ). k ∷ xs) (moved prefix t ns)
 
 head_is : (ns : List ℕ) (t : ℕ) → slice_get ns 0 ≡ Some t → ns ≡ t ∷ drop 1 ns
 head_is [] t e = absurd (cc)
@@ -127,7 +127,7 @@ first_place : (xs : List Attempt) (a : Attempt) → slice_get xs 0 ≡ Some a �
 first_place [] a e = absurd (cc)
 first_place (b ∷ xs) a e = ap (λ (c : Attempt). Some c.place) (let same : b ≡ a = (cc) in same)
 
-wider : (first bound more : ℕ) (live : List LiveStream) → bound ≤ more → AreOpened first bound live → AreOpened first more live
+wider : (first bound more : ℕ) (live : List LiveStream) → bound ≤ more → StreamsAreOpened first bound live → StreamsAreOpened first more live
 wider first bound more [] low opened = tt
 wider first bound more (x ∷ live) low opened =
     let below : x.number < bound = opened.1 in (opened.0, omega (arith, below, low), wider (x.number + 1) bound more live low opened.2)
@@ -173,17 +173,17 @@ head_keeps_ l s w g a block is first =
       left = was.left ∙ ap (λ (k : ℕ). drop k (framed_all was.call.messages)) (zero_ ∙ sym done);
       finished = was.finished;
     } in
-    let all : AreFed m t g (w.live ++ stream_opened w a.place ∷ []) (old ++ with_stream n a ∷ [])
+    let all : StreamsAreFed m t g (w.live ++ stream_opened w a.place ∷ []) (old ++ with_stream n a ∷ [])
     = fed_more m t g w.live old (stream_opened w a.place) (with_stream n a) (all_attempts m s g ys w.live old (all_still l m s g w.live old plain is.fed)) own in
     let window : w.window + used 0 m ≡ 65535 + raised 0 m
     = ap (λ (k : ℕ). w.window + k) (plain.used_is 0) ∙ is.sees.reads.window ∙ ap (λ (k : ℕ). 65535 + k) (sym (plain.raised_is 0)) in
     let more : w.opened + 1 ≡ suc w.opened = omega arith in
-    let A : List Attempt → Type 0 = λ zs. AreLive m v.live zs in
-    let F : List Attempt → Type 0 = λ zs. AreFed m (noted x l t) g v.live zs in
+    let A : List Attempt → Type 0 = λ zs. StreamsAreLive m v.live zs in
+    let F : List Attempt → Type 0 = λ zs. StreamsAreFed m (noted x l t) g v.live zs in
     let P : List Attempt → Type 0 = λ zs. WaitFed m (noted x l t) g zs in
     let W : List ℕ → Type 0 = λ ns. ns ≡ map (λ (b : Attempt). b.place) (waiting_on l s) in
     let bound : 2 * (w.opened + 1) + 1 ≡ n + 1 + 1 = omega arith in
-    let opened_ : AreOpened 1 (n + 1) v.live = opened_more 1 n n w.live (stream_opened w a.place) refl (omega arith) (omega arith) is.opened in
+    let opened_ : StreamsAreOpened 1 (n + 1) v.live = opened_more 1 n n w.live (stream_opened w a.place) refl (omega arith) (omega arith) is.opened in
     let tag : slice_get w.waiting 0 ≡ Some a.place = ap (λ (ns : List ℕ). slice_get ns 0) is.waits ∙ first_place (waiting_on l s) a first in
     record {
       at = changed_here (with_written x) l.number s.links l is.at;
@@ -198,7 +198,7 @@ head_keeps_ l s w g a block is first =
       wait_fed = subst P (sym waits_) (waits_noted x l m t g (drop 1 (waiting_on l s)) (wait_attempts m s g ys (drop 1 (waiting_on l s)) (wait_rest m s g (waiting_on l s) (waits_still l m s g (waiting_on l s) plain is.wait_fed))));
       opened = wider 1 (n + 1) (2 * (w.opened + 1) + 1) v.live (omega arith) opened_;
       fresh = λ k above_. still_fresh l m w.opened plain is.fresh k (let high : 2 * (w.opened + 1) < k = above_ in omega (arith, high));
-      tags = subst AreDistinct (sym (ap (λ (ns : List ℕ). ns ++ drop 1 w.waiting) (map_more (λ (y : LiveStream). y.tag) w.live (stream_opened w a.place)) ∙ moved (map (λ (y : LiveStream). y.tag) w.live) a.place (drop 1 w.waiting)))
-          (subst (λ (ns : List ℕ). AreDistinct (map (λ (y : LiveStream). y.tag) w.live ++ ns)) (head_is w.waiting a.place tag) is.tags);
+      tags = subst NumbersAreDistinct (sym (ap (λ (ns : List ℕ). ns ++ drop 1 w.waiting) (map_more (λ (y : LiveStream). y.tag) w.live (stream_opened w a.place)) ∙ moved (map (λ (y : LiveStream). y.tag) w.live) a.place (drop 1 w.waiting)))
+          (subst (λ (ns : List ℕ). NumbersAreDistinct (map (λ (y : LiveStream). y.tag) w.live ++ ns)) (head_is w.waiting a.place tag) is.tags);
       places = places_stay l n 1 s.attempts is.places;
     }

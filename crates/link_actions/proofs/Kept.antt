@@ -22,7 +22,7 @@ use Rattle.link_actions.proofs.Next.{writes_are_same}
 use Rattle.link_actions.proofs.Owed.{IsControlFrame, begun_more, controls_are_same, counts_none, frames_more, is_frame, names_same, no_stream, owes_more, owes_next, owes_written, read_same, setting_in, settings_in_}
 use Rattle.link_actions.proofs.Written.{IsUnwritten, all_still, frame_unwritten, is_noted, keeps, live_still, noted, preface_unwritten, raised_still, still_fresh, used_more, waits_still}
 use Rattle.link_actions.specs.Laws.{IsControlSent, IsWritten, with_written}
-use Rattle.link_actions.specs.Sees.{AreDistinct, IsBlock, SeesLink, SeesOwed, SeesRead, acknowledged, by_stream, named_in, odds, outgoing_of}
+use Rattle.link_actions.specs.Sees.{NumbersAreDistinct, IsBlock, SeesLink, SeesOwed, SeesRead, acknowledged, by_stream, named_in, odds, outgoing_of}
 use Rattle.session_actions.specs.Links.{frames_read, frames_written, is_settings}
 use Rattle.session_actions.specs.Reading.{blocks_from, opened_streams, outstanding_on, raised, used}
 use Rattle.session_actions.specs.Words.{last_of}
@@ -135,7 +135,7 @@ data_keeps_ l s w g y i z is there may =
     refl
     (same_opened 1 (2 * w.opened + 1) i w.live y v refl there is.opened)
     (data_fresh l w.opened y.number content z.1 (number_below 1 (2 * w.opened + 1) i w.live y is.opened there) is.fresh)
-    (subst (λ (ns : List ℕ). AreDistinct (ns ++ w.waiting)) (sym tags) is.tags)
+    (subst (λ (ns : List ℕ). NumbersAreDistinct (ns ++ w.waiting)) (sym tags) is.tags)
 
 -- a control frame
 stays : (f : FrameSeen) (l : Link) (s : Seen) → (f.kind == headers_type) ≡ false → stream_opened_by (sent.Frame f) l s ≡ s

@@ -3,7 +3,7 @@ pub mod DataSent
 pub mod Draining
 pub mod Ended
 pub mod HeadSent
-pub mod Hearing
+pub mod Receiving
 pub mod History
 pub mod Judged
 pub mod Keeping

@@ -20,7 +20,7 @@ use Rattle.link_actions.proofs.Order.{AreOn, filter_on, first_is_foremost}
 use Rattle.link_actions.proofs.Owed.{controls_are_same, none_is_owed}
 use Rattle.link_actions.proofs.Streams.{long_by_stream}
 use Rattle.link_actions.specs.Laws.{IsControlSent, WritesAreSame}
-use Rattle.link_actions.specs.Sees.{AreFed, AreLive, IsFed, IsLive, Sees, SeesLink, SeesOwed, WaitFed, by_stream, odds, outgoing_of, written_for}
+use Rattle.link_actions.specs.Sees.{StreamsAreFed, StreamsAreLive, IsFed, IsLive, Sees, SeesLink, SeesOwed, WaitFed, by_stream, odds, outgoing_of, written_for}
 use Rattle.session_actions.specs.Attempts.{call_of, is_outstanding}
 use Rattle.session_actions.specs.Reading.{initial_window, is_outstanding_on, opened_streams, outstanding_on, raised, room, setting, used}
 use Rattle.session_actions.specs.Words.{first_of, holds}
@@ -113,7 +113,7 @@ share_sent g w place x xs None q e = e
 share_sent g w place x xs (Some y) q e = refl
 
 streams_same : (l : Link) (s : Seen) (w : Wire) (g : ℕ → Line) (place : ℕ) (xs : List LiveStream) (others : List Attempt)
-    → w.window + used 0 l ≡ 65535 + raised 0 l → w.initial ≡ initial_window l → AreLive l xs others → AreFed l s g xs others
+    → w.window + used 0 l ≡ 65535 + raised 0 l → w.initial ≡ initial_window l → StreamsAreLive l xs others → StreamsAreFed l s g xs others
     → option_map outgoing_of (first_of (data_for l s) others) ≡ frames_in (next_data w g (sender w.window w.initial g place xs))
 streams_same l s w g place [] [] window initial are fed = refl
 streams_same l s w g place (x ∷ xs) (a ∷ others) window initial are fed =
@@ -140,7 +140,7 @@ outstanding_on_link : (l : Link) (xs : List Attempt) → AreOn l.number (filter 
 outstanding_on_link l [] = tt
 outstanding_on_link l (a ∷ xs) = on_by l a (is_outstanding_on l a) (filter (is_outstanding_on l) xs) refl (outstanding_on_link l xs)
 
-data_same : (l : Link) (s : Seen) (w : Wire) (g : ℕ → Line) → Sees l s w → AreFed l s g w.live (by_stream (streaming_on l s))
+data_same : (l : Link) (s : Seen) (w : Wire) (g : ℕ → Line) → Sees l s w → StreamsAreFed l s g w.live (by_stream (streaming_on l s))
     → option_map outgoing_of (writing.next_data l s) ≡ frames_in (next_data w g (sender w.window w.initial g 0 w.live))
 data_same l s w g sees fed =
     let on : AreOn l.number (streaming_on l s) = filter_on l.number (λ a. is_some a.row.stream) (outstanding_on l s) (outstanding_on_link l s.attempts) in
@@ -152,7 +152,7 @@ odds_many : (n : ℕ) → length (odds n) ≡ n
 odds_many zero = refl
 odds_many (suc n) = (let more : length (odds n ++ (2 * n + 1) ∷ []) ≡ length (odds n) + 1 = length-append (odds n) ((2 * n + 1) ∷ []) in let all : length (odds n) ≡ n = odds_many n in omega (arith, more, all))
 
-live_many : (l : Link) (xs : List LiveStream) (others : List Attempt) → AreLive l xs others → length xs ≡ length others
+live_many : (l : Link) (xs : List LiveStream) (others : List Attempt) → StreamsAreLive l xs others → length xs ≡ length others
 live_many l [] [] are = refl
 live_many l (x ∷ xs) (a ∷ others) are = ap suc (live_many l xs others are.1)
 live_many l [] (a ∷ others) are = absurd are
@@ -188,7 +188,7 @@ head_frame l s w a line sees owes fed =
     ∙ ap (λ fields. headers_frame (2 * w.opened + 1) (head_block w.resizes fields)) (sym fed.fields)
 
 head_same : (l : Link) (s : Seen) (w : Wire) (g : ℕ → Line) (b : Bool) (xs : List Attempt) → Sees l s w → SeesOwed l w
-    → AreFed l s g w.live (by_stream (streaming_on l s)) → WaitFed l s g xs
+    → StreamsAreFed l s g w.live (by_stream (streaming_on l s)) → WaitFed l s g xs
     → option_map outgoing_of (option_or (if b then option_and_then (headers_for l s) (slice_get xs 0) else None) (writing.next_data l s))
     ≡ frames_in (next_head w g (if b then slice_get (map (λ a. a.place) xs) 0 else None))
 head_same l s w g false xs sees owes fed all = data_same l s w g sees fed

@@ -3,7 +3,7 @@ use Rattle.std.proofs.Common.{◌≡◌, ◌<◌, ◌∷◌, ◌++◌, ◌&&◌,
 use Rattle.std.specs.List.{AllByRecursion}
 use Rattle.std.proofs.lemmas.Bool.Decides.{nat_tests}
 use Rattle.link_actions.proofs.Lists.{if_false, if_true, on_if}
-use Rattle.link_actions.specs.Sees.{ArePlaced, by_stream, put_by_stream}
+use Rattle.link_actions.specs.Sees.{AttemptsStandInPlace, by_stream, put_by_stream}
 use Rattle.session_actions.specs.Links.{stream_number}
 use Rattle.session_actions.specs.Reading.{is_outstanding_on}
 use Rattle.session_actions.specs.Words.{changed, changed_if}
@@ -70,7 +70,7 @@ first_by l n k x xs a true false is was place e next =
     later l n k x xs a (ap (λ (b : Bool). b && waits x) is ∙ was) (next (sym (ap (λ (ys : List Attempt). slice_get ys 0) none) ∙ e))
 first_by l n k x xs a false w is was place e next = later l n k x xs a (ap (λ (b : Bool). b && waits x) is) (next e)
 
-pub first_is : (l : Link) (n k : ℕ) (xs : List Attempt) (a : Attempt) → ArePlaced k xs → slice_get (filter waits (filter (is_outstanding_on l) xs)) 0 ≡ Some a → IsFirst l n k xs a
+pub first_is : (l : Link) (n k : ℕ) (xs : List Attempt) (a : Attempt) → AttemptsStandInPlace k xs → slice_get (filter waits (filter (is_outstanding_on l) xs)) 0 ≡ Some a → IsFirst l n k xs a
 first_is l n k [] a places e = absurd (cc)
 first_is l n k (x ∷ xs) a places e = first_by l n k x xs a (is_outstanding_on l x) (waits x) refl refl places.0 e (first_is l n (k + 1) xs a places.1)
 
@@ -105,12 +105,12 @@ others_wait l n [] = refl
 others_wait l n (x ∷ xs) = waits_by l n x xs (is_outstanding_on l x) (waits x) refl refl (others_wait l n xs)
 
 -- the places
-places_if : (l : Link) (n k : ℕ) (x : Attempt) (xs : List Attempt) (b : Bool) → x.place ≡ k → ArePlaced (k + 1) xs → ArePlaced (k + 1) (opened_first l n xs)
-    → ArePlaced k (opened_if b n x xs (opened_first l n xs))
+places_if : (l : Link) (n k : ℕ) (x : Attempt) (xs : List Attempt) (b : Bool) → x.place ≡ k → AttemptsStandInPlace (k + 1) xs → AttemptsStandInPlace (k + 1) (opened_first l n xs)
+    → AttemptsStandInPlace k (opened_if b n x xs (opened_first l n xs))
 places_if l n k x xs true e places next = (e, places)
 places_if l n k x xs false e places next = (e, next)
 
-pub places_stay : (l : Link) (n k : ℕ) (xs : List Attempt) → ArePlaced k xs → ArePlaced k (opened_first l n xs)
+pub places_stay : (l : Link) (n k : ℕ) (xs : List Attempt) → AttemptsStandInPlace k xs → AttemptsStandInPlace k (opened_first l n xs)
 places_stay l n k [] places = tt
 places_stay l n k (x ∷ xs) places = places_if l n k x xs (is_outstanding_on l x && waits x) places.0 places.1 (places_stay l n (k + 1) xs places.1)
 

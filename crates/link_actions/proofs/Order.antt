@@ -80,17 +80,17 @@ not_passed p a (b ∷ bs) e =
     on_if (λ (xs : List Attempt). find p xs ≡ find p (b ∷ bs)) (nat_lt (stream_number b) (stream_number a)) (b ∷ put_by_stream a bs) (a ∷ b ∷ bs)
     (λ h. ap (λ (o : Option Attempt). cond (p b) (Some b) o) (not_passed p a bs e)) (λ h. if_false (p a) (Some a) (find p (b ∷ bs)) e)
 
-passed_behind : (a b : Attempt) (x : Bool) (o q : Option Attempt) → nat_lt (stream_number b) (stream_number a) ≡ true → q ≡ Some (earlier before a o)
+passed_after : (a b : Attempt) (x : Bool) (o q : Option Attempt) → nat_lt (stream_number b) (stream_number a) ≡ true → q ≡ Some (earlier before a o)
     → cond x (Some b) q ≡ Some (earlier before a (cond x (Some b) o))
-passed_behind a b true o q less e = ap (λ (z : Attempt). Some z) (sym (if_true (nat_lt (stream_number b) (stream_number a)) b a less))
-passed_behind a b false o q less e = e
+passed_after a b true o q less e = ap (λ (z : Attempt). Some z) (sym (if_true (nat_lt (stream_number b) (stream_number a)) b a less))
+passed_after a b false o q less e = e
 
 passed : (p : Attempt → Bool) (a : Attempt) (bs : List Attempt) → p a ≡ true → AreRising bs
     → find p (put_by_stream a bs) ≡ Some (earlier before a (find p bs))
 passed p a [] e are = if_true (p a) (Some a) None e
 passed p a (b ∷ bs) e are =
     on_if (λ (xs : List Attempt). find p xs ≡ Some (earlier before a (find p (b ∷ bs)))) (nat_lt (stream_number b) (stream_number a)) (b ∷ put_by_stream a bs) (a ∷ b ∷ bs)
-    (λ less. passed_behind a b (p b) (find p bs) (find p (put_by_stream a bs)) less (passed p a bs e are.1))
+    (λ less. passed_after a b (p b) (find p bs) (find p (put_by_stream a bs)) less (passed p a bs e are.1))
     (λ less.
     let low : stream_number a ≤ stream_number b = not_less (stream_number b) (stream_number a) less in
     if_true (p a) (Some a) (find p (b ∷ bs)) e

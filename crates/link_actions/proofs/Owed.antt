@@ -16,7 +16,7 @@ use Rattle.h2_link.specs.declared.control.Control.{Control}
 use Rattle.h2_link.specs.declared.control.Control.TheVariants as control
 use Rattle.h2_hpack.specs.Blocks.{state_after}
 use Rattle.h2_hpack.specs.Tables.{new_table}
-use Rattle.link_actions.proofs.Hearing.{IsKept}
+use Rattle.link_actions.proofs.Receiving.{IsKept}
 use Rattle.link_actions.proofs.History.{block_step, opened_of, used_of}
 use Rattle.link_actions.proofs.Lists.{if_false, if_true}
 use Rattle.link_actions.specs.Laws.{ControlsAreSame, IsControlSent, NoneIsOwed, with_written}

@@ -12,7 +12,7 @@ use Rattle.h2_frame.specs.Frames.{FrameSeen}
 use Rattle.h2_frame.specs.Sent.{ping_frame, rst_stream_frame}
 use Rattle.h2_link.specs.Drains.{AFrame, Opening, Outgoing, outgoing}
 use Rattle.h2_link.specs.Feeds.{Line}
-use Rattle.h2_link.specs.Queues.{Queue, first_place, is_behind, queued, reset_place, reset_queued}
+use Rattle.h2_link.specs.Queues.{Queue, first_place, comes_after, queued, reset_place, reset_queued}
 use Rattle.h2_link.specs.Wire.{Wire}
 use Rattle.h2_link.specs.declared.control.Control.{Control}
 use Rattle.h2_link.specs.declared.control.Control.TheVariants as control
@@ -23,7 +23,7 @@ use Rattle.link_actions.proofs.QuietKept.{drop_more, joined}
 use Rattle.link_actions.proofs.Without.{changed_at, place_is, places_at, same_kept}
 use Rattle.link_actions.proofs.Written.{IsUnwritten, all_still, changed_here, live_still, waits_still}
 use Rattle.link_actions.specs.Laws.{PingsKeep, ResetsKeep, with_owed}
-use Rattle.link_actions.specs.Sees.{AreFed, AreLive, ArePlaced, IsFed, SeesLink, SeesOwed, SeesRead, WaitFed, acknowledged, by_stream, named_in}
+use Rattle.link_actions.specs.Sees.{StreamsAreFed, StreamsAreLive, AttemptsStandInPlace, IsFed, SeesLink, SeesOwed, SeesRead, WaitFed, acknowledged, by_stream, named_in}
 use Rattle.session_actions.specs.AttemptEnds.{stream_reset, stream_reset_of, with_reset_queued}
 use Rattle.session_actions.specs.Attempts.{with_attempt}
 use Rattle.session_actions.specs.Configs.{deadline}
@@ -38,21 +38,21 @@ use Rattle.session_actions.specs.declared.entry.Stage.TheVariants as stage
 use Rattle.session_actions.specs.declared.link.Link.{Link}
 use Rattle.session_actions.specs.declared.seen.Seen.{Seen}
 
--- frames that are owed more, behind the others
+-- frames that are owed more, after the others
 pub owes_queued : (l : Link) (w v : Wire) (frames : List FrameSeen) (cs : List Control) → SeesOwed l w → map outgoing cs ≡ map (λ h. AFrame h) frames
     → filter_map named_in cs ≡ [] → v.resizes ≡ w.resizes → v.queue.items ≡ w.queue.items ++ cs → SeesOwed (with_owed frames l) v
 owes_queued l w v frames cs owes controls none resizes items =
     let left : List FrameSeen = drop (controls_written l) l.owed in
-    let front : List Outgoing = if has_begun l then [] else Opening ∷ [] in
+    let prefix : List Outgoing = if has_begun l then [] else Opening ∷ [] in
     let low : controls_written l ≤ length l.owed = owes.written in
     let long_ : length (l.owed ++ frames) ≡ length l.owed + length frames = length-append l.owed frames in
     let names : List Bool = drop (acknowledged l) (table_sizes_named l) in
     record {
       queue = ap (map outgoing) items ∙ map-append outgoing w.queue.items cs ∙ ap (λ (os : List Outgoing). os ++ map outgoing cs) owes.queue
-          ∙ ap (λ (os : List Outgoing). (front ++ map (λ h. AFrame h) left) ++ os) controls
-          ∙ joined front (map (λ h. AFrame h) left) (map (λ h. AFrame h) frames)
-          ∙ ap (λ (os : List Outgoing). front ++ os) (sym (map-append (λ h. AFrame h) left frames))
-          ∙ ap (λ (hs : List FrameSeen). front ++ map (λ h. AFrame h) hs) (sym (drop_more (controls_written l) l.owed frames low));
+          ∙ ap (λ (os : List Outgoing). (prefix ++ map (λ h. AFrame h) left) ++ os) controls
+          ∙ joined prefix (map (λ h. AFrame h) left) (map (λ h. AFrame h) frames)
+          ∙ ap (λ (os : List Outgoing). prefix ++ os) (sym (map-append (λ h. AFrame h) left frames))
+          ∙ ap (λ (hs : List FrameSeen). prefix ++ map (λ h. AFrame h) hs) (sym (drop_more (controls_written l) l.owed frames low));
       names = ap (filter_map named_in) items ∙ filter_map-append named_in w.queue.items cs ∙ ap (λ (bs : List Bool). bs ++ filter_map named_in cs) owes.names
           ∙ ap (λ (bs : List Bool). names ++ bs) none ∙ append-nil names;
       resizes = resizes ∙ owes.resizes;
@@ -91,8 +91,8 @@ reset_seen frames link t s = owed frames link (with_attempt with_reset_queued t 
 fed_reset : (m : Link) (s : Seen) (frames : List FrameSeen) (link t : ℕ) (b : Attempt) (line : Line) → IsFed m s b line → IsFed m (reset_seen frames link t s) b line
 fed_reset m s frames link t b line is = record { call = is.call; call_is = is.call_is; fields = is.fields; written = is.written; left = is.left; finished = is.finished }
 
-all_reset_ : (m : Link) (s : Seen) (g : ℕ → Line) (frames : List FrameSeen) (link t : ℕ) (xs : List LiveStream) (others : List Attempt) → AreFed m s g xs others
-    → AreFed m (reset_seen frames link t s) g xs others
+all_reset_ : (m : Link) (s : Seen) (g : ℕ → Line) (frames : List FrameSeen) (link t : ℕ) (xs : List LiveStream) (others : List Attempt) → StreamsAreFed m s g xs others
+    → StreamsAreFed m (reset_seen frames link t s) g xs others
 all_reset_ m s g frames link t [] [] are = tt
 all_reset_ m s g frames link t (x ∷ xs) (a ∷ others) are = (fed_reset m s frames link t a (g x.tag) are.0, all_reset_ m s g frames link t xs others are.1)
 all_reset_ m s g frames link t [] (a ∷ others) are = absurd are
@@ -102,7 +102,7 @@ waits_reset : (m : Link) (s : Seen) (g : ℕ → Line) (frames : List FrameSeen)
 waits_reset m s g frames link t [] are = tt
 waits_reset m s g frames link t (a ∷ xs) are = (fed_reset m s frames link t a (g a.place) are.0, waits_reset m s g frames link t xs are.1)
 
-pub is_reset_seen : (s : Seen) (t n code link : ℕ) (a : Attempt) → ArePlaced 1 s.attempts → numbered s.attempts t ≡ Some a → a.row.stream ≡ Some n → link_number a ≡ link
+pub is_reset_seen : (s : Seen) (t n code link : ℕ) (a : Attempt) → AttemptsStandInPlace 1 s.attempts → numbered s.attempts t ≡ Some a → a.row.stream ≡ Some n → link_number a ≡ link
     → stream_reset t code s ≡ reset_seen (rst_stream_frame n code ∷ []) link t s
 is_reset_seen s t n code link a places there stream on =
     ap (λ (o : Option Attempt). option_map_or (stream_reset_of code s) o s) there
@@ -129,25 +129,25 @@ reset_keeps_ l s w g t n code a e q is there ended stream on items =
       at = changed_here (with_owed frames) l.number s.links l is.at;
       sees = record {
         reads = read_owed l w q frames is.sees.reads;
-        live = subst (AreLive m w.live) (sym bs) (live_still l m w.live (by_stream (streaming_on l s)) same is.sees.live);
+        live = subst (StreamsAreLive m w.live) (sym bs) (live_still l m w.live (by_stream (streaming_on l s)) same is.sees.live);
       };
       owes = owes_queued l w (record w { queue = q }) frames (control.Reset n code ∷ []) is.owes refl refl refl items;
       waits = is.waits ∙ ap (map (λ (b : Attempt). b.place)) (sym ws);
-      fed = subst (AreFed m u g w.live) (sym bs)
+      fed = subst (StreamsAreFed m u g w.live) (sym bs)
           (all_reset_ m s g frames l.number t w.live (by_stream (streaming_on l s)) (all_still l m s g w.live (by_stream (streaming_on l s)) same is.fed));
       wait_fed = subst (WaitFed m u g) (sym ws)
           (waits_reset m s g frames l.number t (waiting_on l s) (waits_still l m s g (waiting_on l s) same is.wait_fed));
       opened = is.opened;
       fresh = is.fresh;
       tags = is.tags;
-      places = subst (ArePlaced 1) (sym (changed_at with_reset_queued t s.attempts a is.places there))
+      places = subst (AttemptsStandInPlace 1) (sym (changed_at with_reset_queued t s.attempts a is.places there))
           (places_at with_reset_queued (λ b. refl) t 1 s.attempts is.places);
     })
 
 -- where no other reset of the same frame is queued, one stands last
-nothing_behind : {X : Type 0} (xs : List X) → drop (length xs) xs ≡ []
-nothing_behind [] = refl
-nothing_behind (x ∷ xs) = nothing_behind xs
+nothing_after : {X : Type 0} (xs : List X) → drop (length xs) xs ≡ []
+nothing_after [] = refl
+nothing_after (x ∷ xs) = nothing_after xs
 
 none_fresh : (m n : ℕ) → n ≡ 0 → m - n ≡ m
 none_fresh m n e = omega (arith, e)
@@ -157,8 +157,8 @@ no_more m = omega arith
 
 pub place_last : (n : ℕ) (q : Queue) → q.fresh ≡ 0 → reset_place n q ≡ length q.items
 place_last n q e =
-    ap (λ (k : ℕ). k + first_place (is_behind n) (drop k q.items)) (none_fresh (length q.items) q.fresh e)
-    ∙ ap (λ (cs : List Control). length q.items + first_place (is_behind n) cs) (nothing_behind q.items) ∙ no_more (length q.items)
+    ap (λ (k : ℕ). k + first_place (comes_after n) (drop k q.items)) (none_fresh (length q.items) q.fresh e)
+    ∙ ap (λ (cs : List Control). length q.items + first_place (comes_after n) cs) (nothing_after q.items) ∙ no_more (length q.items)
 
 pub reset_last : (n code : ℕ) (q : Queue) → q.fresh ≡ 0 → (reset_queued n code q).items ≡ q.items ++ control.Reset n code ∷ []
 reset_last n code q e =
@@ -191,8 +191,8 @@ fed_pinged m s frames link b line is = record {
   finished = is.finished;
 }
 
-all_pinged : (m : Link) (s : Seen) (g : ℕ → Line) (frames : List FrameSeen) (link : ℕ) (xs : List LiveStream) (others : List Attempt) → AreFed m s g xs others
-    → AreFed m (pinged_seen frames link s) g xs others
+all_pinged : (m : Link) (s : Seen) (g : ℕ → Line) (frames : List FrameSeen) (link : ℕ) (xs : List LiveStream) (others : List Attempt) → StreamsAreFed m s g xs others
+    → StreamsAreFed m (pinged_seen frames link s) g xs others
 all_pinged m s g frames link [] [] are = tt
 all_pinged m s g frames link (x ∷ xs) (a ∷ others) are = (fed_pinged m s frames link a (g x.tag) are.0, all_pinged m s g frames link xs others are.1)
 all_pinged m s g frames link [] (a ∷ others) are = absurd are

@@ -14,8 +14,8 @@ use Rattle.h2_link.specs.LinkErrors.{is_long}
 use Rattle.h2_link.specs.LinkErrors as link
 use Rattle.h2_link.specs.Queues.{queued}
 use Rattle.h2_link.specs.Settings.{with_settings}
-use Rattle.h2_link.specs.Steps.{applied, block_held, block_read, continuation_told, data_told, found_from, goaway_told, headers_told, is_numbered, list_read, listed, opened_by, ping_told, plain_told, reset_told, settings_told, update_told, window_told}
-use Rattle.h2_link.specs.Wire.{Block, Told, Wire, largest_window}
+use Rattle.h2_link.specs.Steps.{applied, block_held, block_read, continuation_reported, data_reported, found_from, goaway_reported, headers_reported, is_numbered, list_read, listed, opened_by, ping_reported, plain_reported, reset_reported, settings_reported, update_reported, window_reported}
+use Rattle.h2_link.specs.Wire.{Block, Report, Wire, largest_window}
 use Rattle.h2_link.specs.declared.control.Control.{Control}
 use Rattle.h2_link.specs.declared.control.Control.TheVariants as control
 use Rattle.h2_link.specs.declared.live.LiveStream.{LiveStream}
@@ -53,7 +53,7 @@ none_of_kind : (f : FrameSeen) (n : ℕ) → (f.kind == n) ≡ true → (n == da
 none_of_kind f n e data_ settings_ ping_ =
     none_owed f (not_kind f.kind n data_type e data_) (not_kind f.kind n settings_type e settings_) (not_kind f.kind n ping_type e ping_)
 
-abbrev Leaves : FrameSeen → Wire → Result Told ℕ → Type 0
+abbrev Leaves : FrameSeen → Wire → Result Report ℕ → Type 0
 Leaves f w r = IfOk r (λ t. IsUntouched (owed_controls f) w t.wire)
 
 as_none : (f : FrameSeen) (w v : Wire) → owed_controls f ≡ [] → IsUntouched [] w v → IsUntouched (owed_controls f) w v
@@ -88,7 +88,7 @@ part_leaves f w v block seen none found is =
     (λ e. list_leaves f w v block seen (table_in (decoded v.table block.bytes)) (fields_in (decoded v.table block.bytes)) none found is)
     (λ e. held_leaves f w v block none is)
 
-headers_leave : (f : FrameSeen) (w : Wire) (seen : ℕ) → (f.kind == headers_type) ≡ true → found_from (is_numbered f.stream) 0 w.live ≡ None → Leaves f w (headers_told w f seen)
+headers_leave : (f : FrameSeen) (w : Wire) (seen : ℕ) → (f.kind == headers_type) ≡ true → found_from (is_numbered f.stream) 0 w.live ≡ None → Leaves f w (headers_reported w f seen)
 headers_leave f w seen is found = part_leaves f w w (opened_by f) seen (none_of_kind f headers_type is refl refl refl) found (untouched w)
 
 placed_if : (a b : Bool) → a ≡ true → not (a && b) ≡ false → b ≡ true
@@ -100,7 +100,7 @@ placed_by : (f : FrameSeen) (b : Block) → (f.kind == continuation_type) ≡ tr
 placed_by f b is placed = eqb-true f.stream b.number (placed_if (f.kind == continuation_type) (f.stream == b.number) is placed)
 
 continuation_leaves : (f : FrameSeen) (w : Wire) (seen : ℕ) (o : Option Block) → (f.kind == continuation_type) ≡ true → link.is_misplaced o f ≡ false
-    → found_from (is_numbered f.stream) 0 w.live ≡ None → Leaves f w (continuation_told w f seen o)
+    → found_from (is_numbered f.stream) 0 w.live ≡ None → Leaves f w (continuation_reported w f seen o)
 continuation_leaves f w seen None is placed found = as_none f w w (none_of_kind f continuation_type is refl refl refl) (untouched w)
 continuation_leaves f w seen (Some b) is placed found =
     part_leaves f w (record w { block = None }) (record b { bytes = b.bytes ++ f.payload }) seen (none_of_kind f continuation_type is refl refl refl)
@@ -108,10 +108,10 @@ continuation_leaves f w seen (Some b) is placed found =
     (record { live = refl; waiting = refl; opened = refl; resizes = refl; queue = sym (append-nil w.queue.items) })
 
 -- the other frames
-data_leaves : (f : FrameSeen) (w : Wire) (seen : ℕ) → (f.kind == data_type) ≡ true → IsUntouched (owed_controls f) w (data_told w f seen None).wire
+data_leaves : (f : FrameSeen) (w : Wire) (seen : ℕ) → (f.kind == data_type) ≡ true → IsUntouched (owed_controls f) w (data_reported w f seen None).wire
 data_leaves f w seen is =
     let owed_is : owed_controls f ≡ (if length f.payload == 0 then [] else control.LinkUpdate (length f.payload) ∷ []) = if_true (f.kind == data_type) _ _ is in
-    subst (λ (cs : List Control). IsUntouched cs w (data_told w f seen None).wire) (sym owed_is)
+    subst (λ (cs : List Control). IsUntouched cs w (data_reported w f seen None).wire) (sym owed_is)
     (both_if (λ (cs : List Control) q. IsUntouched cs w (record w { queue = q })) (length f.payload == 0) [] (control.LinkUpdate (length f.payload) ∷ []) w.queue
     (queued w.queue (control.LinkUpdate (length f.payload))) (λ e. untouched w)
     (λ e. record { live = refl; waiting = refl; opened = refl; resizes = refl; queue = refl }))
@@ -131,60 +131,60 @@ named limit initial b (x ∷ ss) =
     (if x.identifier == 1 then true else b) ss
     ∙ named_by (x.identifier == 1) b (list_any (λ (y : Setting). y.identifier == 1) ss)
 
-settings_leave : (f : FrameSeen) (w : Wire) → (f.kind == settings_type) ≡ true → IsUntouched (owed_controls f) w (settings_told w f).wire
+settings_leave : (f : FrameSeen) (w : Wire) → (f.kind == settings_type) ≡ true → IsUntouched (owed_controls f) w (settings_reported w f).wire
 settings_leave f w is =
     let owed_is : owed_controls f ≡ (if has_flag f.flags ack_flag then [] else control.SettingsAck (names_one f) ∷ [])
     = if_false (f.kind == data_type) _ _ (not_kind f.kind settings_type data_type is refl) ∙ if_true (f.kind == settings_type) _ _ is in
     let same : (with_settings (record { limit = w.limit; initial = w.initial; resizes = false }) (settings_in f.payload)).resizes ≡ names_one f
     = named w.limit w.initial false (settings_in f.payload) in
-    subst (λ (cs : List Control). IsUntouched cs w (settings_told w f).wire) (sym owed_is)
-    (both_if (λ (cs : List Control) (t : Told). IsUntouched cs w t.wire) (has_flag f.flags ack_flag) [] (control.SettingsAck (names_one f) ∷ []) (record { wire = w; news = [] }) _
+    subst (λ (cs : List Control). IsUntouched cs w (settings_reported w f).wire) (sym owed_is)
+    (both_if (λ (cs : List Control) (t : Report). IsUntouched cs w t.wire) (has_flag f.flags ack_flag) [] (control.SettingsAck (names_one f) ∷ []) (record { wire = w; news = [] }) _
     (λ e. untouched w)
     (λ e. record { live = refl; waiting = refl; opened = refl; resizes = refl; queue = ap (λ (b : Bool). w.queue.items ++ control.SettingsAck b ∷ []) same }))
 
-ping_leaves : (f : FrameSeen) (w : Wire) → (f.kind == ping_type) ≡ true → IsUntouched (owed_controls f) w (ping_told w f).wire
+ping_leaves : (f : FrameSeen) (w : Wire) → (f.kind == ping_type) ≡ true → IsUntouched (owed_controls f) w (ping_reported w f).wire
 ping_leaves f w is =
     let owed_is : owed_controls f ≡ (if has_flag f.flags ack_flag then [] else control.PingAck (ping_word f.payload) ∷ [])
     = if_false (f.kind == data_type) _ _ (not_kind f.kind ping_type data_type is refl) ∙ if_false (f.kind == settings_type) _ _ (not_kind f.kind ping_type settings_type is refl)
     ∙ if_true (f.kind == ping_type) _ _ is in
-    subst (λ (cs : List Control). IsUntouched cs w (ping_told w f).wire) (sym owed_is)
-    (both_if (λ (cs : List Control) (t : Told). IsUntouched cs w t.wire) (has_flag f.flags ack_flag) [] (control.PingAck (ping_word f.payload) ∷ []) (record { wire = w; news = [] }) _
+    subst (λ (cs : List Control). IsUntouched cs w (ping_reported w f).wire) (sym owed_is)
+    (both_if (λ (cs : List Control) (t : Report). IsUntouched cs w t.wire) (has_flag f.flags ack_flag) [] (control.PingAck (ping_word f.payload) ∷ []) (record { wire = w; news = [] }) _
     (λ e. untouched w)
     (λ e. record { live = refl; waiting = refl; opened = refl; resizes = refl; queue = refl }))
 
 update_leaves : (f : FrameSeen) (w : Wire) (seen : ℕ) → (f.kind == window_update_type) ≡ true → found_from (is_numbered f.stream) 0 w.live ≡ None
-    → IsUntouched (owed_controls f) w (update_told w f seen).wire
+    → IsUntouched (owed_controls f) w (update_reported w f seen).wire
 update_leaves f w seen is found =
     let none : owed_controls f ≡ [] = none_of_kind f window_update_type is refl refl refl in
-    on_if (λ (t : Told). IsUntouched (owed_controls f) w t.wire) (f.stream == 0) _ (window_told w (increment f.payload) seen (found_from (is_numbered f.stream) 0 w.live))
+    on_if (λ (t : Report). IsUntouched (owed_controls f) w t.wire) (f.stream == 0) _ (window_reported w (increment f.payload) seen (found_from (is_numbered f.stream) 0 w.live))
     (λ e. as_none f w _ none (record { live = refl; waiting = refl; opened = refl; resizes = refl; queue = sym (append-nil w.queue.items) }))
-    (λ e. subst (λ o. IsUntouched (owed_controls f) w (window_told w (increment f.payload) seen o).wire) (sym found) (as_none f w w none (untouched w)))
+    (λ e. subst (λ o. IsUntouched (owed_controls f) w (window_reported w (increment f.payload) seen o).wire) (sym found) (as_none f w w none (untouched w)))
 
 plain_leaves : (f : FrameSeen) (w : Wire) (seen : ℕ) → (f.kind == goaway_type) ≡ false → found_from (is_numbered f.stream) 0 w.live ≡ None
-    → IsUntouched (owed_controls f) w (plain_told w f seen).wire
+    → IsUntouched (owed_controls f) w (plain_reported w f seen).wire
 plain_leaves f w seen no_goaway found =
     let at : Option (ℕ × LiveStream) = found_from (is_numbered f.stream) 0 w.live in
-    let P : Told → Type 0 = λ t. IsUntouched (owed_controls f) w t.wire in
-    on_if P (f.kind == data_type) (data_told w f seen at) _
-    (λ e. subst (λ o. P (data_told w f seen o)) (sym found) (data_leaves f w seen e))
+    let P : Report → Type 0 = λ t. IsUntouched (owed_controls f) w t.wire in
+    on_if P (f.kind == data_type) (data_reported w f seen at) _
+    (λ e. subst (λ o. P (data_reported w f seen o)) (sym found) (data_leaves f w seen e))
     (λ no_data.
-    on_if P (f.kind == rst_stream_type) (reset_told w (reset_code f.payload) seen at) _
-    (λ e. subst (λ o. P (reset_told w (reset_code f.payload) seen o)) (sym found) (as_none f w w (none_of_kind f rst_stream_type e refl refl refl) (untouched w)))
+    on_if P (f.kind == rst_stream_type) (reset_reported w (reset_code f.payload) seen at) _
+    (λ e. subst (λ o. P (reset_reported w (reset_code f.payload) seen o)) (sym found) (as_none f w w (none_of_kind f rst_stream_type e refl refl refl) (untouched w)))
     (λ no_reset.
-    on_if P (f.kind == settings_type) (settings_told w f) _ (λ e. settings_leave f w e)
+    on_if P (f.kind == settings_type) (settings_reported w f) _ (λ e. settings_leave f w e)
     (λ no_settings_.
-    on_if P (f.kind == ping_type) (ping_told w f) _ (λ e. ping_leaves f w e)
+    on_if P (f.kind == ping_type) (ping_reported w f) _ (λ e. ping_leaves f w e)
     (λ no_ping.
-    on_if P (f.kind == goaway_type) (goaway_told w (last_stream f.payload) seen) _ (λ e. absurd (let never : ⊥ = (cc) in never))
+    on_if P (f.kind == goaway_type) (goaway_reported w (last_stream f.payload) seen) _ (λ e. absurd (let never : ⊥ = (cc) in never))
     (λ none_.
-    on_if P (f.kind == window_update_type) (update_told w f seen) (record { wire = w; news = [] }) (λ e. update_leaves f w seen e found)
+    on_if P (f.kind == window_update_type) (update_reported w f seen) (record { wire = w; news = [] }) (λ e. update_leaves f w seen e found)
     (λ no_update. as_none f w w (none_owed f no_data no_settings_ no_ping) (untouched w)))))))
 
 pub applied_leaves : (f : FrameSeen) (w : Wire) (seen : ℕ) → (f.kind == goaway_type) ≡ false → list_any (λ (x : LiveStream). x.number == f.stream) w.live ≡ false
     → link.is_misplaced w.block f ≡ false → Leaves f w (applied w f seen)
 applied_leaves f w seen no_goaway apart placed =
     let found : found_from (is_numbered f.stream) 0 w.live ≡ None = none_found f.stream 0 w.live apart in
-    on_if (Leaves f w) (f.kind == headers_type) (headers_told w f seen) _ (λ e. headers_leave f w seen e found)
+    on_if (Leaves f w) (f.kind == headers_type) (headers_reported w f seen) _ (λ e. headers_leave f w seen e found)
     (λ no_headers.
-    on_if (Leaves f w) (f.kind == continuation_type) (continuation_told w f seen w.block) (Ok (plain_told w f seen))
+    on_if (Leaves f w) (f.kind == continuation_type) (continuation_reported w f seen w.block) (Ok (plain_reported w f seen))
     (λ e. continuation_leaves f w seen w.block e placed found) (λ no_continuation. plain_leaves f w seen no_goaway found))

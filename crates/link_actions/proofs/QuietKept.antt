@@ -17,11 +17,11 @@ use Rattle.h2_link.specs.LinkErrors as link
 use Rattle.h2_link.specs.LinkErrors.{is_bad_setting, overflows_link, overflows_streams, was_opened}
 use Rattle.h2_link.specs.Queues.{sealed}
 use Rattle.h2_link.specs.Steps.{applied, broke, judged, outcome, read_after}
-use Rattle.h2_link.specs.Wire.{Told, Wire}
+use Rattle.h2_link.specs.Wire.{Report, Wire}
 use Rattle.h2_link.specs.declared.control.Control.{Control}
 use Rattle.h2_link.specs.declared.live.LiveStream.{LiveStream}
 use Rattle.link_actions.proofs.Blocks.{SameAs}
-use Rattle.link_actions.proofs.Hearing.{Heard}
+use Rattle.link_actions.proofs.Receiving.{Received}
 use Rattle.link_actions.proofs.History.{raised_more, reads_more, used_same, writes_same}
 use Rattle.link_actions.proofs.Judged.{first_error, settings_same}
 use Rattle.link_actions.proofs.Lists.{if_false, none_of, or_none}
@@ -31,7 +31,7 @@ use Rattle.link_actions.proofs.QuietReads.{none_goes, none_going, same_names, sa
 use Rattle.link_actions.proofs.Reading.{NoError, after_frame, applied_same, no_error, unsealed}
 use Rattle.link_actions.proofs.Written.{changed_here, fed_still}
 use Rattle.link_actions.specs.Laws.{IsApart, QuietFramesKeep}
-use Rattle.link_actions.specs.Sees.{AreDistinct, AreFed, AreFresh, AreLive, AreOpened, IsFed, SeesLink, SeesOwed, WaitFed, acknowledged, by_stream, named_in}
+use Rattle.link_actions.specs.Sees.{NumbersAreDistinct, StreamsAreFed, StreamsAreFresh, StreamsAreLive, StreamsAreOpened, IsFed, SeesLink, SeesOwed, WaitFed, acknowledged, by_stream, named_in}
 use Rattle.session_actions.specs.Links.{frames_read, frames_written, has_written_end, is_settings, read_bytes, settings_of, with_link}
 use Rattle.session_actions.specs.Reading.{frame_read_by, is_of_opened, is_setting, open_block, outstanding_on, raise_by, raised, used}
 use Rattle.session_actions.specs.Writing.{controls_written, frame_read, frame_read_on, has_begun, is_control, is_first_named, is_preface_of, owed_for, owes_update_from, streaming_on, table_sizes_named, waiting_on, with_frame_read}
@@ -62,7 +62,7 @@ turned : (n k : ℕ) → (n == k) ≡ false → (k == n) ≡ false
 turned n k e = grind (arith, nat_tests, e)
 
 live_quiet : (l : Link) (r : ReadFrame) (frames : List FrameSeen) (xs : List LiveStream) (others : List Attempt) → list_any (λ (x : LiveStream). x.number == r.frame.stream) xs ≡ false
-    → AreLive l xs others → AreLive (with_frame_read r frames l) xs others
+    → StreamsAreLive l xs others → StreamsAreLive (with_frame_read r frames l) xs others
 live_quiet l r frames [] [] apart are = tt
 live_quiet l r frames (x ∷ xs) (a ∷ others) apart are =
     let m : Link = with_frame_read r frames l in
@@ -90,8 +90,8 @@ for_same l r frames (Some n) = used_same n l r frames
 linked : (f : Link → Link) (k : ℕ) (m : Link) (s : Seen) (a : Attempt) (line : Line) → IsFed m s a line → IsFed m (with_link f k s) a line
 linked f k m s a line is = record { call = is.call; call_is = is.call_is; fields = is.fields; written = is.written; left = is.left; finished = is.finished }
 
-pub fed_quiet : (l : Link) (s : Seen) (g : ℕ → Line) (r : ReadFrame) (frames : List FrameSeen) (h : Link → Link) (xs : List LiveStream) (others : List Attempt) → AreFed l s g xs others
-    → AreFed (with_frame_read r frames l) (with_link h l.number s) g xs others
+pub fed_quiet : (l : Link) (s : Seen) (g : ℕ → Line) (r : ReadFrame) (frames : List FrameSeen) (h : Link → Link) (xs : List LiveStream) (others : List Attempt) → StreamsAreFed l s g xs others
+    → StreamsAreFed (with_frame_read r frames l) (with_link h l.number s) g xs others
 fed_quiet l s g r frames h [] [] are = tt
 fed_quiet l s g r frames h (x ∷ xs) (a ∷ others) are = (
   linked h l.number (with_frame_read r frames l) s a (g x.tag) (fed_still l (with_frame_read r frames l) s a (g x.tag) (for_same l r frames a.row.stream) are.0),
@@ -170,14 +170,14 @@ owed_read l s w v r cs owes controls named resizes items =
     let low : controls_written l ≤ length l.owed = owes.written in
     let many : length (ns ++ more) ≡ length ns + length more = length-append ns more in
     let least : acknowledged l ≤ length ns = owes.answered in
-    let front : List Outgoing = if has_begun l then [] else Opening ∷ [] in
+    let prefix : List Outgoing = if has_begun l then [] else Opening ∷ [] in
     record {
       queue = ap (map outgoing) items ∙ map-append outgoing w.queue.items cs ∙ ap (λ (os : List Outgoing). os ++ map outgoing cs) owes.queue
-          ∙ ap (λ (os : List Outgoing). (front ++ map (λ h. AFrame h) (drop (controls_written l) l.owed)) ++ os) controls
-          ∙ joined front (map (λ h. AFrame h) (drop (controls_written l) l.owed)) (map (λ h. AFrame h) (owed_for r.frame l s))
-          ∙ ap (λ (os : List Outgoing). front ++ os) (sym (map-append (λ h. AFrame h) (drop (controls_written l) l.owed) (owed_for r.frame l s)))
-          ∙ ap (λ (hs : List FrameSeen). front ++ map (λ h. AFrame h) hs) (sym (drop_more (controls_written l) l.owed (owed_for r.frame l s) low))
-          ∙ ap (λ (n : ℕ). front ++ map (λ h. AFrame h) (drop n (l.owed ++ owed_for r.frame l s))) (sym count)
+          ∙ ap (λ (os : List Outgoing). (prefix ++ map (λ h. AFrame h) (drop (controls_written l) l.owed)) ++ os) controls
+          ∙ joined prefix (map (λ h. AFrame h) (drop (controls_written l) l.owed)) (map (λ h. AFrame h) (owed_for r.frame l s))
+          ∙ ap (λ (os : List Outgoing). prefix ++ os) (sym (map-append (λ h. AFrame h) (drop (controls_written l) l.owed) (owed_for r.frame l s)))
+          ∙ ap (λ (hs : List FrameSeen). prefix ++ map (λ h. AFrame h) hs) (sym (drop_more (controls_written l) l.owed (owed_for r.frame l s) low))
+          ∙ ap (λ (n : ℕ). prefix ++ map (λ h. AFrame h) (drop n (l.owed ++ owed_for r.frame l s))) (sym count)
           ∙ ap (λ (b : Bool). (if b then [] else Opening ∷ []) ++ map (λ h. AFrame h) (drop (controls_written m) (l.owed ++ owed_for r.frame l s))) (sym begun);
       names = ap (filter_map named_in) items ∙ filter_map-append named_in w.queue.items cs ∙ ap (λ (bs : List Bool). bs ++ filter_map named_in cs) owes.names
           ∙ ap (λ (bs : List Bool). drop (acknowledged l) ns ++ bs) named ∙ sym (drop_more (acknowledged l) ns more least)
@@ -231,7 +231,7 @@ fresh_by true false true f opened k is none is_opened above no_error_ = raise_no
 fresh_by true false false f opened k is none is_opened above no_error_ =
     absurd (bad_by (is_of_opened f.kind) (f.stream == 0) (was_opened opened f.stream) (of_update f.kind is) none is_opened no_error_)
 
-pub fresh_quiet : (l : Link) (opened : ℕ) (r : ReadFrame) (frames : List FrameSeen) → link.is_unopened opened r.frame ≡ false → AreFresh l opened → AreFresh (with_frame_read r frames l) opened
+pub fresh_quiet : (l : Link) (opened : ℕ) (r : ReadFrame) (frames : List FrameSeen) → link.is_unopened opened r.frame ≡ false → StreamsAreFresh l opened → StreamsAreFresh (with_frame_read r frames l) opened
 fresh_quiet l opened r frames no_error_ fresh k above =
     let was = fresh k above in
     let zero_ : raised k l ≡ 0 = was.2 in
@@ -241,15 +241,15 @@ fresh_quiet l opened r frames no_error_ fresh k above =
     (used_same k l r frames ∙ was.0, ends_still l r frames k ∙ was.1, omega (arith, none, more, zero_))
 
 -- whole
-pub heard_of : (end : ℕ) (f : FrameSeen) (o : Option OpenBlock) (w : Wire) (n : NextRead) (t : Told) → SameAs end f o w n (Ok t) → Heard f o w t.wire
-heard_of end f o w (nextread.Frame r) t same = same.2
-heard_of end f o w nextread.Nothing t same = absurd same
-heard_of end f o w (nextread.Broken code) t same = absurd same
+pub received_of : (end : ℕ) (f : FrameSeen) (o : Option OpenBlock) (w : Wire) (n : NextRead) (t : Report) → SameAs end f o w n (Ok t) → Received f o w t.wire
+received_of end f o w (nextread.Frame r) t same = same.2
+received_of end f o w nextread.Nothing t same = absurd same
+received_of end f o w (nextread.Broken code) t same = absurd same
 
 none_broken : (w : Wire) (code : ℕ) → (broke w code).wire.broken ≡ None → ⊥
 none_broken w code e = (cc)
 
-kept_by : (l : Link) (s : Seen) (w : Wire) (g : ℕ → Line) (r : ReadFrame) (q : Result Told ℕ) → SeesLink l s w g → is_allowed r.frame ≡ true
+kept_by : (l : Link) (s : Seen) (w : Wire) (g : ℕ → Line) (r : ReadFrame) (q : Result Report ℕ) → SeesLink l s w g → is_allowed r.frame ≡ true
     → r.end ≡ read_bytes l + (9 + length r.frame.payload) → link.link_error w r.frame ≡ None → IsApart r.frame w
     → applied (record w { queue = sealed w.queue }) r.frame (read_after w.read (9 + length r.frame.payload)) ≡ q
     → (outcome w (read_after w.read (9 + length r.frame.payload)) q).wire.broken ≡ None
@@ -268,9 +268,9 @@ kept_by l s w g r (Ok t) is allowed end no_error_ apart e whole =
     = opened_of_error (not w.ready && not (link.is_preface f)) (f.kind == push_promise_type) (list_any is_bad_setting (link.settings_of f)) (link.is_misplaced w.block f)
     (link.is_unopened w.opened f) (overflows_link w.window f) (list_any (overflows_streams w.live) (link.settings_of f)) no_error_ in
     let N : List Setting → Type 0 = λ ss. NoError (link.is_misplaced w.block f) (overflows_link w.window f) (list_any (overflows_streams w.live) ss) in
-    let S : Result Told ℕ → Type 0 = λ x. SameAs r.end f (open_block l) v (frame_read_by None l f r.end) x in
+    let S : Result Report ℕ → Type 0 = λ x. SameAs r.end f (open_block l) v (frame_read_by None l f r.end) x in
     let same : S (Ok t) = subst S e (applied_same l v f r.end seen is.sees.reads.block is.sees.reads.table (subst N (sym (settings_same f allowed)) none)) in
-    let heard : Heard f (open_block l) w t.wire = unsealed f (open_block l) w t.wire (heard_of r.end f (open_block l) v (frame_read_by None l f r.end) t same) in
+    let handled : Received f (open_block l) w t.wire = unsealed f (open_block l) w t.wire (received_of r.end f (open_block l) v (frame_read_by None l f r.end) t same) in
     let left : IsUntouched (owed_controls f) v t.wire = subst (λ x. IfOk x (λ u. IsUntouched (owed_controls f) v u.wire)) e (applied_leaves f v seen apart.0 apart.1 none.placed) in
     let controls = same_owed f l s (none_goes f s (outstanding_on l s) (none_going f l s w.live is.sees.live apart.1)) in
     let D : Seen → Type 0 = λ u. SeesLink m u (record t.wire { read = seen }) g in
@@ -281,16 +281,16 @@ kept_by l s w g r (Ok t) is allowed end no_error_ apart e whole =
     subst D (sym at) (record {
       at = changed_here (with_frame_read r frames) l.number s.links l is.at;
       sees = record {
-        reads = after_frame l w t.wire r frames is.sees.reads heard end;
-        live = subst (λ xs. AreLive m xs bs) (sym live_is) (live_quiet l r frames w.live bs apart.1 is.sees.live);
+        reads = after_frame l w t.wire r frames is.sees.reads handled end;
+        live = subst (λ xs. StreamsAreLive m xs bs) (sym live_is) (live_quiet l r frames w.live bs apart.1 is.sees.live);
       };
       owes = owed_read l s w (record t.wire { read = seen }) r (owed_controls f) is.owes controls (same_names f) left.resizes left.queue;
       waits = left.waiting ∙ is.waits;
-      fed = subst (λ xs. AreFed m (frame_read_on r s l) g xs bs) (sym live_is) (fed_quiet l s g r frames (with_frame_read r frames) w.live bs is.fed);
+      fed = subst (λ xs. StreamsAreFed m (frame_read_on r s l) g xs bs) (sym live_is) (fed_quiet l s g r frames (with_frame_read r frames) w.live bs is.fed);
       wait_fed = wait_quiet l s g r frames (with_frame_read r frames) (waiting_on l s) is.wait_fed;
-      opened = subst (λ xs. AreOpened 1 (2 * t.wire.opened + 1) xs) (sym live_is) (subst (λ n. AreOpened 1 (2 * n + 1) w.live) (sym opened_is) is.opened);
-      fresh = subst (λ n. AreFresh m n) (sym opened_is) (fresh_quiet l w.opened r frames unopened is.fresh);
-      tags = subst (λ xs. AreDistinct (map (λ x. x.tag) xs ++ t.wire.waiting)) (sym live_is) (subst (λ ns. AreDistinct (map (λ x. x.tag) w.live ++ ns)) (sym left.waiting) is.tags);
+      opened = subst (λ xs. StreamsAreOpened 1 (2 * t.wire.opened + 1) xs) (sym live_is) (subst (λ n. StreamsAreOpened 1 (2 * n + 1) w.live) (sym opened_is) is.opened);
+      fresh = subst (λ n. StreamsAreFresh m n) (sym opened_is) (fresh_quiet l w.opened r frames unopened is.fresh);
+      tags = subst (λ xs. NumbersAreDistinct (map (λ x. x.tag) xs ++ t.wire.waiting)) (sym live_is) (subst (λ ns. NumbersAreDistinct (map (λ x. x.tag) w.live ++ ns)) (sym left.waiting) is.tags);
       places = is.places;
     })
 

@@ -14,7 +14,7 @@ use Rattle.h2_link.specs.declared.live.LiveStream.{LiveStream}
 use Rattle.link_actions.proofs.Lists.{any_kept, if_true, none_of}
 use Rattle.link_actions.proofs.Quiet.{names_one, owed_controls}
 use Rattle.link_actions.proofs.Streams.{any_by_stream}
-use Rattle.link_actions.specs.Sees.{AreLive, by_stream, named_in}
+use Rattle.link_actions.specs.Sees.{StreamsAreLive, by_stream, named_in}
 use Rattle.session_actions.specs.Links.{is_settings, settings_of}
 use Rattle.session_actions.specs.Reading.{is_setting, outstanding_on}
 use Rattle.session_actions.specs.Words.{is_number}
@@ -24,7 +24,7 @@ use Rattle.session_actions.specs.declared.link.Link.{Link}
 use Rattle.session_actions.specs.declared.seen.Seen.{Seen}
 
 -- no attempt has the stream of a frame that no stream of the link has
-any_live : (l : Link) (n : ℕ) (xs : List LiveStream) (others : List Attempt) → AreLive l xs others
+any_live : (l : Link) (n : ℕ) (xs : List LiveStream) (others : List Attempt) → StreamsAreLive l xs others
     → list_any (λ (a : Attempt). is_number n a.row.stream) others ≡ list_any (λ (x : LiveStream). x.number == n) xs
 any_live l n [] [] are = refl
 any_live l n (x ∷ xs) (a ∷ others) are =
@@ -37,7 +37,7 @@ no_number : (n : ℕ) (o : Option ℕ) → is_some o ≡ false → is_number n o
 no_number n None e = refl
 no_number n (Some m) e = absurd (cc)
 
-pub none_going : (f : FrameSeen) (l : Link) (s : Seen) (xs : List LiveStream) → AreLive l xs (by_stream (streaming_on l s)) → list_any (λ (x : LiveStream). x.number == f.stream) xs ≡ false
+pub none_going : (f : FrameSeen) (l : Link) (s : Seen) (xs : List LiveStream) → StreamsAreLive l xs (by_stream (streaming_on l s)) → list_any (λ (x : LiveStream). x.number == f.stream) xs ≡ false
     → list_any (λ (a : Attempt). is_number f.stream a.row.stream) (outstanding_on l s) ≡ false
 none_going f l s xs are e =
     any_kept (λ (a : Attempt). is_number f.stream a.row.stream) (λ (a : Attempt). is_some a.row.stream) (λ (a : Attempt) e. no_number f.stream a.row.stream e) (outstanding_on l s)

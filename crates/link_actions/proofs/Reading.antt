@@ -11,14 +11,14 @@ use Rattle.h2_frame.specs.Frames.{FrameSeen, IsFrame, Spells, is_allowed}
 use Rattle.h2_frame.specs.Numbers.{continuation_type, headers_type, push_promise_type}
 use Rattle.h2_frame.specs.Readings.{Fault, Partial, Reading, Whole, reading_of}
 use Rattle.h2_hpack.specs.Blocks.{state_after}
-use Rattle.h2_link.specs.Heard.{front_as}
+use Rattle.h2_link.specs.Received.{prefix_as}
 use Rattle.h2_link.specs.LinkErrors as link
 use Rattle.h2_link.specs.LinkErrors.{is_bad_setting, overflows_link, overflows_streams}
 use Rattle.h2_link.specs.Queues.{sealed}
-use Rattle.h2_link.specs.Steps.{applied, broke, continuation_told, headers_told, judged, outcome, plain_told, read_after, told}
-use Rattle.h2_link.specs.Wire.{Block, Told, Wire}
+use Rattle.h2_link.specs.Steps.{applied, broke, continuation_reported, headers_reported, judged, outcome, plain_reported, read_after, reported}
+use Rattle.h2_link.specs.Wire.{Block, Report, Wire}
 use Rattle.link_actions.proofs.Blocks.{SameAs, continuation_same, headers_same}
-use Rattle.link_actions.proofs.Hearing.{Heard, not_kind, plain_heard}
+use Rattle.link_actions.proofs.Receiving.{Received, not_kind, plain_received}
 use Rattle.link_actions.proofs.History.{block_more, bytes_more, completed, given, opened_same, raised_more, retiring_more, setting_more, settings_more, table_more, table_of, used_same}
 use Rattle.link_actions.proofs.Judged.{first_error, frames_are_judged, settings_same}
 use Rattle.link_actions.proofs.Lists.{if_false, if_true, on_if}
@@ -53,10 +53,10 @@ new_ones_agree number sub s = record {
 pub record NoError (misplaced lifts wide : Bool) : Type 0 where
   pub placed : misplaced ≡ false
   pub fits : lifts ≡ false
-  pub narrow : wide ≡ false
+  pub restricted : wide ≡ false
 
 pub no_error : (early push bad misplaced unopened lifts wide : Bool) → first_error early push bad misplaced unopened lifts wide ≡ None → NoError misplaced lifts wide
-no_error false false false false false false false e = record { placed = refl; fits = refl; narrow = refl }
+no_error false false false false false false false e = record { placed = refl; fits = refl; restricted = refl }
 no_error true push bad misplaced unopened lifts wide e = absurd (cc)
 no_error false true bad misplaced unopened lifts wide e = absurd (cc)
 no_error false false true misplaced unopened lifts wide e = absurd (cc)
@@ -79,11 +79,11 @@ pub applied_same : (l : Link) (w : Wire) (f : FrameSeen) (end seen : ℕ) → Is
     → SameAs end f (open_block l) w (frame_read_by None l f end) (applied w f seen)
 applied_same l w f end seen block table none =
     let o : Option OpenBlock = open_block l in
-    let P : Result Told ℕ → Type 0 = λ r. SameAs end f o w (frame_read_by None l f end) r in
+    let P : Result Report ℕ → Type 0 = λ r. SameAs end f o w (frame_read_by None l f end) r in
     on_if P (f.kind == headers_type) _ _
     (λ is.
     let of_b : is_of_block f ≡ true = ap (λ (b : Bool). b || (f.kind == continuation_type)) is in
-    let S : NextRead → Type 0 = λ n. SameAs end f o w n (headers_told w f seen) in
+    let S : NextRead → Type 0 = λ n. SameAs end f o w n (headers_reported w f seen) in
     let e : f.kind ≡ headers_type = eqb-true f.kind headers_type is in
     subst S (sym (if_true (is_of_block f) (part_read l f end (block_with o f)) (plain_read f end) of_b))
     (headers_same l w f end seen o is (out_of_block w.block f none.placed (not_kind f.kind headers_type continuation_type false e refl)) table))
@@ -91,17 +91,17 @@ applied_same l w f end seen block table none =
     on_if P (f.kind == continuation_type) _ _
     (λ is.
     let of_b : is_of_block f ≡ true = ap (λ (b : Bool). (f.kind == headers_type) || b) is ∙ or_right (f.kind == headers_type) true refl in
-    let S : NextRead → Type 0 = λ n. SameAs end f o w n (continuation_told w f seen w.block) in
+    let S : NextRead → Type 0 = λ n. SameAs end f o w n (continuation_reported w f seen w.block) in
     subst S (sym (if_true (is_of_block f) (part_read l f end (block_with o f)) (plain_read f end) of_b))
     (continuation_same l w f end seen w.block o is block none.placed table))
     (λ no_continuation.
     let of_b : is_of_block f ≡ false = ap (λ (b : Bool). b || (f.kind == continuation_type)) no_headers ∙ no_continuation in
-    let S : NextRead → Type 0 = λ n. SameAs end f o w n (Ok (plain_told w f seen)) in
+    let S : NextRead → Type 0 = λ n. SameAs end f o w n (Ok (plain_reported w f seen)) in
     subst S (sym (if_false (is_of_block f) (part_read l f end (block_with o f)) (plain_read f end) of_b))
-    (refl, refl, plain_heard w f o seen no_headers no_continuation block none.fits none.narrow)))
+    (refl, refl, plain_received w f o seen no_headers no_continuation block none.fits none.restricted)))
 
 -- the effects of the frame before are complete, which leaves what was read
-pub unsealed : (f : FrameSeen) (o : Option OpenBlock) (w x : Wire) → Heard f o (record w { queue = sealed w.queue }) x → Heard f o w x
+pub unsealed : (f : FrameSeen) (o : Option OpenBlock) (w x : Wire) → Received f o (record w { queue = sealed w.queue }) x → Received f o w x
 unsealed f o w x h = record {
   whole = h.whole;
   ready = h.ready;
@@ -114,7 +114,7 @@ unsealed f o w x h = record {
   table = h.table;
 }
 
-same_unsealed : (end : ℕ) (f : FrameSeen) (o : Option OpenBlock) (w : Wire) (n : NextRead) (r : Result Told ℕ)
+same_unsealed : (end : ℕ) (f : FrameSeen) (o : Option OpenBlock) (w : Wire) (n : NextRead) (r : Result Report ℕ)
     → SameAs end f o (record w { queue = sealed w.queue }) n r → SameAs end f o w n r
 same_unsealed end f o w (nextread.Broken code) (Err e) same = same
 same_unsealed end f o w (nextread.Frame r) (Ok t) same = (same.0, same.1, unsealed f o w t.wire same.2)
@@ -143,38 +143,38 @@ size_of bytes f len within said = sym (length-take-le len bytes within) ∙ spel
 counted : (m n r : ℕ) → r ≡ min m 18446744073709551615 → min (r + n) 18446744073709551615 ≡ min (m + n) 18446744073709551615
 counted m n r e = omega (arith, e)
 
-pub after_frame : (l : Link) (w v : Wire) (r : ReadFrame) (frames : List FrameSeen) → SeesRead l w → Heard r.frame (open_block l) w v
+pub after_frame : (l : Link) (w v : Wire) (r : ReadFrame) (frames : List FrameSeen) → SeesRead l w → Received r.frame (open_block l) w v
     → r.end ≡ read_bytes l + (9 + length r.frame.payload)
     → SeesRead (with_frame_read r frames l) (record v { read = read_after w.read (9 + length r.frame.payload) })
-after_frame l w v r frames sees heard end =
+after_frame l w v r frames sees handled end =
     let m : Link = with_frame_read r frames l in
     let f : FrameSeen = r.frame in
-    let raise : v.window ≡ w.window + raise_by 0 f = heard.window in
+    let raise : v.window ≡ w.window + raise_by 0 f = handled.window in
     let was : w.window + used 0 l ≡ 65535 + raised 0 l = sees.window in
     let sent : used 0 m ≡ used 0 l = used_same 0 l r frames in
     let more : raised 0 m ≡ raised 0 l + raise_by 0 f = raised_more 0 l r frames in
     let B : Option OpenBlock → Type 0 = λ o. IsBlock v.block o in
     record {
-      whole = heard.whole ∙ sees.whole;
+      whole = handled.whole ∙ sees.whole;
       read = counted (read_bytes l) (9 + length f.payload) w.read sees.read ∙ ap (λ (n : ℕ). min n 18446744073709551615) (sym end ∙ sym (bytes_more l r frames));
-      ready = heard.ready ∙ ap (λ (b : Bool). b || is_settings f) sees.ready ∙ sym (settings_more l r frames);
-      retiring = heard.retiring ∙ ap (λ (b : Bool). b || (f.kind == goaway_type)) sees.retiring ∙ sym (retiring_more l r frames);
-      limit = heard.limit ∙ ap (λ (o : Option ℕ). option_or (given 3 (settings_of f)) o) sees.limit ∙ sym (setting_more 3 l r frames);
-      initial = heard.initial ∙ ap (λ (n : ℕ). unwrap_or (given 4 (settings_of f)) n) sees.initial
+      ready = handled.ready ∙ ap (λ (b : Bool). b || is_settings f) sees.ready ∙ sym (settings_more l r frames);
+      retiring = handled.retiring ∙ ap (λ (b : Bool). b || (f.kind == goaway_type)) sees.retiring ∙ sym (retiring_more l r frames);
+      limit = handled.limit ∙ ap (λ (o : Option ℕ). option_or (given 3 (settings_of f)) o) sees.limit ∙ sym (setting_more 3 l r frames);
+      initial = handled.initial ∙ ap (λ (n : ℕ). unwrap_or (given 4 (settings_of f)) n) sees.initial
           ∙ given_first (given 4 (settings_of f)) (setting 4 l) 65535 ∙ ap (λ (o : Option ℕ). unwrap_or o 65535) (sym (setting_more 4 l r frames));
       window = omega (arith, raise, was, sent, more);
-      opened = opened_same l r frames ∙ sees.opened ∙ ap odds (sym heard.opened);
-      block = subst B (sym (block_more l r frames)) heard.block;
-      table = heard.table ∙ ap (λ t. state_after t (completed (open_block l) f)) sees.table ∙ sym (table_more l r frames);
+      opened = opened_same l r frames ∙ sees.opened ∙ ap odds (sym handled.opened);
+      block = subst B (sym (block_more l r frames)) handled.block;
+      table = handled.table ∙ ap (λ t. state_after t (completed (open_block l) f)) sees.table ∙ sym (table_more l r frames);
     }
 
 -- a frame that was read, or broke the link
-read_as : (l : Link) (s : Seen) (w : Wire) (f : FrameSeen) (len : ℕ) (n : NextRead) (r : Result Told ℕ) → SeesRead l w → len ≡ 9 + length f.payload
+read_as : (l : Link) (s : Seen) (w : Wire) (f : FrameSeen) (len : ℕ) (n : NextRead) (r : Result Report ℕ) → SeesRead l w → len ≡ 9 + length f.payload
     → SameAs (read_bytes l + len) f (open_block l) w n r
     → IsSameRead l s w n (Some (len, outcome w (read_after w.read (9 + length f.payload)) r))
 read_as l s w f len (nextread.Broken code) (Err e) sees size same = ap (broke w) (sym same)
 read_as l s w f len (nextread.Frame r) (Ok t) sees size same =
-    let H : FrameSeen → Type 0 = λ g. Heard g (open_block l) w t.wire in
+    let H : FrameSeen → Type 0 = λ g. Received g (open_block l) w t.wire in
     let F : FrameSeen → Type 0 = λ g. SeesRead (with_frame_read r (owed_for r.frame l s) l) (record t.wire { read = read_after w.read (9 + length g.payload) }) in
     let end : r.end ≡ read_bytes l + (9 + length r.frame.payload)
     = same.1 ∙ ap (λ (n : ℕ). read_bytes l + n) (size ∙ ap (λ (g : FrameSeen). 9 + length g.payload) (sym same.0)) in
@@ -197,17 +197,17 @@ by_error l s w f len None sees size allowed e =
     (applied_same l v f (read_bytes l + len) (read_after w.read (9 + length f.payload)) sees.reads.block sees.reads.table (subst N (sym (settings_same f allowed)) none)))
 
 by_reading : (l : Link) (s : Seen) (w : Wire) (bytes : List ℕ) (x : Reading) → Sees l s w → reading_of bytes ≡ x
-    → IsSameRead l s w (next_read_by x l s) (front_as w bytes x)
+    → IsSameRead l s w (next_read_by x l s) (prefix_as w bytes x)
 by_reading l s w bytes Partial sees e = tt
 by_reading l s w bytes (Fault code) sees e = refl
 by_reading l s w bytes (Whole f len) sees e =
     let whole : (len ≤ length bytes) × IsFrame (take len bytes) f = whole_is_frame bytes f len e in
     let allowed : is_allowed f ≡ true = whole.1.allowed in
     let size : len ≡ 9 + length f.payload = size_of bytes f len whole.0 whole.1.spells in
-    let J : Option ℕ → Type 0 = λ o. IsSameRead l s w (frame_read_by o l f (read_bytes l + len)) (Some (len, told w f)) in
+    let J : Option ℕ → Type 0 = λ o. IsSameRead l s w (frame_read_by o l f (read_bytes l + len)) (Some (len, reported w f)) in
     subst J (sym (frames_are_judged l s w f sees allowed)) (by_error l s w f len (link.link_error w f) sees size allowed refl)
 
 pub reads_are_same : ReadsAreSame
 reads_are_same l s w bytes sees e =
-    let R : List ℕ → Type 0 = λ xs. IsSameRead l s w (next_read_by (reading_of xs) l s) (front_as w bytes (reading_of bytes)) in
+    let R : List ℕ → Type 0 = λ xs. IsSameRead l s w (next_read_by (reading_of xs) l s) (prefix_as w bytes (reading_of bytes)) in
     subst R (sym e) (by_reading l s w bytes (reading_of bytes) sees refl)

@@ -2,7 +2,7 @@ pub mod Lists
 pub mod Found
 pub mod Steps
 pub mod Headless
-pub mod Told
+pub mod Report
 pub mod Gone
 pub mod Kept
 pub mod Codes

@@ -2,13 +2,13 @@ pub mod Responses
 pub mod Found
 pub mod Going
 pub mod StreamRead
-pub mod Unheard
+pub mod Unreceived
 pub mod StreamEnds
 pub mod StreamGoes
 pub mod DataRead
 pub mod PlainRead
 pub mod StatusSame
-pub mod BlockTold
+pub mod BlockReported
 pub mod HeadersRead
 pub mod QuietStreams
 pub mod WriteStreams

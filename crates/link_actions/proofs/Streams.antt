@@ -8,7 +8,7 @@ use Rattle.h2_link.specs.LinkErrors.{send_window, was_opened}
 use Rattle.h2_link.specs.declared.live.LiveStream.{LiveStream}
 use Rattle.lb_policy.specs.Table.{is_one_of}
 use Rattle.link_actions.proofs.Lists.{any_kept, on_if, or_none, or_swapped}
-use Rattle.link_actions.specs.Sees.{AreLive, IsLive, by_stream, odds, put_by_stream}
+use Rattle.link_actions.specs.Sees.{StreamsAreLive, IsLive, by_stream, odds, put_by_stream}
 use Rattle.session_actions.specs.Links.{stream_number}
 use Rattle.session_actions.specs.Reading.{largest_window, lifts_stream, outstanding_on, raised, used}
 use Rattle.session_actions.specs.Words.{holds}
@@ -50,7 +50,7 @@ lifts_same : (l : Link) (size : ℕ) (x : LiveStream) (a : Attempt) → IsLive l
 lifts_same l size x a is =
     ap (holds (lifts_stream l size)) is.stream ∙ sym (lifts_by x.credit size (used x.number l) (raised x.number l) is.credit)
 
-any_lifts : (l : Link) (size : ℕ) (xs : List LiveStream) (others : List Attempt) → AreLive l xs others
+any_lifts : (l : Link) (size : ℕ) (xs : List LiveStream) (others : List Attempt) → StreamsAreLive l xs others
     → list_any (λ (a : Attempt). holds (lifts_stream l size) a.row.stream) others
     ≡ list_any (λ (x : LiveStream). int_lt (pos largest_window) (send_window size x)) xs
 any_lifts l size [] [] are = refl
@@ -64,7 +64,7 @@ no_stream : (l : Link) (size : ℕ) (o : Option ℕ) → is_some o ≡ false →
 no_stream l size None e = refl
 no_stream l size (Some n) e = absurd (cc)
 
-pub lifting_same : (l : Link) (s : Seen) (size : ℕ) (xs : List LiveStream) → AreLive l xs (by_stream (streaming_on l s))
+pub lifting_same : (l : Link) (s : Seen) (size : ℕ) (xs : List LiveStream) → StreamsAreLive l xs (by_stream (streaming_on l s))
     → list_any (λ (a : Attempt). holds (lifts_stream l size) a.row.stream) (outstanding_on l s)
     ≡ list_any (λ (x : LiveStream). int_lt (pos largest_window) (send_window size x)) xs
 lifting_same l s size xs are =

@@ -14,7 +14,7 @@ use Rattle.h2_link.specs.declared.live.LiveStream.{LiveStream}
 use Rattle.link_actions.proofs.Lists.{if_false, or_none}
 use Rattle.link_actions.proofs.Owed.{frames_more, frames_same, read_same}
 use Rattle.link_actions.specs.Laws.{with_written}
-use Rattle.link_actions.specs.Sees.{AreDistinct, AreFed, AreFresh, AreLive, AreOpened, IsFed, SeesLink, SeesOwed, SeesRead, WaitFed, by_stream, written_for}
+use Rattle.link_actions.specs.Sees.{NumbersAreDistinct, StreamsAreFed, StreamsAreFresh, StreamsAreLive, StreamsAreOpened, IsFed, SeesLink, SeesOwed, SeesRead, WaitFed, by_stream, written_for}
 use Rattle.session_actions.specs.Configs.{deadline}
 use Rattle.session_actions.specs.Entries.{now, with_entry}
 use Rattle.session_actions.specs.Links.{frames_written, has_written_end, with_link}
@@ -53,7 +53,7 @@ fed_noted x l m s a line is = record {
   finished = is.finished;
 }
 
-pub all_noted : (x : Sent) (l m : Link) (s : Seen) (g : ℕ → Line) (xs : List LiveStream) (others : List Attempt) → AreFed m s g xs others → AreFed m (noted x l s) g xs others
+pub all_noted : (x : Sent) (l m : Link) (s : Seen) (g : ℕ → Line) (xs : List LiveStream) (others : List Attempt) → StreamsAreFed m s g xs others → StreamsAreFed m (noted x l s) g xs others
 all_noted x l m s g [] [] are = tt
 all_noted x l m s g (y ∷ xs) (a ∷ others) are = (fed_noted x l m s a (g y.tag) are.0, all_noted x l m s g xs others are.1)
 all_noted x l m s g [] (a ∷ others) are = absurd are
@@ -116,7 +116,7 @@ frame_unwritten l f e = record {
   raised_is = raised_still l (sent.Frame f);
 }
 
-pub live_still : (l m : Link) (xs : List LiveStream) (others : List Attempt) → IsUnwritten l m → AreLive l xs others → AreLive m xs others
+pub live_still : (l m : Link) (xs : List LiveStream) (others : List Attempt) → IsUnwritten l m → StreamsAreLive l xs others → StreamsAreLive m xs others
 live_still l m [] [] same are = tt
 live_still l m (x ∷ xs) (a ∷ others) same are = (
   record {
@@ -145,7 +145,7 @@ fed_still l m s a line same is = record {
   finished = is.finished;
 }
 
-pub all_still : (l m : Link) (s : Seen) (g : ℕ → Line) (xs : List LiveStream) (others : List Attempt) → IsUnwritten l m → AreFed l s g xs others → AreFed m s g xs others
+pub all_still : (l m : Link) (s : Seen) (g : ℕ → Line) (xs : List LiveStream) (others : List Attempt) → IsUnwritten l m → StreamsAreFed l s g xs others → StreamsAreFed m s g xs others
 all_still l m s g [] [] same are = tt
 all_still l m s g (y ∷ xs) (a ∷ others) same are =
     (fed_still l m s a (g y.tag) (for_still l m a.row.stream same) are.0, all_still l m s g xs others same are.1)
@@ -156,15 +156,15 @@ pub waits_still : (l m : Link) (s : Seen) (g : ℕ → Line) (xs : List Attempt)
 waits_still l m s g [] same are = tt
 waits_still l m s g (a ∷ xs) same are = (fed_still l m s a (g a.place) (for_still l m a.row.stream same) are.0, waits_still l m s g xs same are.1)
 
-pub still_fresh : (l m : Link) (opened : ℕ) → IsUnwritten l m → AreFresh l opened → AreFresh m opened
+pub still_fresh : (l m : Link) (opened : ℕ) → IsUnwritten l m → StreamsAreFresh l opened → StreamsAreFresh m opened
 still_fresh l m opened same fresh k above =
     let was = fresh k above in (same.used_is k ∙ was.0, same.ends k ∙ was.1, same.raised_is k ∙ was.2)
 
 -- what is written, but HEADERS
 pub keeps : (x : Sent) (l : Link) (s : Seen) (w v : Wire) (g h : ℕ → Line) → SeesLink l s w g → SeesRead (with_written x l) v → SeesOwed (with_written x l) v
-    → AreLive (with_written x l) v.live (by_stream (streaming_on l s)) → AreFed (with_written x l) s h v.live (by_stream (streaming_on l s))
-    → WaitFed (with_written x l) s h (waiting_on l s) → v.waiting ≡ w.waiting → AreOpened 1 (2 * v.opened + 1) v.live
-    → AreFresh (with_written x l) v.opened → AreDistinct (map (λ (y : LiveStream). y.tag) v.live ++ v.waiting) → SeesLink (with_written x l) (noted x l s) v h
+    → StreamsAreLive (with_written x l) v.live (by_stream (streaming_on l s)) → StreamsAreFed (with_written x l) s h v.live (by_stream (streaming_on l s))
+    → WaitFed (with_written x l) s h (waiting_on l s) → v.waiting ≡ w.waiting → StreamsAreOpened 1 (2 * v.opened + 1) v.live
+    → StreamsAreFresh (with_written x l) v.opened → NumbersAreDistinct (map (λ (y : LiveStream). y.tag) v.live ++ v.waiting) → SeesLink (with_written x l) (noted x l s) v h
 keeps x l s w v g h is reads owes live fed_ wait waiting opened fresh tags = record {
   at = changed_here (with_written x) l.number s.links l is.at;
   sees = record { reads = reads; live = live };

@@ -17,11 +17,11 @@ use Rattle.h2_frame.specs.Sent.{ping_frame, rst_stream_frame}
 use Rattle.h2_link.specs.Drains.{Drains, next, outgoing, sent_control}
 use Rattle.h2_link.specs.Drains.{Sent as Sending}
 use Rattle.h2_link.specs.Feeds.{Line}
-use Rattle.h2_link.specs.Heard.{front_of}
+use Rattle.h2_link.specs.Received.{prefix_of}
 use Rattle.h2_link.specs.LinkErrors as link
 use Rattle.h2_link.specs.Queues.{reset_queued}
-use Rattle.h2_link.specs.Steps.{broke, pinged, told}
-use Rattle.h2_link.specs.Wire.{Told, Wire, fresh_wire}
+use Rattle.h2_link.specs.Steps.{broke, pinged, reported}
+use Rattle.h2_link.specs.Wire.{Report, Wire, fresh_wire}
 use Rattle.h2_link.specs.declared.control.Control.{Control}
 use Rattle.link_actions.specs.Sees.{Sees, SeesLink, SeesOwed, SeesRead, outgoing_of}
 use Rattle.session_actions.specs.AttemptEnds.{attempt_ended, stream_reset}
@@ -50,7 +50,7 @@ FramesAreJudged =
     (l : Link) (s : Seen) (w : Wire) (f : FrameSeen) → Sees l s w → is_allowed f ≡ true → link_error l f s ≡ link.link_error w f
 
 -- what the bytes that were not read show: the same frame, which both have read then; or the error that breaks the link
-abbrev pub IsSameRead : Link → Seen → Wire → NextRead → Option (ℕ × Told) → Type 0
+abbrev pub IsSameRead : Link → Seen → Wire → NextRead → Option (ℕ × Report) → Type 0
 IsSameRead l s w nextread.Nothing None = Unit {0}
 IsSameRead l s w (nextread.Broken code) (Some x) = x.1 ≡ broke w code
 IsSameRead l s w (nextread.Frame r) (Some x) =
@@ -60,7 +60,7 @@ IsSameRead l s w _ _ = ⊥
 abbrev pub ReadsAreSame : Type 0
 ReadsAreSame =
     (l : Link) (s : Seen) (w : Wire) (bytes : List ℕ) → Sees l s w → drop (read_bytes l) l.received ≡ bytes
-    → IsSameRead l s w (next_read l s) (front_of w bytes)
+    → IsSameRead l s w (next_read l s) (prefix_of w bytes)
 
 -- a link on which this was written
 abbrev pub with_written : Sent → Link → Link
@@ -131,8 +131,8 @@ IsApart f w = ((f.kind == goaway_type) ≡ false) × (list_any (λ x. x.number =
 abbrev pub QuietFramesKeep : Type 0
 QuietFramesKeep =
     (l : Link) (s : Seen) (w : Wire) (g : ℕ → Line) (r : ReadFrame) → SeesLink l s w g → is_allowed r.frame ≡ true
-    → r.end ≡ read_bytes l + (9 + length r.frame.payload) → link.link_error w r.frame ≡ None → (told w r.frame).wire.broken ≡ None → IsApart r.frame w
-    → SeesLink (with_frame_read r (owed_for r.frame l s) l) (frame_read l.number r s) (told w r.frame).wire g
+    → r.end ≡ read_bytes l + (9 + length r.frame.payload) → link.link_error w r.frame ≡ None → (reported w r.frame).wire.broken ≡ None → IsApart r.frame w
+    → SeesLink (with_frame_read r (owed_for r.frame l s) l) (frame_read l.number r s) (reported w r.frame).wire g
 
 -- an attempt ends, for whatever cause: its link has its stream no more, nor does it wait there; all else stays (RFC 9113, section 5.1.2: what counts as open
 -- are the streams of attempts that are outstanding)
@@ -144,7 +144,7 @@ EndsKeep =
     (l : Link) (s : Seen) (w : Wire) (g : ℕ → Line) (t : ℕ) (a : Attempt) (e : RowEnd) → SeesLink l s w g → numbered s.attempts t ≡ Some a
     → SeesLink l (attempt_ended t e s) (without_tag t w) g
 
--- RST_STREAM is queued for the stream of an attempt that ended, behind all that was owed before (RFC 9113, section 6.4)
+-- RST_STREAM is queued for the stream of an attempt that ended, after all that was owed before (RFC 9113, section 6.4)
 abbrev pub with_owed : List FrameSeen → Link → Link
 with_owed frames l = record l { owed = l.owed ++ frames }
 
@@ -154,7 +154,7 @@ ResetsKeep =
     → a.row.ended ≡ Some e → a.row.stream ≡ Some n → link_number a ≡ l.number → w.queue.fresh ≡ 0
     → SeesLink (with_owed (rst_stream_frame n code ∷ []) l) (stream_reset t code s) (record w { queue = reset_queued n code w.queue }) g
 
--- a PING of the environment is queued behind all that is owed, and answered with Done (RFC 9113, section 6.7)
+-- a PING of the environment is queued after all that is owed, and answered with Done (RFC 9113, section 6.7)
 abbrev pub PingsKeep : Type 0
 PingsKeep =
     (l : Link) (s : Seen) (w : Wire) (g : ℕ → Line) (word : ℕ) → SeesLink l s w g

@@ -93,14 +93,14 @@ abbrev pub by_stream : List Attempt → List Attempt
 by_stream [] = []
 by_stream (a ∷ as_) = put_by_stream a (by_stream as_)
 
-abbrev pub AreLive : Link → List LiveStream → List Attempt → Type 0
-AreLive l [] [] = Unit {0}
-AreLive l (x ∷ xs) (a ∷ others) = IsLive l x a × AreLive l xs others
-AreLive l _ _ = ⊥
+abbrev pub StreamsAreLive : Link → List LiveStream → List Attempt → Type 0
+StreamsAreLive l [] [] = Unit {0}
+StreamsAreLive l (x ∷ xs) (a ∷ others) = IsLive l x a × StreamsAreLive l xs others
+StreamsAreLive l _ _ = ⊥
 
 pub record Sees (l : Link) (s : Seen) (w : Wire) : Type 0 where
   pub reads : SeesRead l w
-  pub live : AreLive l w.live (by_stream (streaming_on l s))
+  pub live : StreamsAreLive l w.live (by_stream (streaming_on l s))
 
 -- the attempts that wait for a stream
 abbrev pub WaitAlike : Link → Seen → Wire → Type 0
@@ -120,31 +120,31 @@ pub record IsFed (l : Link) (s : Seen) (a : Attempt) (line : Line) : Type 0 wher
   pub finished : line.finished ≡ call.finished
 
 -- of the streams, with their attempts, and of the attempts that wait
-abbrev pub AreFed : Link → Seen → (ℕ → Line) → List LiveStream → List Attempt → Type 0
-AreFed l s g [] [] = Unit {0}
-AreFed l s g (x ∷ xs) (a ∷ others) = IsFed l s a (g x.tag) × AreFed l s g xs others
-AreFed l s g _ _ = ⊥
+abbrev pub StreamsAreFed : Link → Seen → (ℕ → Line) → List LiveStream → List Attempt → Type 0
+StreamsAreFed l s g [] [] = Unit {0}
+StreamsAreFed l s g (x ∷ xs) (a ∷ others) = IsFed l s a (g x.tag) × StreamsAreFed l s g xs others
+StreamsAreFed l s g _ _ = ⊥
 
 abbrev pub WaitFed : Link → Seen → (ℕ → Line) → List Attempt → Type 0
 WaitFed l s g xs = AllByRecursion (λ a. IsFed l s a (g a.place)) xs
 
 -- streams that were opened in turn: from this number on, below a bound
-abbrev pub AreOpened : ℕ → ℕ → List LiveStream → Type 0
-AreOpened first bound [] = Unit {0}
-AreOpened first bound (x ∷ xs) = (first ≤ x.number) × (x.number < bound) × AreOpened (x.number + 1) bound xs
+abbrev pub StreamsAreOpened : ℕ → ℕ → List LiveStream → Type 0
+StreamsAreOpened first bound [] = Unit {0}
+StreamsAreOpened first bound (x ∷ xs) = (first ≤ x.number) × (x.number < bound) × StreamsAreOpened (x.number + 1) bound xs
 
-abbrev pub AreDistinct : List ℕ → Type 0
-AreDistinct [] = Unit {0}
-AreDistinct (n ∷ ns) = (is_one_of ns n ≡ false) × AreDistinct ns
+abbrev pub NumbersAreDistinct : List ℕ → Type 0
+NumbersAreDistinct [] = Unit {0}
+NumbersAreDistinct (n ∷ ns) = (is_one_of ns n ≡ false) × NumbersAreDistinct ns
 
 -- nothing passed on streams that were not opened
-abbrev pub AreFresh : Link → ℕ → Type 0
-AreFresh l opened = (k : ℕ) → 2 * opened < k → (used k l ≡ 0) × (has_written_end k l ≡ false) × (raised k l ≡ 0)
+abbrev pub StreamsAreFresh : Link → ℕ → Type 0
+StreamsAreFresh l opened = (k : ℕ) → 2 * opened < k → (used k l ≡ 0) × (has_written_end k l ≡ false) × (raised k l ≡ 0)
 
 -- each attempt stands at its place
-abbrev pub ArePlaced : ℕ → List Attempt → Type 0
-ArePlaced n [] = Unit {0}
-ArePlaced n (a ∷ others) = (a.place ≡ n) × ArePlaced (n + 1) others
+abbrev pub AttemptsStandInPlace : ℕ → List Attempt → Type 0
+AttemptsStandInPlace n [] = Unit {0}
+AttemptsStandInPlace n (a ∷ others) = (a.place ≡ n) × AttemptsStandInPlace (n + 1) others
 
 -- a link of a session, with what it is fed with
 pub record SeesLink (l : Link) (s : Seen) (w : Wire) (g : ℕ → Line) : Type 0 where
@@ -152,9 +152,9 @@ pub record SeesLink (l : Link) (s : Seen) (w : Wire) (g : ℕ → Line) : Type 0
   pub sees : Sees l s w
   pub owes : SeesOwed l w
   pub waits : WaitAlike l s w
-  pub fed : AreFed l s g w.live (by_stream (streaming_on l s))
+  pub fed : StreamsAreFed l s g w.live (by_stream (streaming_on l s))
   pub wait_fed : WaitFed l s g (waiting_on l s)
-  pub opened : AreOpened 1 (2 * w.opened + 1) w.live
-  pub fresh : AreFresh l w.opened
-  pub tags : AreDistinct (map (λ x. x.tag) w.live ++ w.waiting)
-  pub places : ArePlaced 1 s.attempts
+  pub opened : StreamsAreOpened 1 (2 * w.opened + 1) w.live
+  pub fresh : StreamsAreFresh l w.opened
+  pub tags : NumbersAreDistinct (map (λ x. x.tag) w.live ++ w.waiting)
+  pub places : AttemptsStandInPlace 1 s.attempts

@@ -33,13 +33,13 @@ pub fn drains_are_actions()
 {}
 
 /// An attempt that ends in the session, for whatever cause, has neither a stream on its link any more, nor does it wait there; and RST_STREAM for its stream
-/// is queued behind what was owed (RFC 9113, sections 5.1.2 and 6.4).
+/// is queued after what was owed (RFC 9113, sections 5.1.2 and 6.4).
 pub fn ends_are_actions()
     ensures end { EndsKeep }
     ensures reset { ResetsKeep }
 {}
 
-/// A PING of the environment is queued behind what is owed (RFC 9113, section 6.7).
+/// A PING of the environment is queued after what is owed (RFC 9113, section 6.7).
 pub fn pings_are_actions()
     ensures { PingsKeep }
 {}

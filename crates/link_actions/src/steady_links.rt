@@ -1,7 +1,7 @@
 // What leaves links, as actions of a session; nothing runs.
 ghost use Rattle.link_actions.specs.SteadyLinks.Laws.{AttemptsLeaveLinks, CallEndsLeaveLinks, CommitmentsLeaveLinks, EntriesLeaveLinks, FinishesFeed, LinksAreLeft, LinksAreLeftBut, MessagesFeed, MomentsFeed, PlacingsKeep};
 
-/// A link agrees with any session that it cannot tell from one with which it agrees: what passed on it and what it owes is the same, and its attempts have the
+/// A link agrees with any session that it cannot distinguish from one with which it agrees: what passed on it and what it owes is the same, and its attempts have the
 /// same places and streams, and are fed right.
 pub fn links_are_left()
     ensures streams { LinksAreLeft }

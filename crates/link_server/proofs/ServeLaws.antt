@@ -2,11 +2,11 @@
 use Rattle.std.proofs.Common.{◌≡◌, ◌≢◌, ◌≤◌, ◌∙◌, ℕ, zero, suc, ◌+◌, Option, Some, None, List, [], ◌∷◌, ◌++◌, ap, append_assoc, append-nil, arith, length, length-append, refl, subst, sym, take}
 use Rattle.std.specs.List.{concat}
 use Rattle.grpc_base.specs.Counts.{one_more}
-use Rattle.gate_io.specs.Outside.{Appends, AppendsFront, IsAtEnd, Takes}
+use Rattle.gate_io.specs.Outside.{Appends, AppendsPrefix, IsAtEnd, Takes}
 use Rattle.gate_io.proofs.AppendLaws.{Appends-append}
 use Rattle.link_server.specs.declared.done.LinkDone.{LinkDone}
 use Rattle.link_server.specs.declared.done.LinkDone.TheVariants as done
-use Rattle.link_server.specs.Serving.{AddsAll, Gains, IsSame, Told}
+use Rattle.link_server.specs.Serving.{AddsAll, Gains, IsSame, Report}
 use Rattle.link_server.specs.Serves.{CountsSeen, GoesIn, GoesOut, HasCause, IsRefusal, IsSent, IsWritten}
 
 concat_append : (xs ys : List (List ℕ)) → concat (xs ++ ys) ≡ concat xs ++ concat ys
@@ -18,9 +18,9 @@ take_more [] ys n m e = ap (λ (k : ℕ). take k ys) (let same : n ≡ m = omega
 take_more (x ∷ xs) ys n zero e = absurd (omega (arith, e))
 take_more (x ∷ xs) ys n (suc m) e = ap (λ (t : List ℕ). x ∷ t) (take_more xs ys n m (omega (arith, e)))
 
--- ---- what is told of a link
+-- ---- what is reported of a link
 
-AddsAll-none : (told : Option (List (List ℕ))) → AddsAll told told []
+AddsAll-none : (reported : Option (List (List ℕ))) → AddsAll reported reported []
 AddsAll-none (Some pieces) = ap (λ (t : List (List ℕ)). Some t) (sym (append-nil pieces))
 AddsAll-none None = refl
 
@@ -30,13 +30,13 @@ AddsAll-then (Some s) b c xs ys p q =
     h ∙ ap (λ (t : List (List ℕ)). Some t) (append_assoc s xs ys)
 AddsAll-then None b c xs ys p q = subst (λ (o : Option (List (List ℕ))). AddsAll o c ys) p q
 
-pub Gains-none : (a b : Told) (link : ℕ) → IsSame a b → Gains a b link []
+pub Gains-none : (a b : Report) (link : ℕ) → IsSame a b → Gains a b link []
 Gains-none a b link same = record {
   at = subst (λ (o : Option (List (List ℕ))). AddsAll (a link) o []) (sym (same link)) (AddsAll-none (a link));
   others = λ other apart. same other;
 }
 
-pub Gains-then : (a b c : Told) (link : ℕ) (xs ys : List (List ℕ)) → Gains a b link xs → Gains b c link ys → Gains a c link (xs ++ ys)
+pub Gains-then : (a b c : Report) (link : ℕ) (xs ys : List (List ℕ)) → Gains a b link xs → Gains b c link ys → Gains a c link (xs ++ ys)
 Gains-then a b c link xs ys p q = record {
   at = AddsAll-then (a link) (b link) (c link) xs ys p.at q.at;
   others = λ other apart. q.others other apart ∙ p.others other apart;
@@ -56,21 +56,21 @@ Takes-then None (Some b) c xs ys p q = absurd p
 Takes-then None None (Some c) xs ys p q = q
 Takes-then None None None xs ys p q = tt
 
-pub in_none : (link : ℕ) (a b : Told) (left left' : Option (List ℕ)) → IsSame a b → left' ≡ left → GoesIn link a b left left'
+pub in_none : (link : ℕ) (a b : Report) (left left' : Option (List ℕ)) → IsSame a b → left' ≡ left → GoesIn link a b left left'
 in_none link a b left left' same is = record {
   pieces = [];
   read = subst (λ (o : Option (List ℕ)). Takes left o []) (sym is) (Takes-none left);
   given = Gains-none a b link same;
 }
 
-pub in_one : (link : ℕ) (a b : Told) (left left' : Option (List ℕ)) (piece : List ℕ) → Takes left left' piece → Gains a b link (piece ∷ []) → GoesIn link a b left left'
+pub in_one : (link : ℕ) (a b : Report) (left left' : Option (List ℕ)) (piece : List ℕ) → Takes left left' piece → Gains a b link (piece ∷ []) → GoesIn link a b left left'
 in_one link a b left left' piece took gains = record {
   pieces = piece ∷ [];
   read = subst (Takes left left') (sym (append-nil piece)) took;
   given = gains;
 }
 
-pub in_then : (link : ℕ) (a b c : Told) (l m n : Option (List ℕ)) → GoesIn link a b l m → GoesIn link b c m n → GoesIn link a c l n
+pub in_then : (link : ℕ) (a b c : Report) (l m n : Option (List ℕ)) → GoesIn link a b l m → GoesIn link b c m n → GoesIn link a c l n
 in_then link a b c l m n p q = record {
   pieces = p.pieces ++ q.pieces;
   read = subst (Takes l n) (sym (concat_append p.pieces q.pieces)) (Takes-then l m n (concat p.pieces) (concat q.pieces) p.read q.read);
@@ -86,15 +86,15 @@ Appends-none None = refl
 Appends-then : (a b c : Option (List ℕ)) (xs ys : List ℕ) → Appends a b xs → Appends b c ys → Appends a c (xs ++ ys)
 Appends-then a b c xs ys p q = Appends-append a b c xs ys (xs ++ ys) p q refl
 
-Front-then : (a b c : Option (List ℕ)) (xs ys : List ℕ) → Appends a b xs → AppendsFront b c ys → AppendsFront a c (xs ++ ys)
-Front-then a b c xs ys p (n, within, q) = (
+Prefix-then : (a b c : Option (List ℕ)) (xs ys : List ℕ) → Appends a b xs → AppendsPrefix b c ys → AppendsPrefix a c (xs ++ ys)
+Prefix-then a b c xs ys p (n, within, q) = (
   length xs + n,
   omega (arith, within, length-append xs ys),
   Appends-append a b c xs (take n ys) (take (length xs + n) (xs ++ ys)) p q (take_more xs ys n (length xs + n) refl),
 )
 
 Sent-then : (end : Option LinkDone) (a b c : Option (List ℕ)) (xs ys : List ℕ) → Appends a b xs → IsSent end b c ys → IsSent end a c (xs ++ ys)
-Sent-then (Some done.WriteFailed) a b c xs ys p q = Front-then a b c xs ys p q
+Sent-then (Some done.WriteFailed) a b c xs ys p q = Prefix-then a b c xs ys p q
 Sent-then (Some done.Ended) a b c xs ys p q = Appends-then a b c xs ys p q
 Sent-then (Some done.ReadFailed) a b c xs ys p q = Appends-then a b c xs ys p q
 Sent-then (Some (done.Broken code)) a b c xs ys p q = Appends-then a b c xs ys p q
@@ -109,21 +109,21 @@ Sent-none (Some (done.Broken code)) a b is never = subst (λ (o : Option (List �
 Sent-none (Some done.NoMemory) a b is never = subst (λ (o : Option (List ℕ)). Appends a o []) (sym is) (Appends-none a)
 Sent-none None a b is never = subst (λ (o : Option (List ℕ)). Appends a o []) (sym is) (Appends-none a)
 
-pub out_none : (link : ℕ) (a b : Told) (taken taken' : Option (List ℕ)) (end : Option LinkDone) → IsSame a b → taken' ≡ taken → (end ≡ Some done.WriteFailed → ⊥) → GoesOut link a b taken taken' end
+pub out_none : (link : ℕ) (a b : Report) (taken taken' : Option (List ℕ)) (end : Option LinkDone) → IsSame a b → taken' ≡ taken → (end ≡ Some done.WriteFailed → ⊥) → GoesOut link a b taken taken' end
 out_none link a b taken taken' end same is never = record {
   drains = [];
   drained = Gains-none a b link same;
   sent = Sent-none end taken taken' is never;
 }
 
-pub out_one : (link : ℕ) (a b : Told) (taken taken' : Option (List ℕ)) (octets : List ℕ) (end : Option LinkDone) → Gains a b link (octets ∷ []) → IsSent end taken taken' octets → GoesOut link a b taken taken' end
+pub out_one : (link : ℕ) (a b : Report) (taken taken' : Option (List ℕ)) (octets : List ℕ) (end : Option LinkDone) → Gains a b link (octets ∷ []) → IsSent end taken taken' octets → GoesOut link a b taken taken' end
 out_one link a b taken taken' octets end gains sent = record {
   drains = octets ∷ [];
   drained = gains;
   sent = subst (IsSent end taken taken') (sym (append-nil octets)) sent;
 }
 
-pub out_then : (link : ℕ) (a b c : Told) (s t u : Option (List ℕ)) (end : Option LinkDone) → GoesOut link a b s t None → GoesOut link b c t u end → GoesOut link a c s u end
+pub out_then : (link : ℕ) (a b c : Report) (s t u : Option (List ℕ)) (end : Option LinkDone) → GoesOut link a b s t None → GoesOut link b c t u end → GoesOut link a c s u end
 out_then link a b c s t u end p q = record {
   drains = p.drains ++ q.drains;
   drained = Gains-then a b c link p.drains q.drains p.drained q.drained;
@@ -173,10 +173,10 @@ wanting_cause b b' k k' r w w' left e = (refl, e)
 
 -- ---- what one turn answered, by its answer
 
-pub out_as : (link : ℕ) (a b : Told) (s t : Option (List ℕ)) (r r' : Option LinkDone) → r ≡ r' → GoesOut link a b s t r → GoesOut link a b s t r'
+pub out_as : (link : ℕ) (a b : Report) (s t : Option (List ℕ)) (r r' : Option LinkDone) → r ≡ r' → GoesOut link a b s t r → GoesOut link a b s t r'
 out_as link a b s t r r' is p = subst (GoesOut link a b s t) is p
 
-pub out_after : (link : ℕ) (a b c : Told) (s t u : Option (List ℕ)) (r end : Option LinkDone) → r ≡ None → GoesOut link a b s t r → GoesOut link b c t u end → GoesOut link a c s u end
+pub out_after : (link : ℕ) (a b c : Report) (s t u : Option (List ℕ)) (r end : Option LinkDone) → r ≡ None → GoesOut link a b s t r → GoesOut link b c t u end → GoesOut link a c s u end
 out_after link a b c s t u r end is p q = out_then link a b c s t u end (out_as link a b s t r None is p) q
 
 pub cause_as : (r r' : Option LinkDone) (a b : CountsSeen) (l : Option (List ℕ)) → r ≡ r' → HasCause r a b l → HasCause r' a b l
@@ -192,8 +192,8 @@ cause_next r end a b c m is same p = subst (λ (x : CountsSeen). HasCause end x 
 none_not_written : (end : Option LinkDone) → end ≡ None → end ≡ Some done.WriteFailed → ⊥
 none_not_written end is e = (cc)
 
-pub out_nothing : (link : ℕ) (a : Told) (taken : Option (List ℕ)) → GoesOut link a a taken taken None
+pub out_nothing : (link : ℕ) (a : Report) (taken : Option (List ℕ)) → GoesOut link a a taken taken None
 out_nothing link a taken = out_none link a a taken taken None (λ other. refl) refl (none_not_written None refl)
 
-pub in_nothing : (link : ℕ) (a : Told) (left : Option (List ℕ)) → GoesIn link a a left left
+pub in_nothing : (link : ℕ) (a : Report) (left : Option (List ℕ)) → GoesIn link a a left left
 in_nothing link a left = in_none link a a left left (λ other. refl) refl

@@ -2,26 +2,26 @@
 use Rattle.std.specs.Prelude.{◌≡◌, ◌≢◌, ℕ, Option, Some, None, List}
 use Rattle.std.specs.List.{concat}
 use Rattle.grpc_base.specs.Counts.{one_more}
-use Rattle.gate_io.specs.Outside.{Appends, AppendsFront, IsAtEnd, Takes}
+use Rattle.gate_io.specs.Outside.{Appends, AppendsPrefix, IsAtEnd, Takes}
 use Rattle.link_server.specs.declared.done.LinkDone.{LinkDone}
 use Rattle.link_server.specs.declared.done.LinkDone.TheVariants as done
-use Rattle.link_server.specs.Serving.{Gains, Told}
+use Rattle.link_server.specs.Serving.{Gains, Report}
 
 -- what was read of the link went to the server, piece by piece and in order
-pub record GoesIn (link : ℕ) (told told' : Told) (left left' : Option (List ℕ)) : Type 0 where
+pub record GoesIn (link : ℕ) (reported reported' : Report) (left left' : Option (List ℕ)) : Type 0 where
   pub pieces : List (List ℕ)
   pub read : Takes left left' (concat pieces)
-  pub given : Gains told told' link pieces
+  pub given : Gains reported reported' link pieces
 
--- what went out: all of it, or a front where a write failed
+-- what went out: all of it, or a prefix where a write failed
 abbrev pub IsSent : Option LinkDone → Option (List ℕ) → Option (List ℕ) → List ℕ → Type 0
-IsSent (Some done.WriteFailed) taken taken' octets = AppendsFront taken taken' octets
+IsSent (Some done.WriteFailed) taken taken' octets = AppendsPrefix taken taken' octets
 IsSent end taken taken' octets = Appends taken taken' octets
 
 -- what the server gave for the link went out, drain by drain and in order
-pub record GoesOut (link : ℕ) (told told' : Told) (taken taken' : Option (List ℕ)) (end : Option LinkDone) : Type 0 where
+pub record GoesOut (link : ℕ) (reported reported' : Report) (taken taken' : Option (List ℕ)) (end : Option LinkDone) : Type 0 where
   pub drains : List (List ℕ)
-  pub drained : Gains told told' link drains
+  pub drained : Gains reported reported' link drains
   pub sent : IsSent end taken taken' (concat drains)
 
 -- how often the server refused a piece, the code of the last one, and how often a read and a write of the link failed

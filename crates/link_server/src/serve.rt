@@ -1,7 +1,7 @@
 // The rounds in which a link is served.
 ghost use Rattle.std.specs.Prelude.{◌≡◌, ◌<◌, ◌∷◌, [], List, Option, Some, false, length, true, ℕ};
 ghost use Rattle.grpc_base.specs.Counts.{one_more};
-ghost use Rattle.gate_io.specs.Outside.{Appends, AppendsFront};
+ghost use Rattle.gate_io.specs.Outside.{Appends, AppendsPrefix};
 ghost use Rattle.link_server.specs.Serves.{GoesIn, GoesOut, HasCause, IsRefusal, IsSent, IsWritten};
 ghost use Rattle.link_server.specs.Serving.{Gains, IsSame};
 ghost use Rattle.link_server.specs.declared.done.LinkDone.TheVariants as ended_by;
@@ -15,10 +15,10 @@ use std::sync::Wait;
 const READ_BYTES: usize = 16_384;
 
 /// Writes a piece whole, and says whether all of it was taken. It is not exactly where a write of this call
-/// failed: that write is the only one that failed, and what was taken before it is a front of the piece.
+/// failed: that write is the only one that failed, and what was taken before it is a prefix of the piece.
 fn write_all<O: LinkOut>(output: &mut O, piece: &[u8]) -> bool
     ensures whole { result ≡ true → Appends (O.taken output.old) (O.taken output.new) piece.now }
-    ensures part { result ≡ false → AppendsFront (O.taken output.old) (O.taken output.new) piece.now }
+    ensures part { result ≡ false → AppendsPrefix (O.taken output.old) (O.taken output.new) piece.now }
     ensures steady { result ≡ true → O.faults output.new ≡ O.faults output.old }
     ensures once { result ≡ false → O.faults output.new ≡ one_more (O.faults output.old) }
 {
@@ -132,7 +132,7 @@ fn run_rounds<W: Wait, V: Serving, I: LinkIn, O: LinkOut>(
 /// |---|---|
 /// | Ended | a read gave the link's end |
 /// | ReadFailed | a read failed |
-/// | WriteFailed | a write failed; what was taken is a front of what the server gave |
+/// | WriteFailed | a write failed; what was taken is a prefix of what the server gave |
 /// | Broken | the server answered that the link is broken, with this code |
 /// | NoMemory | the server found no memory |
 pub fn serve_link<W: Wait, V: Serving, I: LinkIn, O: LinkOut>(

@@ -1,4 +1,4 @@
-// One server for many links, behind a lock.
+// One server for many links, after a lock.
 ghost use Rattle.std.specs.Prelude.{None};
 
 use crate::Serving;
@@ -6,7 +6,7 @@ use grpc_base::{NoMemory, Octets};
 use loop_server::{ServerCore, ServerFault};
 use std::sync::{Mutex, Wait};
 
-/// The seat of one link at a server that many links share. The lock tells nothing of the server, so the seat counts what it was
+/// The seat of one link at a server that many links share. The lock reports nothing of the server, so the seat counts what it was
 /// answered itself.
 #[derive(Drop)]
 pub struct SharedServer<'a, W> {

@@ -1,5 +1,5 @@
 // The news of attempts, response by response.
-use crate::bench::{Cut, first_wrong};
+use crate::link_run::{Cut, first_wrong};
 use std::test::Fail;
 
 /// Responses, each as the news of its attempt.
@@ -65,7 +65,7 @@ an-attempt-that-is-given-up up>1 in>000014010400000001880f10106170706c6963617469
 two-attempts up>2 in>000014010400000003880f10106170706c69636174696f6e2f67727063 head 2 - 38 in>000014010400000001880f10106170706c69636174696f6e2f67727063 head 1 - 67 in>00000400000000000300000000 in>000006000000000001000000000161 message 1 61 95 in>0000020000000000030162 message 2 62 106 in>00000f010500000001000b677270632d7374617475730130 ended 1 0 - - - seen 130 status in>00000f010500000003000b677270632d7374617475730131 ended 2 1 - - - seen 154 status";
 
 #[test]
-fn responses_are_told_wherever_they_are_cut(rt: HostRuntime) -> Result<(), Fail> {
+fn responses_are_reported_wherever_they_are_cut(rt: HostRuntime) -> Result<(), Fail> {
     for place in 0..80u32 {
         let wrong = first_wrong(rt.alloc(), true, ATTEMPTS, Cut::At(place as usize))?;
         assert_eq!(rt; wrong.as_str(), "", "cut at {place}");

@@ -1,5 +1,5 @@
 // The tables of errors and of what is sent, row by row, by Link itself.
-use crate::bench::{Cut, first_wrong};
+use crate::link_run::{Cut, first_wrong};
 use std::test::Fail;
 
 /// What breaks a link, and what comes close to it (RFC 9113, sections 3.4, 4.2, 5.1, 6 and 6.9.1; RFC 7541).
@@ -116,7 +116,7 @@ windows-of-streams up>0 place>1 place>2 in>000006040000000000000400000003 last>1
 a-window-below-0 up>1 lend>1:6162636465 out> 0000050000000000016162636465 lend>1:7172 in>000006040000000000000400000000 out> 000000040100000000 in>00000408000000000100000005 out> - in>00000408000000000100000001 out> 00000100000000000171";
 
 #[test]
-fn link_errors_are_told_wherever_bytes_are_cut(rt: HostRuntime) -> Result<(), Fail> {
+fn link_errors_are_reported_wherever_bytes_are_cut(rt: HostRuntime) -> Result<(), Fail> {
     for cut in [Cut::At(0), Cut::At(9), Cut::Every(1)] {
         assert_eq!(rt;
             first_wrong(rt.alloc(), false, LINK_ERRORS, cut)?.as_str(),

@@ -2,14 +2,14 @@
 #![tactic(auto)]
 
 #[cfg(test)]
-mod bench;
-#[cfg(test)]
 mod grpc_link_tests;
 #[cfg(test)]
 mod h2_link_tests;
 #[cfg(test)]
+mod link_run;
+#[cfg(test)]
 mod long_tests;
 #[cfg(test)]
-mod told;
+mod reported;
 #[cfg(test)]
 mod vector_tests;

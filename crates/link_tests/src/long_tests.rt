@@ -1,5 +1,5 @@
 // Header blocks, DATA and messages of many frames, made from counts.
-use crate::bench::{Cut, first_wrong};
+use crate::link_run::{Cut, first_wrong};
 use std::alloc::Global;
 use std::test::Fail;
 
@@ -83,7 +83,7 @@ fn message_row(
 ) -> Result<String, Fail> {
     let head = "000014010400000001880f10106170706c69636174696f6e2f67727063";
     let trailers = "00000f010500000001000b677270632d7374617475730130";
-    let front = repeated(alloc, "61", PAYLOAD - 5)?;
+    let prefix = repeated(alloc, "61", PAYLOAD - 5)?;
     let block = repeated(alloc, "62", PAYLOAD)?;
     let middle = repeated(alloc, block.as_str(), frames)?;
     let end = "6363636363";
@@ -105,7 +105,7 @@ fn message_row(
 }
 
 #[test]
-fn a_long_message_is_told_whole(rt: HostRuntime) -> Result<(), Fail> {
+fn a_long_message_is_reported_whole(rt: HostRuntime) -> Result<(), Fail> {
     // (12 * 16,384 bytes, and 38, 5 and 13 * 9 more; the trailers are 24)
     let row = message_row(rt.alloc(), 11, "00030000", 196_768, 196_792)?;
     for size in [1_021, 65_536] {

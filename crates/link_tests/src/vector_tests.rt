@@ -1,8 +1,8 @@
 // Frames and header blocks of an independent model, through a link.
-use crate::bench::{Cut, first_wrong};
+use crate::link_run::{Cut, first_wrong};
 use std::test::Fail;
 
-/// One frame, a part of one or a fault at the front of some bytes, on a link without streams.
+/// One frame, a part of one or a fault at the start of some bytes, on a link without streams.
 const FRAMES: &str = "frame-1 up>0 in>000001002800000001 kept> 9 in>8d broken 1 kept> 0
 frame-2 up>0 in>00000000 kept> 4 in>287fffffff broken 6 kept> 0
 frame-3 up>0 in>00000500ff8000000501f7729fc1000000 broken 1 kept> 0
@@ -292,7 +292,7 @@ blocks-159 up>8 in>000015010500000001090e7a622d3039623120393261207a3064022f7aae 
 blocks-164 up>8 in>00000f010500000001990f2c0b79203239203d622d3d2d63 fields 1 content-disposition=-,vary=y 29 =b-=-c, end 33 in>000056010500000003408390692fd012de891adec1ec8012de891adec1ec8012de891adec1ec8012de891adec1ec8012de891adec1ec8012de891adec1ec8012de891adec1ec8012de891adec1ec8012de891adec1ec8012de891adec1ec80 fields 2 date=2-ycb-z0zc02-ycb-z0zc02-ycb-z0zc02-ycb-z0zc02-ycb-z0zc02-ycb-z0zc02-ycb-z0zc02-ycb-z0zc02-ycb-z0zc02-ycb-z0zc0, end 128 in>000000010500000005 fields 3 - end 137";
 
 #[test]
-fn frames_and_blocks_are_told_as_the_model_tells_them(rt: HostRuntime) -> Result<(), Fail> {
+fn frames_and_blocks_are_reported_as_the_model_reports_them(rt: HostRuntime) -> Result<(), Fail> {
     for rows in [FRAMES, BLOCKS] {
         for cut in [Cut::At(0), Cut::Every(1), Cut::Every(5)] {
             assert_eq!(rt; first_wrong(rt.alloc(), false, rows, cut)?.as_str(), "");

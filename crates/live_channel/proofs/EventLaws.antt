@@ -7,7 +7,7 @@ use Rattle.grpc_base.specs.declared.event.Event.TheVariants as event
 use Rattle.live_pump.specs.Kinds.{AddsOnly, IsOfLinks}
 use Rattle.live_run.specs.Sides.{IsOfNames}
 use Rattle.shared_channel.specs.Turns.{entries_of}
-use Rattle.live_channel.specs.Handles.{AreBeside, IsBeside}
+use Rattle.live_channel.specs.Handles.{EntriesAreBesideCalls, IsBeside}
 use Rattle.live_channel.specs.Sharing.{IsOfCall}
 use Rattle.live_channel.proofs.OwnLaws.{each_unmap, each_weaker}
 
@@ -39,23 +39,23 @@ links_beside (event.Ping link word) is = record { call = refl; shut = refl }
 links_beside event.Tick is = record { call = refl; shut = refl }
 links_beside event.Shutdown is = absurd is
 
-names_beside : (told : Option (List ℕ)) (e : Event) → IsOfNames told e → IsBeside e
-names_beside told (event.Begin request) is = absurd is
-names_beside told (event.Send call message) is = absurd is
-names_beside told (event.Finish call) is = absurd is
-names_beside told (event.Take call) is = absurd is
-names_beside told (event.Cancel call) is = absurd is
-names_beside told (event.Resolved addresses config) is = record { call = refl; shut = refl }
-names_beside told event.ResolveFailed is = record { call = refl; shut = refl }
-names_beside told event.TakeDial is = absurd is
-names_beside told (event.LinkUp sub) is = absurd is
-names_beside told (event.DialFailed sub) is = absurd is
-names_beside told (event.Arrived link piece) is = absurd is
-names_beside told (event.LinkLost link) is = absurd is
-names_beside told (event.Drain link room) is = absurd is
-names_beside told (event.Ping link word) is = absurd is
-names_beside told event.Tick is = absurd is
-names_beside told event.Shutdown is = absurd is
+names_beside : (reported : Option (List ℕ)) (e : Event) → IsOfNames reported e → IsBeside e
+names_beside reported (event.Begin request) is = absurd is
+names_beside reported (event.Send call message) is = absurd is
+names_beside reported (event.Finish call) is = absurd is
+names_beside reported (event.Take call) is = absurd is
+names_beside reported (event.Cancel call) is = absurd is
+names_beside reported (event.Resolved addresses config) is = record { call = refl; shut = refl }
+names_beside reported event.ResolveFailed is = record { call = refl; shut = refl }
+names_beside reported event.TakeDial is = absurd is
+names_beside reported (event.LinkUp sub) is = absurd is
+names_beside reported (event.DialFailed sub) is = absurd is
+names_beside reported (event.Arrived link piece) is = absurd is
+names_beside reported (event.LinkLost link) is = absurd is
+names_beside reported (event.Drain link room) is = absurd is
+names_beside reported (event.Ping link word) is = absurd is
+names_beside reported event.Tick is = absurd is
+names_beside reported event.Shutdown is = absurd is
 
 -- a worker that had made nothing, and posted events of a kind
 pub kind_own : (IsOfKind : Event → Type 0) → (before after : List (ℕ × Entry)) → before ≡ [] → AddsOnly IsOfKind (entries_of before) (entries_of after) → AllByRecursion (λ p. IsOfKind p.1.event) after
@@ -63,8 +63,8 @@ kind_own IsOfKind before after none adds =
     each_unmap (λ (e : Entry). IsOfKind e.event) (λ (p : ℕ × Entry). p.1) after
     (all_added IsOfKind (entries_of after) (subst (λ (l : List (ℕ × Entry)). AddsOnly IsOfKind (entries_of l) (entries_of after)) none adds))
 
-pub links_own_beside : (own : List (ℕ × Entry)) → AllByRecursion (λ p. IsOfLinks p.1.event) own → AreBeside own
+pub links_own_beside : (own : List (ℕ × Entry)) → AllByRecursion (λ p. IsOfLinks p.1.event) own → EntriesAreBesideCalls own
 links_own_beside own all = each_weaker (λ (p : ℕ × Entry). IsOfLinks p.1.event) (λ (p : ℕ × Entry). IsBeside p.1.event) (λ p is. links_beside p.1.event is) own all
 
-pub names_own_beside : (config : Option (List ℕ)) (own : List (ℕ × Entry)) → AllByRecursion (λ p. IsOfNames config p.1.event) own → AreBeside own
+pub names_own_beside : (config : Option (List ℕ)) (own : List (ℕ × Entry)) → AllByRecursion (λ p. IsOfNames config p.1.event) own → EntriesAreBesideCalls own
 names_own_beside config own all = each_weaker (λ (p : ℕ × Entry). IsOfNames config p.1.event) (λ (p : ℕ × Entry). IsBeside p.1.event) (λ p is. names_beside config p.1.event is) own all

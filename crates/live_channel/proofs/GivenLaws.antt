@@ -8,7 +8,7 @@ use Rattle.grpc_base.specs.declared.event.Event.{Event}
 use Rattle.grpc_base.specs.declared.event.Event.TheVariants as event
 use Rattle.live_run.specs.Sides.{IsOfNames}
 use Rattle.turn_lock.specs.History.{SeatSeen}
-use Rattle.live_channel.specs.Handles.{AreGiven, IsWithConfig, Keeper, OfLinks, OfNames, helds_of}
+use Rattle.live_channel.specs.Handles.{DialersAreGiven, IsWithConfig, Keeper, OfLinks, OfNames, helds_of}
 use Rattle.live_channel.proofs.OwnLaws.{each_weaker}
 
 -- ---- the first dialers
@@ -45,7 +45,7 @@ withs_map config (held ∷ helds) = (tt, withs_map config helds)
 
 -- workers for links alone
 pub nets_given : {J : Type 0} (keeper_of : J → Keeper) (held : List (Option (List (List ℕ)))) (config : Option (List ℕ)) (none jobs : List J) (seat : SeatSeen Entry) → none ≡ []
-    → (workers : ℕ) × (map keeper_of jobs ≡ map keeper_of none ++ map (λ h. OfLinks h) (take workers held)) → AllByRecursion (λ p. IsOfNames config p.1.event) seat.own → AreGiven held config (map keeper_of jobs) seat
+    → (workers : ℕ) × (map keeper_of jobs ≡ map keeper_of none ++ map (λ h. OfLinks h) (take workers held)) → AllByRecursion (λ p. IsOfNames config p.1.event) seat.own → DialersAreGiven held config (map keeper_of jobs) seat
 nets_given {J} keeper_of held config none jobs seat empty (workers, is) first =
     let keepers : map keeper_of jobs ≡ map (λ h. OfLinks h) (take workers held) = is ∙ ap (λ (l : List J). map keeper_of l ++ map (λ h. OfLinks h) (take workers held)) empty in
     record {
@@ -57,7 +57,7 @@ nets_given {J} keeper_of held config none jobs seat empty (workers, is) first =
 
 -- and one more before them, that looks a name up
 pub name_given : {J : Type 0} (keeper_of : J → Keeper) (held : List (Option (List (List ℕ)))) (config : Option (List ℕ)) (none mid jobs : List J) (seat : SeatSeen Entry) → none ≡ [] → map keeper_of mid ≡ map keeper_of none ++ OfNames config ∷ []
-    → (workers : ℕ) × (map keeper_of jobs ≡ map keeper_of mid ++ map (λ h. OfLinks h) (take workers held)) → seat.own ≡ [] → AreGiven held config (map keeper_of jobs) seat
+    → (workers : ℕ) × (map keeper_of jobs ≡ map keeper_of mid ++ map (λ h. OfLinks h) (take workers held)) → seat.own ≡ [] → DialersAreGiven held config (map keeper_of jobs) seat
 name_given {J} keeper_of held config none mid jobs seat empty named (workers, is) clear =
     let keepers : map keeper_of jobs ≡ OfNames config ∷ map (λ h. OfLinks h) (take workers held) =
     is ∙ ap (λ (l : List Keeper). l ++ map (λ h. OfLinks h) (take workers held)) (named ∙ ap (λ (l : List J). map keeper_of l ++ OfNames config ∷ []) empty) in
@@ -69,7 +69,7 @@ name_given {J} keeper_of held config none mid jobs seat empty named (workers, is
     }
 
 -- the entry of addresses with this config
-pub told_given : (e : Event) (addresses : List Address) (config : Option (List ℕ)) (before after : List (ℕ × Entry)) → e ≡ event.Resolved addresses config → after ≡ before → AllByRecursion (λ p. p.1.event ≡ e) before → AllByRecursion (λ p. IsOfNames config p.1.event) after
-told_given e addresses config before after is same each =
+pub reported_given : (e : Event) (addresses : List Address) (config : Option (List ℕ)) (before after : List (ℕ × Entry)) → e ≡ event.Resolved addresses config → after ≡ before → AllByRecursion (λ p. p.1.event ≡ e) before → AllByRecursion (λ p. IsOfNames config p.1.event) after
+reported_given e addresses config before after is same each =
     subst (λ (own : List (ℕ × Entry)). AllByRecursion (λ p. IsOfNames config p.1.event) own) (sym same)
     (each_weaker (λ (p : ℕ × Entry). p.1.event ≡ e) (λ (p : ℕ × Entry). IsOfNames config p.1.event) (λ p at. subst (IsOfNames config) (sym (at ∙ is)) refl) before each)

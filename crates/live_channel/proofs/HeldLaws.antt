@@ -1,4 +1,4 @@
--- What came on the links of a run is as its dialers held it, and addresses come with one config: told of the whole journal, by the handle that took all others in.
+-- What came on the links of a run is as its dialers held it, and addresses come with one config: reported the whole journal, by the handle that took all others in.
 use Rattle.std.proofs.Common.{◌≡◌, ◌≤◌, ℕ, suc, ◌+◌, true≢false, Option, Some, slice_get, List, [], ◌∷◌, ap, arith, length, refl, sym, subst}
 use Rattle.std.specs.List.{AllByRecursion, AllZip}
 use Rattle.std.specs.Option.{option_to_list}
@@ -11,7 +11,7 @@ use Rattle.live_pump.specs.Kinds.{IsOfLinks}
 use Rattle.live_run.specs.Sides.{IsOfNames}
 use Rattle.live_run.specs.declared.outcome.Outcome.{Outcome}
 use Rattle.turn_lock.specs.History.{LockId, Owns, SeatSeen, StartsWith, once_below, places, times}
-use Rattle.live_channel.specs.Held.{Carries, ComeAsHeld, ComesAsHeld}
+use Rattle.live_channel.specs.Held.{ResolvesWith, ComeAsHeld, ComesAsHeld}
 use Rattle.live_channel.specs.Handles.{IsClosing, IsLeft, IsWithConfig, Keeper, KeepsAs, OfLinks, OfNames, StandInOrder, helds_of}
 use Rattle.live_channel.specs.Sharing.{IsOfCall, times_in}
 use Rattle.live_channel.proofs.EventLaws.{links_beside}
@@ -26,7 +26,7 @@ links_or_names config (event.Send call message) links names = links
 links_or_names config (event.Finish call) links names = links
 links_or_names config (event.Take call) links names = links
 links_or_names config (event.Cancel call) links names = links
-links_or_names config (event.Resolved addresses told) links names = links
+links_or_names config (event.Resolved addresses reported) links names = links
 links_or_names config event.ResolveFailed links names = links
 links_or_names config event.TakeDial links names = names
 links_or_names config (event.LinkUp sub) links names = names
@@ -39,35 +39,35 @@ links_or_names config event.Tick links names = names
 links_or_names config event.Shutdown links names = links
 
 -- where addresses alone may come otherwise
-carried : (config : Option (List ℕ)) (e : Event) → ((addresses : List Address) (told : Option (List ℕ)) → e ≡ event.Resolved addresses told → told ≡ config) → Carries config e
-carried config (event.Begin request) as_told = tt
-carried config (event.Send call message) as_told = tt
-carried config (event.Finish call) as_told = tt
-carried config (event.Take call) as_told = tt
-carried config (event.Cancel call) as_told = tt
-carried config (event.Resolved addresses told) as_told = as_told addresses told refl
-carried config event.ResolveFailed as_told = tt
-carried config event.TakeDial as_told = tt
-carried config (event.LinkUp sub) as_told = tt
-carried config (event.DialFailed sub) as_told = tt
-carried config (event.Arrived link piece) as_told = tt
-carried config (event.LinkLost link) as_told = tt
-carried config (event.Drain link room) as_told = tt
-carried config (event.Ping link word) as_told = tt
-carried config event.Tick as_told = tt
-carried config event.Shutdown as_told = tt
+carried : (config : Option (List ℕ)) (e : Event) → ((addresses : List Address) (reported : Option (List ℕ)) → e ≡ event.Resolved addresses reported → reported ≡ config) → ResolvesWith config e
+carried config (event.Begin request) as_reported = tt
+carried config (event.Send call message) as_reported = tt
+carried config (event.Finish call) as_reported = tt
+carried config (event.Take call) as_reported = tt
+carried config (event.Cancel call) as_reported = tt
+carried config (event.Resolved addresses reported) as_reported = as_reported addresses reported refl
+carried config event.ResolveFailed as_reported = tt
+carried config event.TakeDial as_reported = tt
+carried config (event.LinkUp sub) as_reported = tt
+carried config (event.DialFailed sub) as_reported = tt
+carried config (event.Arrived link piece) as_reported = tt
+carried config (event.LinkLost link) as_reported = tt
+carried config (event.Drain link room) as_reported = tt
+carried config (event.Ping link word) as_reported = tt
+carried config event.Tick as_reported = tt
+carried config event.Shutdown as_reported = tt
 
-links_carry : (config : Option (List ℕ)) (e : Event) → IsOfLinks e → Carries config e
-links_carry config e is = carried config e (λ addresses told same. absurd (subst IsOfLinks same is))
+links_carry : (config : Option (List ℕ)) (e : Event) → IsOfLinks e → ResolvesWith config e
+links_carry config e is = carried config e (λ addresses reported same. absurd (subst IsOfLinks same is))
 
-calls_carry : (config : Option (List ℕ)) (e : Event) → IsOfCall e → Carries config e
-calls_carry config e is = carried config e (λ addresses told same. absurd (true≢false (sym (subst IsOfCall same is))))
+calls_carry : (config : Option (List ℕ)) (e : Event) → IsOfCall e → ResolvesWith config e
+calls_carry config e is = carried config e (λ addresses reported same. absurd (true≢false (sym (subst IsOfCall same is))))
 
-shut_carry : (config : Option (List ℕ)) (e : Event) → e ≡ event.Shutdown → Carries config e
-shut_carry config e is = subst (Carries config) (sym is) tt
+shut_carry : (config : Option (List ℕ)) (e : Event) → e ≡ event.Shutdown → ResolvesWith config e
+shut_carry config e is = subst (ResolvesWith config) (sym is) tt
 
-names_carry : (config : Option (List ℕ)) (e : Event) → IsOfNames config e → Carries config e
-names_carry config e is = carried config e (λ addresses told same. subst (IsOfNames config) same is)
+names_carry : (config : Option (List ℕ)) (e : Event) → IsOfNames config e → ResolvesWith config e
+names_carry config e is = carried config e (λ addresses reported same. subst (IsOfNames config) same is)
 
 -- ---- the workers that keep links open
 
@@ -84,7 +84,7 @@ each_comes entries [] [] keeps stand = tt
 each_comes entries [] (own ∷ owns) keeps stand = absurd keeps
 each_comes entries (OfLinks held ∷ keepers) [] keeps stand = absurd keeps
 each_comes entries (OfNames config ∷ keepers) [] keeps stand = absurd keeps
-each_comes entries (OfLinks held ∷ keepers) (own ∷ owns) keeps stand = (record { stands = stand.0.stands; ascends = stand.0.ascends; fronts = keeps.0.1 }, each_comes entries keepers owns keeps.1 stand.1)
+each_comes entries (OfLinks held ∷ keepers) (own ∷ owns) keeps stand = (record { stands = stand.0.stands; ascends = stand.0.ascends; prefixes = keeps.0.1 }, each_comes entries keepers owns keeps.1 stand.1)
 each_comes entries (OfNames config ∷ keepers) (own ∷ owns) keeps stand = each_comes entries keepers owns keeps.1 stand.1
 
 -- an entry of a link is of one of those, where it is of a worker beside the calls
@@ -101,12 +101,12 @@ in_nets entries (OfNames config ∷ keepers) (own ∷ owns) x e is at keeps stan
 
 -- ---- with one config
 
-carry_one : (config : Option (List ℕ)) (keeper : Keeper) (own : List (ℕ × Entry)) → KeepsAs keeper own → IsWithConfig config keeper → AllByRecursion (λ p. Carries config p.1.event) own
-carry_one config (OfLinks held) own keeps names = each_weaker (λ (p : ℕ × Entry). IsOfLinks p.1.event) (λ (p : ℕ × Entry). Carries config p.1.event) (λ p is. links_carry config p.1.event is) own keeps.0
-carry_one config (OfNames told) own keeps names =
-    each_weaker (λ (p : ℕ × Entry). IsOfNames told p.1.event) (λ (p : ℕ × Entry). Carries config p.1.event) (λ p is. names_carry config p.1.event (subst (λ (c : Option (List ℕ)). IsOfNames c p.1.event) names is)) own keeps
+carry_one : (config : Option (List ℕ)) (keeper : Keeper) (own : List (ℕ × Entry)) → KeepsAs keeper own → IsWithConfig config keeper → AllByRecursion (λ p. ResolvesWith config p.1.event) own
+carry_one config (OfLinks held) own keeps names = each_weaker (λ (p : ℕ × Entry). IsOfLinks p.1.event) (λ (p : ℕ × Entry). ResolvesWith config p.1.event) (λ p is. links_carry config p.1.event is) own keeps.0
+carry_one config (OfNames reported) own keeps names =
+    each_weaker (λ (p : ℕ × Entry). IsOfNames reported p.1.event) (λ (p : ℕ × Entry). ResolvesWith config p.1.event) (λ p is. names_carry config p.1.event (subst (λ (c : Option (List ℕ)). IsOfNames c p.1.event) names is)) own keeps
 
-carry_all : (config : Option (List ℕ)) (keepers : List Keeper) (owns : List (List (ℕ × Entry))) → AllZip KeepsAs keepers owns → AllByRecursion (IsWithConfig config) keepers → AllByRecursion (λ own. AllByRecursion (λ p. Carries config p.1.event) own) owns
+carry_all : (config : Option (List ℕ)) (keepers : List Keeper) (owns : List (List (ℕ × Entry))) → AllZip KeepsAs keepers owns → AllByRecursion (IsWithConfig config) keepers → AllByRecursion (λ own. AllByRecursion (λ p. ResolvesWith config p.1.event) own) owns
 carry_all config [] [] keeps names = tt
 carry_all config [] (own ∷ owns) keeps names = absurd keeps
 carry_all config (keeper ∷ keepers) [] keeps names = absurd keeps
@@ -119,34 +119,34 @@ each_at P [] at = tt
 each_at P (e ∷ es) at = (at 0 e refl, each_at P es (λ x y is. at (suc x) y is))
 
 -- an entry of a link is of a worker that keeps links open
-net_owned : (config : Option (List ℕ)) (o : Outcome) (keepers : List Keeper) (entries front : List Entry) (closing : Option Entry) (own : List (ℕ × Entry)) (owns others : List (List (ℕ × Entry))) → IsClosing o closing → AllZip KeepsAs keepers others
-    → AllByRecursion (λ p. IsOfNames config p.1.event) own → IsShared entries front closing own owns others → (x : ℕ) (e : Entry) → slice_get entries x ≡ Some e → IsOfLinks e.event → times_in x (nets_of keepers others) ≡ 1
-net_owned config o keepers entries front closing own owns others closes keeps names shared x e at is =
+net_owned : (config : Option (List ℕ)) (o : Outcome) (keepers : List Keeper) (entries prefix : List Entry) (closing : Option Entry) (own : List (ℕ × Entry)) (owns others : List (List (ℕ × Entry))) → IsClosing o closing → AllZip KeepsAs keepers others
+    → AllByRecursion (λ p. IsOfNames config p.1.event) own → IsShared entries prefix closing own owns others → (x : ℕ) (e : Entry) → slice_get entries x ≡ Some e → IsOfLinks e.event → times_in x (nets_of keepers others) ≡ 1
+net_owned config o keepers entries prefix closing own owns others closes keeps names shared x e at is =
     let first : times x own ≡ 0 = zero_of (times x own) (λ some. links_or_names config e.event is (found (λ (y : Entry). IsOfNames config y.event) entries own x e shared.first names some at)) in
     let callers : times_in x owns ≡ 0 = zero_of (times_in x owns) (λ some. beside_call e.event (links_beside e.event is) (found_in (λ (y : Entry). IsOfCall y.event) entries owns x e shared.callers shared.of_calls some at)) in
-    let last : times x (places (length front) (option_to_list closing)) ≡ 0 =
-    zero_of (times x (places (length front) (option_to_list closing)))
-    (λ some. beside_shut e.event (links_beside e.event is) (found (λ (y : Entry). y.event ≡ event.Shutdown) entries (places (length front) (option_to_list closing)) x e shared.last (closing_is o (length front) closing closes) some at)) in
+    let last : times x (places (length prefix) (option_to_list closing)) ≡ 0 =
+    zero_of (times x (places (length prefix) (option_to_list closing)))
+    (λ some. beside_shut e.event (links_beside e.event is) (found (λ (y : Entry). y.event ≡ event.Shutdown) entries (places (length prefix) (option_to_list closing)) x e shared.last (closing_is o (length prefix) closing closes) some at)) in
     let nets = in_nets entries keepers others x e is at keeps shared.kept in
     let all = shared.count x in
     let one : once_below x (length entries) ≡ 1 = below x (length entries) (slice_get_within entries x e at) in
     omega (arith, first, callers, last, nets, all, one)
 
 -- and each carries the config, whose ever it is
-carry_at : (config : Option (List ℕ)) (o : Outcome) (keepers : List Keeper) (entries front : List Entry) (closing : Option Entry) (own : List (ℕ × Entry)) (owns others : List (List (ℕ × Entry))) → IsClosing o closing → AllZip KeepsAs keepers others → AllByRecursion (IsWithConfig config) keepers
-    → AllByRecursion (λ p. IsOfNames config p.1.event) own → IsShared entries front closing own owns others → (x : ℕ) (e : Entry) → slice_get entries x ≡ Some e → Carries config e.event
-carry_at config o keepers entries front closing own owns others closes keeps with_config names shared x e at =
-    let last : List (ℕ × Entry) = places (length front) (option_to_list closing) in
+carry_at : (config : Option (List ℕ)) (o : Outcome) (keepers : List Keeper) (entries prefix : List Entry) (closing : Option Entry) (own : List (ℕ × Entry)) (owns others : List (List (ℕ × Entry))) → IsClosing o closing → AllZip KeepsAs keepers others → AllByRecursion (IsWithConfig config) keepers
+    → AllByRecursion (λ p. IsOfNames config p.1.event) own → IsShared entries prefix closing own owns others → (x : ℕ) (e : Entry) → slice_get entries x ≡ Some e → ResolvesWith config e.event
+carry_at config o keepers entries prefix closing own owns others closes keeps with_config names shared x e at =
+    let last : List (ℕ × Entry) = places (length prefix) (option_to_list closing) in
     let all = shared.count x in
     let one : once_below x (length entries) ≡ 1 = below x (length entries) (slice_get_within entries x e at) in
     let some : 1 ≤ times x own + times_in x owns + times x last + times_in x others = omega (arith, all, one) in
-    one_of (Carries config e.event) (times x own + times_in x owns + times x last) (times_in x others) some
-    (λ more. one_of (Carries config e.event) (times x own + times_in x owns) (times x last) more
-    (λ more. one_of (Carries config e.event) (times x own) (times_in x owns) more
+    one_of (ResolvesWith config e.event) (times x own + times_in x owns + times x last) (times_in x others) some
+    (λ more. one_of (ResolvesWith config e.event) (times x own + times_in x owns) (times x last) more
+    (λ more. one_of (ResolvesWith config e.event) (times x own) (times_in x owns) more
     (λ here. names_carry config e.event (found (λ (y : Entry). IsOfNames config y.event) entries own x e shared.first names here at))
     (λ here. calls_carry config e.event (found_in (λ (y : Entry). IsOfCall y.event) entries owns x e shared.callers shared.of_calls here at)))
-    (λ here. shut_carry config e.event (found (λ (y : Entry). y.event ≡ event.Shutdown) entries last x e shared.last (closing_is o (length front) closing closes) here at)))
-    (λ here. found_in (λ (y : Entry). Carries config y.event) entries others x e shared.kept (carry_all config keepers others keeps with_config) here at)
+    (λ here. shut_carry config e.event (found (λ (y : Entry). y.event ≡ event.Shutdown) entries last x e shared.last (closing_is o (length prefix) closing closes) here at)))
+    (λ here. found_in (λ (y : Entry). ResolvesWith config y.event) entries others x e shared.kept (carry_all config keepers others keeps with_config) here at)
 
 -- all parts are together, so each entry of the journal is of one handle that was taken in
 pub come_as_held : (lock : LockId) (held : List (Option (List (List ℕ)))) (config : Option (List ℕ)) (o : Outcome) (owns : List (List (ℕ × Entry))) (seat : SeatSeen Entry) (entries : List Entry)
@@ -159,7 +159,7 @@ come_as_held lock held config o owns seat entries left of_calls all sees =
       workers = left.given.workers;
       owns = nets_of left.keepers leaves.others;
       each = subst (λ (l : List (Option (List (List ℕ)))). AllZip (ComesAsHeld entries) l (nets_of left.keepers leaves.others)) left.given.links (each_comes entries left.keepers leaves.others leaves.keeps shared.kept);
-      only = λ x e at is. net_owned config leaves.made left.keepers entries closes.front closes.closing left.start.own owns leaves.others closes.is_closing leaves.keeps left.given.first shared x e at is;
-      carries = each_at (λ (e : Entry). Carries config e.event) entries
-          (λ x e at. carry_at config leaves.made left.keepers entries closes.front closes.closing left.start.own owns leaves.others closes.is_closing leaves.keeps left.given.names left.given.first shared x e at);
+      only = λ x e at is. net_owned config leaves.made left.keepers entries closes.prefix closes.closing left.start.own owns leaves.others closes.is_closing leaves.keeps left.given.first shared x e at is;
+      carries = each_at (λ (e : Entry). ResolvesWith config e.event) entries
+          (λ x e at. carry_at config leaves.made left.keepers entries closes.prefix closes.closing left.start.own owns leaves.others closes.is_closing leaves.keeps left.given.names left.given.first shared x e at);
     }

@@ -7,7 +7,7 @@ use Rattle.atomic_table.specs.Seated.{TableId}
 use Rattle.grpc_base.specs.declared.event.Entry.{Entry}
 use Rattle.grpc_base.specs.declared.post.Look.{Look}
 use Rattle.grpc_base.specs.declared.post.PostError.{PostError}
-use Rattle.live_pump.specs.Fronts.{ArrivesInFront, IsFront, Unopened, told_by}
+use Rattle.live_pump.specs.Prefixes.{ArrivesBefore, IsPrefix, Unopened, reported_by}
 use Rattle.live_pump.specs.Kinds.{IsOfLinks}
 use Rattle.live_pump.specs.Pumps.{HandleSeen}
 use Rattle.live_run.specs.Sides.{IsOfNames, LinkDone, seen_by}
@@ -18,7 +18,7 @@ use Rattle.turn_lock.specs.History.{LockId, SeatSeen}
 use Rattle.live_channel.specs.Handles.{IsFresh, IsKept, IsOne, Keeper, handle_in, keeper_in}
 use Rattle.live_channel.proofs.EventLaws.{kind_own}
 
--- ---- the share of a handle names its lock, and tells its parts
+-- ---- the share of a handle names its lock, and reports its parts
 
 abbrev lock_in : List ℕ → LockId
 lock_in (parts ∷ (words ∷ (slots ∷ (views_name ∷ (atom ∷ (block ∷ (offset ∷ (count ∷ numbers)))))))) =
@@ -51,10 +51,10 @@ one_still lock before after same one = record {
 -- ---- those beside the calls
 
 -- what came, where the handle had made nothing before
-came_as_held : (held : Option (List (List ℕ))) (before after : HandleSeen) → before.made ≡ [] → ArrivesInFront held before after
-    → (coming : List (List ℕ)) → held ≡ Some coming → (link : ℕ) → IsFront (fold (told_by link) (record { tale = Unopened; coming = coming }) after.made).tale
+came_as_held : (held : Option (List (List ℕ))) (before after : HandleSeen) → before.made ≡ [] → ArrivesBefore held before after
+    → (coming : List (List ℕ)) → held ≡ Some coming → (link : ℕ) → IsPrefix (fold (reported_by link) (record { link_history = Unopened; coming = coming }) after.made).link_history
 came_as_held held before after none arrives coming is link =
-    subst (λ (l : List Entry). IsFront (fold (told_by link) (record { tale = Unopened; coming = coming }) l).tale) (sym (arrives.made ∙ ap (λ (l : List Entry). l ++ arrives.more) none)) (arrives.fronts coming is link)
+    subst (λ (l : List Entry). IsPrefix (fold (reported_by link) (record { link_history = Unopened; coming = coming }) l).link_history) (sym (arrives.made ∙ ap (λ (l : List Entry). l ++ arrives.more) none)) (arrives.prefixes coming is link)
 
 kept_one : {H N L D : Type 0} (seat_of : H → SeatSeen Entry) (errors : H → ℕ) (last : H → Option PostError) (look : H → Option Look) (coming : N → Option (List (List ℕ))) (lock : LockId) (before after : LinkJob H N L D)
     → LinkDone (seen_by (λ h. entries_of (seat_of h).own) errors last) (λ h. share_of (seat_of h)) look coming before after → IsFresh lock (seat_of (handle_in before)) → IsKept lock (keeper_in coming before) (seat_of (handle_in after))
@@ -62,7 +62,7 @@ kept_one seat_of errors last look coming lock (job.Net before) (job.Net after) d
   one = one_still lock (seat_of before.post) (seat_of after.post) done.same_share fresh.one;
   keeps = (
     kind_own IsOfLinks (seat_of before.post).own (seat_of after.post).own fresh.own done.posts,
-    came_as_held (coming before.dialer) (seen_by (λ h. entries_of (seat_of h).own) errors last before.post) (seen_by (λ h. entries_of (seat_of h).own) errors last after.post) (ap entries_of fresh.own) done.fronts,
+    came_as_held (coming before.dialer) (seen_by (λ h. entries_of (seat_of h).own) errors last before.post) (seen_by (λ h. entries_of (seat_of h).own) errors last after.post) (ap entries_of fresh.own) done.prefixes,
   );
 }
 kept_one seat_of errors last look coming lock (job.Name before) (job.Name after) done fresh = record {

@@ -18,9 +18,9 @@ pub each_snoc : {X : Type 0} (P : X → Type 0) (xs : List X) (x : X) → AllByR
 each_snoc P [] x all here = (here, tt)
 each_snoc P (y ∷ ys) x all here = (all.0, each_snoc P ys x all.1 here)
 
-pub each_front : {X : Type 0} (P : X → Type 0) (xs : List X) (x : X) → AllByRecursion P (xs ++ x ∷ []) → AllByRecursion P xs × P x
-each_front P [] x all = (tt, all.0)
-each_front P (y ∷ ys) x all = let both = each_front P ys x all.1 in ((all.0, both.0), both.1)
+pub each_prefix : {X : Type 0} (P : X → Type 0) (xs : List X) (x : X) → AllByRecursion P (xs ++ x ∷ []) → AllByRecursion P xs × P x
+each_prefix P [] x all = (tt, all.0)
+each_prefix P (y ∷ ys) x all = let both = each_prefix P ys x all.1 in ((all.0, both.0), both.1)
 
 pub each_weaker : {X : Type 0} (P Q : X → Type 0) → ((x : X) → P x → Q x) → (xs : List X) → AllByRecursion P xs → AllByRecursion Q xs
 each_weaker P Q leads [] all = tt
@@ -85,7 +85,7 @@ takes_popped {X} seat_of start before mid all jobs left job split one is sees st
 popped_all : {X : Type 0} (P : SeatSeen Entry → Type 0) (seat_of : X → SeatSeen Entry) (jobs left : List X) (last : Option X) (job : X) → jobs ≡ left ++ option_to_list last → last ≡ Some job → AllByRecursion P (map seat_of jobs) → AllByRecursion P (map seat_of left) × P (seat_of job)
 popped_all {X} P seat_of jobs left last job split is all =
     let whole : jobs ≡ left ++ job ∷ [] = split ∙ ap (λ (o : Option X). left ++ option_to_list o) is in
-    each_front P (map seat_of left) (seat_of job) (subst (λ (l : List (SeatSeen Entry)). AllByRecursion P l) (ap (map seat_of) whole ∙ map-append seat_of left (job ∷ [])) all)
+    each_prefix P (map seat_of left) (seat_of job) (subst (λ (l : List (SeatSeen Entry)). AllByRecursion P l) (ap (map seat_of) whole ∙ map-append seat_of left (job ∷ [])) all)
 
 pub popped_lock : {H X : Type 0} (seat_of : H → SeatSeen Entry) (handle : X → H) (lock : LockId) (jobs left : List X) (last : Option X) (job : X) (post : H) (seat : SeatSeen Entry) → jobs ≡ left ++ option_to_list last → last ≡ Some job → post ≡ handle job → seat ≡ seat_of post
     → AllByRecursion (IsOne lock) (map (λ j. seat_of (handle j)) jobs) → seat.lock ≡ lock

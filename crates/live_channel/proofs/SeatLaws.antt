@@ -1,4 +1,4 @@
--- What a handle knows that told the channel its first event, or shut it down, and of which others were split off.
+-- What a handle knows that reported the channel its first event, or shut it down, and of which others were split off.
 use Rattle.std.proofs.Common.{◌≡◌, ◌∙◌, ◌<◌, ◌≤◌, ◌==◌, ℕ, suc, ◌+◌, ◌-◌, Bool, true, false, if◌then◌else◌, nat_lt, Option, Some, None, List, [], ◌∷◌, ◌++◌, ap, append-nil, arith, length, length-append, map, refl, sym, subst}
 use Rattle.std.specs.List.{AllByRecursion}
 use Rattle.std.proofs.lemmas.Bool.Decides.{nat_tests}
@@ -22,23 +22,23 @@ use Rattle.shared_channel.specs.Turns.{Fails, TakesPlace}
 use Rattle.live_run.specs.Outcomes.{outcome_of}
 use Rattle.live_run.specs.declared.outcome.Outcome.{Outcome}
 use Rattle.live_run.specs.declared.outcome.Outcome.TheVariants as outcome
-use Rattle.live_channel.specs.Told.{IsToldFirst, TellsTarget}
-use Rattle.live_channel.specs.Handles.{AreBeside, AreGiven, IsBeside, IsFirstSeat, IsFresh, IsLeft, IsStarted, Keeper, Leaves, Shuts, Splits, outcome_of_post}
+use Rattle.live_channel.specs.Report.{IsReportedFirst, ReportsTarget}
+use Rattle.live_channel.specs.Handles.{EntriesAreBesideCalls, DialersAreGiven, IsBeside, IsFirstSeat, IsFresh, IsLeft, IsStarted, Keeper, Leaves, Shuts, Splits, outcome_of_post}
 use Rattle.live_channel.proofs.OwnLaws.{each_snoc, each_weaker}
 
 -- ---- longer histories
 
-pub first_stays : (e : Event) (long short : List Entry) → StartsWith long short → IsToldFirst e short → IsToldFirst e long
+pub first_stays : (e : Event) (long short : List Entry) → StartsWith long short → IsReportedFirst e short → IsReportedFirst e long
 first_stays e long short (more, ls) (first, rest, is, ss) = (first, rest ++ more, is, ls ∙ ap (λ (t : List Entry). t ++ more) ss)
 
-pub told_stays : (t : Target) (config : Option (List ℕ)) (long short : List Entry) → StartsWith long short → TellsTarget t config short → TellsTarget t config long
-told_stays (target.Ipv4 addresses) config long short starts told = first_stays (event.Resolved addresses config) long short starts told
-told_stays (target.Dns name) config long short starts told = tt
+pub reported_stays : (t : Target) (config : Option (List ℕ)) (long short : List Entry) → StartsWith long short → ReportsTarget t config short → ReportsTarget t config long
+reported_stays (target.Ipv4 addresses) config long short starts reported = first_stays (event.Resolved addresses config) long short starts reported
+reported_stays (target.Dns name) config long short starts reported = tt
 
 squeezed : (x a b c : ℕ) → a ≤ b → b ≤ c → once_below x a ≡ once_below x c → once_below x b ≡ once_below x a
 squeezed x a b c ab bc same = grind (arith, nat_tests)
 
--- a handle that has every part, and saw a history of as many entries before and behind this one
+-- a handle that has every part, and saw a history of as many entries before and after this one
 pub owns_between : (own : List (ℕ × Entry)) (parts : ℕ) (before here after : List Entry) → StartsWith here before → StartsWith after here → Owns parts own before → Owns parts own after → Owns parts own here
 owns_between own parts before here after later latest first last = record {
   stands = stands-later before here own later first.stands;
@@ -79,7 +79,7 @@ shuts_posted may_give word (Ok reply) o before after is place =
     record {
       lock = place.lock;
       parts = place.parts;
-      front = old;
+      prefix = old;
       closing = Some x;
       is_closing = refl;
       sees = place.sees;
@@ -93,7 +93,7 @@ shuts_posted may_give word (Err e) o before after is place =
     record {
       lock = place.lock;
       parts = place.parts;
-      front = old;
+      prefix = old;
       closing = None;
       is_closing = λ whole. error_is_worse e (sym is ∙ whole);
       sees = place.sees;
@@ -122,14 +122,14 @@ seen_some old x seen rest is =
     omega (arith, long)
 
 -- what such a handle then has: its entry is the first of all that it sees, and stands there
-record IsFirstTold (e : Event) (seat : SeatSeen Entry) : Type 0 where
-  told : IsToldFirst e seat.seen
+record IsFirstReported (e : Event) (seat : SeatSeen Entry) : Type 0 where
+  reported : IsReportedFirst e seat.seen
   stands : Stands seat.seen seat.own
   own : AllByRecursion (λ p. p.1.event ≡ e) seat.own
 
 -- a handle that has every part posted an event to a channel without entries, and looked
-first_told : (may_give : ℕ → Type 0) (word : ℕ) (e : Event) (result : Result Reply PostError) (reply : Reply) (lock : LockId) (before mid after : SeatSeen Entry) → result ≡ Ok reply → IsFirstSeat lock before → TakesPlace may_give word e result before mid → Sees mid after → after ≡ record mid { seen = after.seen } → IsFirstTold e after
-first_told may_give word e result reply lock before mid after is first place sees same =
+first_reported : (may_give : ℕ → Type 0) (word : ℕ) (e : Event) (result : Result Reply PostError) (reply : Reply) (lock : LockId) (before mid after : SeatSeen Entry) → result ≡ Ok reply → IsFirstSeat lock before → TakesPlace may_give word e result before mid → Sees mid after → after ≡ record mid { seen = after.seen } → IsFirstReported e after
+first_reported may_give word e result reply lock before mid after is first place sees same =
     let here : TakesPlace may_give word e (Ok reply) before mid = subst (λ (r : Result Reply PostError). TakesPlace may_give word e r before mid) is place in
     let old : List Entry = here.start.journal.entries in
     let x : Entry = record {
@@ -150,29 +150,29 @@ first_told may_give word e result reply lock before mid after is first place see
     let once : times 0 (places (length old) (x ∷ [])) ≡ once_below 0 (length after.seen) = ap (times 0) (sym own) ∙ sees.owns.whole parts 0 in
     let none : old ≡ [] = no_entries old (first_place (length old) x after.seen some once) in
     record {
-      told = first_stays e after.seen mid.seen sees.later (x, [], refl, seen ∙ ap (λ (t : List Entry). t ++ x ∷ []) none);
+      reported = first_stays e after.seen mid.seen sees.later (x, [], refl, seen ∙ ap (λ (t : List Entry). t ++ x ∷ []) none);
       stands = sees.owns.stands;
       own = subst (λ (l : List (ℕ × Entry)). AllByRecursion (λ p. p.1.event ≡ e) l) (sym own) (refl, tt);
     }
 
 -- the same, as the handle is given back
-told_ok : {E : Type 0} (may_give : ℕ → Type 0) (word : ℕ) (e : Event) (came : Result Reply PostError) (lock : LockId) (before before' mid mid' after : SeatSeen Entry) (result : Result (SeatSeen Entry) E) → before' ≡ before → mid ≡ mid' → IfOk result (λ s. (s ≡ after) × ((r : Reply) × (came ≡ Ok r))) → IsFirstSeat lock before → TakesPlace may_give word e came before' mid' → Sees mid after → after ≡ record mid { seen = after.seen } → IfOk result (IsFirstTold e)
-told_ok may_give word e came lock before before' mid mid' after (Err fault) old new given first place sees same = tt
-told_ok may_give word e came lock before before' mid mid' after (Ok s) old new (is, (reply, ok)) first place sees same =
+reported_ok : {E : Type 0} (may_give : ℕ → Type 0) (word : ℕ) (e : Event) (came : Result Reply PostError) (lock : LockId) (before before' mid mid' after : SeatSeen Entry) (result : Result (SeatSeen Entry) E) → before' ≡ before → mid ≡ mid' → IfOk result (λ s. (s ≡ after) × ((r : Reply) × (came ≡ Ok r))) → IsFirstSeat lock before → TakesPlace may_give word e came before' mid' → Sees mid after → after ≡ record mid { seen = after.seen } → IfOk result (IsFirstReported e)
+reported_ok may_give word e came lock before before' mid mid' after (Err fault) old new given first place sees same = tt
+reported_ok may_give word e came lock before before' mid mid' after (Ok s) old new (is, (reply, ok)) first place sees same =
     let here : TakesPlace may_give word e came before mid = subst (λ (x : SeatSeen Entry). TakesPlace may_give word e came x mid) old (subst (λ (x : SeatSeen Entry). TakesPlace may_give word e came before' x) (sym new) place) in
-    subst (IsFirstTold e) (sym is) (first_told may_give word e came reply lock before mid after ok first here sees same)
+    subst (IsFirstReported e) (sym is) (first_reported may_give word e came reply lock before mid after ok first here sees same)
 
 pub if_ok_weaker : {X E : Type 0} (P Q : X → Type 0) (result : Result X E) → ((x : X) → P x → Q x) → IfOk result P → IfOk result Q
 if_ok_weaker P Q (Ok x) leads is = leads x is
 if_ok_weaker P Q (Err e) leads is = tt
 
-pub told_first : {E : Type 0} (may_give : ℕ → Type 0) (word : ℕ) (e : Event) (came : Result Reply PostError) (lock : LockId) (before before' mid mid' after : SeatSeen Entry) (result : Result (SeatSeen Entry) E) → before' ≡ before → mid ≡ mid' → IfOk result (λ s. (s ≡ after) × ((r : Reply) × (came ≡ Ok r))) → IsFirstSeat lock before → TakesPlace may_give word e came before' mid' → Sees mid after → after ≡ record mid { seen = after.seen } → IfOk result (λ s. IsToldFirst e s.seen)
-told_first may_give word e came lock before before' mid mid' after result old new given first place sees same =
-    if_ok_weaker (IsFirstTold e) (λ (s : SeatSeen Entry). IsToldFirst e s.seen) result (λ s is. is.told) (told_ok may_give word e came lock before before' mid mid' after result old new given first place sees same)
+pub reported_first : {E : Type 0} (may_give : ℕ → Type 0) (word : ℕ) (e : Event) (came : Result Reply PostError) (lock : LockId) (before before' mid mid' after : SeatSeen Entry) (result : Result (SeatSeen Entry) E) → before' ≡ before → mid ≡ mid' → IfOk result (λ s. (s ≡ after) × ((r : Reply) × (came ≡ Ok r))) → IsFirstSeat lock before → TakesPlace may_give word e came before' mid' → Sees mid after → after ≡ record mid { seen = after.seen } → IfOk result (λ s. IsReportedFirst e s.seen)
+reported_first may_give word e came lock before before' mid mid' after result old new given first place sees same =
+    if_ok_weaker (IsFirstReported e) (λ (s : SeatSeen Entry). IsReportedFirst e s.seen) result (λ s is. is.reported) (reported_ok may_give word e came lock before before' mid mid' after result old new given first place sees same)
 
-pub told_own : {E : Type 0} (may_give : ℕ → Type 0) (word : ℕ) (e : Event) (came : Result Reply PostError) (lock : LockId) (before before' mid mid' after : SeatSeen Entry) (result : Result (SeatSeen Entry) E) → before' ≡ before → mid ≡ mid' → IfOk result (λ s. (s ≡ after) × ((r : Reply) × (came ≡ Ok r))) → IsFirstSeat lock before → TakesPlace may_give word e came before' mid' → Sees mid after → after ≡ record mid { seen = after.seen } → IfOk result (λ s. Stands s.seen s.own × AllByRecursion (λ p. p.1.event ≡ e) s.own)
-told_own may_give word e came lock before before' mid mid' after result old new given first place sees same =
-    if_ok_weaker (IsFirstTold e) (λ (s : SeatSeen Entry). Stands s.seen s.own × AllByRecursion (λ p. p.1.event ≡ e) s.own) result (λ s is. (is.stands, is.own)) (told_ok may_give word e came lock before before' mid mid' after result old new given first place sees same)
+pub reported_own : {E : Type 0} (may_give : ℕ → Type 0) (word : ℕ) (e : Event) (came : Result Reply PostError) (lock : LockId) (before before' mid mid' after : SeatSeen Entry) (result : Result (SeatSeen Entry) E) → before' ≡ before → mid ≡ mid' → IfOk result (λ s. (s ≡ after) × ((r : Reply) × (came ≡ Ok r))) → IsFirstSeat lock before → TakesPlace may_give word e came before' mid' → Sees mid after → after ≡ record mid { seen = after.seen } → IfOk result (λ s. Stands s.seen s.own × AllByRecursion (λ p. p.1.event ≡ e) s.own)
+reported_own may_give word e came lock before before' mid mid' after result old new given first place sees same =
+    if_ok_weaker (IsFirstReported e) (λ (s : SeatSeen Entry). Stands s.seen s.own × AllByRecursion (λ p. p.1.event ≡ e) s.own) result (λ s is. (is.stands, is.own)) (reported_ok may_give word e came lock before before' mid mid' after result old new given first place sees same)
 
 -- ---- handles that were split off
 
@@ -209,38 +209,38 @@ map_length seat_of (job ∷ jobs) = ap suc (map_length seat_of jobs)
 resolved_beside : (addresses : List Address) (config : Option (List ℕ)) → IsBeside (event.Resolved addresses config)
 resolved_beside addresses config = record { call = refl; shut = refl }
 
-pub told_beside : (e : Event) (addresses : List Address) (config : Option (List ℕ)) (own : List (ℕ × Entry)) → e ≡ event.Resolved addresses config → AllByRecursion (λ p. p.1.event ≡ e) own → AreBeside own
-told_beside e addresses config own is each =
+pub reported_beside : (e : Event) (addresses : List Address) (config : Option (List ℕ)) (own : List (ℕ × Entry)) → e ≡ event.Resolved addresses config → AllByRecursion (λ p. p.1.event ≡ e) own → EntriesAreBesideCalls own
+reported_beside e addresses config own is each =
     each_weaker (λ (p : ℕ × Entry). p.1.event ≡ e) (λ (p : ℕ × Entry). IsBeside p.1.event) (λ p same. subst IsBeside (sym (same ∙ is)) (resolved_beside addresses config)) own each
 
--- a handle that told nothing
-pub first_clear : (lock : LockId) (seat : SeatSeen Entry) → IsFirstSeat lock seat → Stands seat.seen seat.own × AreBeside seat.own
+-- a handle that reported nothing
+pub first_clear : (lock : LockId) (seat : SeatSeen Entry) → IsFirstSeat lock seat → Stands seat.seen seat.own × EntriesAreBesideCalls seat.own
 first_clear lock seat first =
     let none : [] ≡ seat.own = sym first.own in
-    (subst (λ (l : List (ℕ × Entry)). Stands seat.seen l) none tt, subst AreBeside none tt)
+    (subst (λ (l : List (ℕ × Entry)). Stands seat.seen l) none tt, subst EntriesAreBesideCalls none tt)
 
--- the handle of a channel that was told something, or nothing, and of which others were split off
-pub started_by : (lock : LockId) (seat mid : SeatSeen Entry) (seats : List (SeatSeen Entry)) → seat.lock ≡ lock → seat.parts ≡ 4294967296 → Stands seat.seen seat.own → AreBeside seat.own → length seats ≤ 5 → Splits seat seats mid → IsStarted lock seats mid
+-- the handle of a channel that was notified of something, or nothing, and of which others were split off
+pub started_by : (lock : LockId) (seat mid : SeatSeen Entry) (seats : List (SeatSeen Entry)) → seat.lock ≡ lock → seat.parts ≡ 4294967296 → Stands seat.seen seat.own → EntriesAreBesideCalls seat.own → length seats ≤ 5 → Splits seat seats mid → IsStarted lock seats mid
 started_by lock seat mid seats here full stands beside few splits = record {
   lock_is = splits.lock ∙ here;
   parts = let before = splits.parts in omega (arith, before, full);
   few = few;
   fresh = subst (λ (l : LockId). AllByRecursion (IsFresh l) seats) here splits.fresh;
   stands = subst (λ (l : List Entry). Stands l mid.own) (sym splits.seen) (subst (λ (l : List (ℕ × Entry)). Stands seat.seen l) (sym splits.own) stands);
-  beside = subst AreBeside (sym splits.own) beside;
+  beside = subst EntriesAreBesideCalls (sym splits.own) beside;
 }
 
 -- so many were split off
 pub few_split : (n : ℕ) (before after : SeatSeen Entry) (seats : List (SeatSeen Entry)) → Splits before seats after → before.parts ≤ after.parts + n → n ≤ 5 → length seats ≤ 5
 few_split n before after seats splits most few = let parts = splits.parts in omega (arith, parts, most, few)
 
--- what it told is what it has seen
-pub told_split : (e : Event) (before after : SeatSeen Entry) → after.seen ≡ before.seen → IsToldFirst e before.seen → IsToldFirst e after.seen
-told_split e before after same told = subst (IsToldFirst e) (sym same) told
+-- what it reported is what it has seen
+pub reported_split : (e : Event) (before after : SeatSeen Entry) → after.seen ≡ before.seen → IsReportedFirst e before.seen → IsReportedFirst e after.seen
+reported_split e before after same reported = subst (IsReportedFirst e) (sym same) reported
 
--- and of the first handle, which told the channel its first event or nothing
+-- and of the first handle, which reported the channel its first event or nothing
 pub left_by : (lock : LockId) (held : List (Option (List (List ℕ)))) (config : Option (List ℕ)) (o : Outcome) (keepers : List Keeper) (owns : List (List (ℕ × Entry))) (seats others : List (SeatSeen Entry)) (seat mid closer out : SeatSeen Entry)
-    → AreGiven held config keepers seat → IsStarted lock seats seat → Splits seat others mid → closer ≡ mid
+    → DialersAreGiven held config keepers seat → IsStarted lock seats seat → Splits seat others mid → closer ≡ mid
     → out.lock ≡ closer.lock → out.parts ≡ closer.parts + length others + length seats → Leaves o keepers owns closer.seen closer.own out → IsLeft lock held config o owns out
 left_by lock held config o keepers owns seats others seat mid closer out given started splits same locks parts leaves = record {
   lock_is = locks ∙ ap (λ (s : SeatSeen Entry). s.lock) same ∙ splits.lock ∙ started.lock_is;
@@ -257,7 +257,7 @@ left_by lock held config o keepers owns seats others seat mid closer out given s
       (subst (λ (l : List (ℕ × Entry)). Leaves o keepers owns closer.seen l out) (ap (λ (s : SeatSeen Entry). s.own) same ∙ splits.own) leaves);
 }
 
--- and what was told stays so of a handle that has seen all that
-pub told_left : {X E : Type 0} (t : Target) (config : Option (List ℕ)) (seat : SeatSeen Entry) (result : Result (SeatSeen Entry × X) E) → TellsTarget t config seat.seen → IfOk result (λ r. StartsWith r.0.seen seat.seen) → IfOk result (λ r. TellsTarget t config r.0.seen)
-told_left t config seat (Ok r) told sees = told_stays t config r.0.seen seat.seen sees told
-told_left t config seat (Err e) told sees = tt
+-- and what was reported stays so of a handle that has seen all that
+pub reported_left : {X E : Type 0} (t : Target) (config : Option (List ℕ)) (seat : SeatSeen Entry) (result : Result (SeatSeen Entry × X) E) → ReportsTarget t config seat.seen → IfOk result (λ r. StartsWith r.0.seen seat.seen) → IfOk result (λ r. ReportsTarget t config r.0.seen)
+reported_left t config seat (Ok r) reported sees = reported_stays t config r.0.seen seat.seen sees reported
+reported_left t config seat (Err e) reported sees = tt

@@ -8,7 +8,7 @@ use Rattle.grpc_base.specs.declared.event.Event.{Event}
 use Rattle.grpc_base.specs.declared.event.Event.TheVariants as event
 use Rattle.grpc_base.specs.declared.event.Reply.{Reply}
 use Rattle.grpc_base.specs.declared.post.PostError.{PostError}
-use Rattle.live_pump.specs.Fronts.{IsFront, Unopened, told_by}
+use Rattle.live_pump.specs.Prefixes.{IsPrefix, Unopened, reported_by}
 use Rattle.live_pump.specs.Kinds.{IsOfLinks}
 use Rattle.live_run.specs.Outcomes.{graver, outcome_of}
 use Rattle.live_run.specs.Sides.{IsOfNames}
@@ -51,10 +51,10 @@ pub record IsBeside (e : Event) : Type 0 where
   pub call : is_of_call e ≡ false
   pub shut : is_shutdown e ≡ false
 
-abbrev pub AreBeside : List (ℕ × Entry) → Type 0
-AreBeside own = AllByRecursion (λ p. IsBeside p.1.event) own
+abbrev pub EntriesAreBesideCalls : List (ℕ × Entry) → Type 0
+EntriesAreBesideCalls own = AllByRecursion (λ p. IsBeside p.1.event) own
 
--- what a worker beside the calls is there for: it keeps links open of a dialer that held this for them, where the dialer tells, or it looks a name up and tells its
+-- what a worker beside the calls is there for: it keeps links open of a dialer that held this for them, where the dialer reports, or it looks a name up and reports its
 -- addresses with this config
 pub data Keeper : Type 0 where
   OfLinks : Option (List (List ℕ)) → Keeper
@@ -64,7 +64,7 @@ pub data Keeper : Type 0 where
 abbrev pub KeepsAs : Keeper → List (ℕ × Entry) → Type 0
 KeepsAs (OfLinks held) own =
     AllByRecursion (λ p. IsOfLinks p.1.event) own
-    × ((coming : List (List ℕ)) → held ≡ Some coming → (link : ℕ) → IsFront (fold (told_by link) (record { tale = Unopened; coming = coming }) (entries_of own)).tale)
+    × ((coming : List (List ℕ)) → held ≡ Some coming → (link : ℕ) → IsPrefix (fold (reported_by link) (record { link_history = Unopened; coming = coming }) (entries_of own)).link_history)
 KeepsAs (OfNames config) own = AllByRecursion (λ p. IsOfNames config p.1.event) own
 
 -- the handle of such a worker
@@ -80,12 +80,12 @@ helds_of (OfNames config ∷ keepers) = helds_of keepers
 
 -- addresses of a name come with this config
 abbrev pub IsWithConfig : Option (List ℕ) → Keeper → Type 0
-IsWithConfig told (OfLinks held) = Unit {0}
-IsWithConfig told (OfNames config) = config ≡ told
+IsWithConfig reported (OfLinks held) = Unit {0}
+IsWithConfig reported (OfNames config) = config ≡ reported
 
 -- of the first dialers each has a worker that keeps links open, and what these held is so; addresses come with this config, from the workers and from the first handle,
--- which told of nothing else
-pub record AreGiven (held : List (Option (List (List ℕ)))) (config : Option (List ℕ)) (keepers : List Keeper) (seat : SeatSeen Entry) : Type 0 where
+-- which reported nothing else
+pub record DialersAreGiven (held : List (Option (List (List ℕ)))) (config : Option (List ℕ)) (keepers : List Keeper) (seat : SeatSeen Entry) : Type 0 where
   pub workers : ℕ
   pub links : helds_of keepers ≡ take workers held
   pub names : AllByRecursion (IsWithConfig config) keepers
@@ -134,18 +134,18 @@ abbrev pub IsClosing : Outcome → Option Entry → Type 0
 IsClosing o (Some e) = e.event ≡ event.Shutdown
 IsClosing o None = o ≡ outcome.Whole → ⊥
 
--- the Shutdown was posted behind this front, or that failed
+-- the Shutdown was posted after this prefix, or that failed
 pub record Shuts (o : Outcome) (before after : SeatSeen Entry) : Type 0 where
   pub lock : after.lock ≡ before.lock
   pub parts : after.parts ≡ before.parts
-  pub front : List Entry
+  pub prefix : List Entry
   pub closing : Option Entry
   pub is_closing : IsClosing o closing
-  pub sees : StartsWith front before.seen
-  pub seen : after.seen ≡ front ++ option_to_list closing
-  pub own : after.own ≡ before.own ++ places (length front) (option_to_list closing)
+  pub sees : StartsWith prefix before.seen
+  pub seen : after.seen ≡ prefix ++ option_to_list closing
+  pub own : after.own ≡ before.own ++ places (length prefix) (option_to_list closing)
 
--- The handle of a channel that was told its addresses or has a worker for its name, and from which one was split off for each worker
+-- The handle of a channel that was given its addresses or has a worker for its name, and from which one was split off for each worker
 -- beside the calls. None of its entries is of an application or a Shutdown
 pub record IsStarted (lock : LockId) (seats : List (SeatSeen Entry)) (seat : SeatSeen Entry) : Type 0 where
   pub lock_is : seat.lock ≡ lock
@@ -153,17 +153,17 @@ pub record IsStarted (lock : LockId) (seats : List (SeatSeen Entry)) (seat : Sea
   pub few : length seats ≤ 5
   pub fresh : AllByRecursion (IsFresh lock) seats
   pub stands : Stands seat.seen seat.own
-  pub beside : AreBeside seat.own
+  pub beside : EntriesAreBesideCalls seat.own
 
 -- A handle that had seen and made so much took in handles with these entries, and then posted the Shutdown
 pub record Closes (o : Outcome) (owns : List (List (ℕ × Entry))) (seen : List Entry) (own : List (ℕ × Entry)) (after : SeatSeen Entry) : Type 0 where
-  pub front : List Entry
+  pub prefix : List Entry
   pub closing : Option Entry
-  pub each : AllByRecursion (StandInOrder front) owns
+  pub each : AllByRecursion (StandInOrder prefix) owns
   pub is_closing : IsClosing o closing
-  pub sees : StartsWith front seen
-  pub shows : after.seen ≡ front ++ option_to_list closing
-  pub count : (x : ℕ) → times x after.own ≡ times x own + times_in x owns + times x (places (length front) (option_to_list closing))
+  pub sees : StartsWith prefix seen
+  pub shows : after.seen ≡ prefix ++ option_to_list closing
+  pub count : (x : ℕ) → times x after.own ≡ times x own + times_in x owns + times x (places (length prefix) (option_to_list closing))
 
 -- and then it took in those of the workers beside the calls
 pub record Leaves (o : Outcome) (keepers : List Keeper) (owns : List (List (ℕ × Entry))) (seen : List Entry) (own : List (ℕ × Entry)) (after : SeatSeen Entry) : Type 0 where
@@ -177,13 +177,13 @@ pub record Leaves (o : Outcome) (keepers : List Keeper) (owns : List (List (ℕ 
   pub takes : TakesIn shut others after
 
 -- the handle that a run leaves has every part. Before it took the others in, none of its entries was of an application or a Shutdown. Beside the calls were workers of
--- the first of these dialers, and addresses were told with this config
+-- the first of these dialers, and addresses were reported with this config
 pub record IsLeft (lock : LockId) (held : List (Option (List (List ℕ)))) (config : Option (List ℕ)) (o : Outcome) (owns : List (List (ℕ × Entry))) (seat : SeatSeen Entry) : Type 0 where
   pub lock_is : seat.lock ≡ lock
   pub parts : seat.parts ≡ 4294967296
   pub keepers : List Keeper
   pub start : SeatSeen Entry
-  pub given : AreGiven held config keepers start
+  pub given : DialersAreGiven held config keepers start
   pub stands : Stands start.seen start.own
-  pub beside : AreBeside start.own
+  pub beside : EntriesAreBesideCalls start.own
   pub leaves : Leaves o keepers owns start.seen start.own seat

@@ -3,4 +3,4 @@ pub mod Held
 pub mod Keeping
 pub mod Reported
 pub mod Sharing
-pub mod Told
+pub mod Report

@@ -2,7 +2,7 @@
 use Rattle.std.specs.Prelude.{◌≡◌, ◌⊎◌, ℕ, false, Option, Result, Ok, Err, List}
 use Rattle.grpc_base.specs.declared.event.Entry.{Entry}
 use Rattle.channel_core.specs.Core.{CoreSeen, ledger_in}
-use Rattle.gate_io.specs.Outside.{Appends, AppendsFront, Rises}
+use Rattle.gate_io.specs.Outside.{Appends, AppendsPrefix, Rises}
 use Rattle.script_text.specs.declared.report.ReportFault.{ReportFault}
 use Rattle.script_text.specs.declared.report.ReportFault.TheVariants as unwritten
 use Rattle.session_text.specs.Sessions.{run_text}
@@ -12,17 +12,17 @@ use Rattle.shared_channel.specs.Histories.{IsNearlyFull}
 use Rattle.shared_channel.specs.Running.{HasRun}
 use Rattle.turn_lock.specs.History.{Owns, SeatSeen, StartsWith}
 
--- a channel that is not spent, and whose journal is nearly full where the session is told to be full
+-- a channel that is not spent, and whose journal is nearly full where the session is reported to be full
 pub record IsReportable (r : Ran) (core : CoreSeen) : Type 0 where
   pub unspent : core.spent ≡ false
   pub full : r ≡ ran.Full → IsNearlyFull core.journal.entries
 
--- the report of a channel was written, or a front of it; where it can't be reported, nothing
-abbrev pub Tells : Ran → List ℕ → CoreSeen → Result Unit ReportFault → Option (List ℕ) → Option (List ℕ) → ℕ → ℕ → Type 0
-Tells r target core (Ok done) taken taken' faults faults' = IsReportable r core × Appends taken taken' (run_text r target core.journal (ledger_in core))
-Tells r target core (Err fault) taken taken' faults faults' =
+-- the report of a channel was written, or a prefix of it; where it can't be reported, nothing
+abbrev pub ReportsThat : Ran → List ℕ → CoreSeen → Result Unit ReportFault → Option (List ℕ) → Option (List ℕ) → ℕ → ℕ → Type 0
+ReportsThat r target core (Ok done) taken taken' faults faults' = IsReportable r core × Appends taken taken' (run_text r target core.journal (ledger_in core))
+ReportsThat r target core (Err fault) taken taken' faults faults' =
     ((fault ≡ unwritten.NoMemory) × (taken' ≡ taken))
-    ⊎ (IsReportable r core × AppendsFront taken taken' (run_text r target core.journal (ledger_in core)) × ((fault ≡ unwritten.Write) → Rises faults faults'))
+    ⊎ (IsReportable r core × AppendsPrefix taken taken' (run_text r target core.journal (ledger_in core)) × ((fault ≡ unwritten.Write) → Rises faults faults'))
 
 -- the text is the report of a channel that was new with the authority of the handle's lock and was given events, in a turn of the
 -- handle, which has then seen all of its history

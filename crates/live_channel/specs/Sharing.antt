@@ -1,4 +1,4 @@
--- Whose the entries of a journal are: those of the applications, each of one of them, and the Shutdown behind them.
+-- Whose the entries of a journal are: those of the applications, each of one of them, and the Shutdown after them.
 use Rattle.std.specs.Prelude.{◌≡◌, ◌≤◌, ℕ, ◌+◌, Bool, true, false, List, [], ◌∷◌, ◌++◌, Some, slice_get, length}
 use Rattle.grpc_base.specs.declared.event.Entry.{Entry}
 use Rattle.grpc_base.specs.declared.event.Event.{Event}
@@ -28,11 +28,11 @@ times_in x (own ∷ owns) = times x own + times_in x owns
 abbrev pub IsShutFirst : List Entry → Type 0
 IsShutFirst entries = (first : Entry) × (rest : List Entry) × (first.event ≡ event.Shutdown) × (entries ≡ first ∷ rest)
 
--- Each of these lists is of a front of the journal: no entry is of two of them, and each entry of an application is of one of them. Where
--- all went well a Shutdown stands next behind that front, and in any case nowhere else
-pub record SharesOut (r : Ran) (owns : List (List (ℕ × Entry))) (front rest entries : List Entry) : Type 0 where
-  pub parts : entries ≡ front ++ rest
+-- Each of these lists is of a prefix of the journal: no entry is of two of them, and each entry of an application is of one of them. Where
+-- all went well a Shutdown stands next after that prefix, and in any case nowhere else
+pub record SharesOut (r : Ran) (owns : List (List (ℕ × Entry))) (prefix rest entries : List Entry) : Type 0 where
+  pub parts : entries ≡ prefix ++ rest
   pub once : (x : ℕ) → times_in x owns ≤ 1
   pub only : (x : ℕ) (e : Entry) → slice_get entries x ≡ Some e → is_of_call e.event ≡ true → times_in x owns ≡ 1
   pub shut : r ≡ ran.Whole → IsShutFirst rest
-  pub alone : (x : ℕ) (e : Entry) → slice_get entries x ≡ Some e → e.event ≡ event.Shutdown → x ≡ length front
+  pub alone : (x : ℕ) (e : Entry) → slice_get entries x ≡ Some e → e.event ≡ event.Shutdown → x ≡ length prefix

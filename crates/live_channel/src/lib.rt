@@ -2,15 +2,15 @@
 // links, it is shut down, and its session is reported.
 #![tactic(auto)]
 
-mod bench;
 mod closing;
+mod context;
 mod linkers;
 mod opening;
 mod report;
 mod starting;
 
-pub use bench::{Bench, NETS};
 pub use closing::shut_down;
+pub use context::{NETS, WorkerContext};
 pub use linkers::{Linkers, close_links};
 pub use opening::{open_channel, ran_of};
 pub use report::report_channel;

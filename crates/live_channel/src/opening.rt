@@ -4,7 +4,7 @@ ghost use Rattle.std.specs.List.{AllByRecursion};
 ghost use Rattle.grpc_base.specs.declared.event.Event.TheVariants as event;
 ghost use Rattle.grpc_base.specs.declared.event.Reply.{Reply};
 ghost use Rattle.live_channel.specs.Handles.{IsFirstSeat};
-ghost use Rattle.live_channel.specs.Told.{IsToldFirst};
+ghost use Rattle.live_channel.specs.Report.{IsReportedFirst};
 ghost use Rattle.live_run.specs.declared.outcome.Outcome.TheVariants as outcome_is;
 ghost use Rattle.policy_rack.specs.Kinds.{are_ready};
 ghost use Rattle.resolver_core.specs.AnyTargets.{IsTarget, authority_of};
@@ -12,7 +12,7 @@ ghost use Rattle.session_text.specs.declared.ran.Ran.TheVariants as ran_is;
 ghost use Rattle.shared_channel.specs.Running.{origin_of};
 ghost use Rattle.turn_lock.specs.History.{Stands};
 
-use crate::bench::Bench;
+use crate::context::WorkerContext;
 use channel_core::ChannelCore;
 use gate_io::{Clock, Draws};
 use grpc_base::{AddressList, BoxedAddresses, Event, NoMemory, Octets, Post, PostError, Reply};
@@ -43,7 +43,7 @@ pub fn open_channel<P: Balancer>(
     Ok((channel, seat))
 }
 
-/// The event that tells the addresses of a target and the config of a script.
+/// The event that reports the addresses of a target and the config of a script.
 pub fn resolved(
     alloc: Global,
     addresses: AddressList,
@@ -56,28 +56,28 @@ pub fn resolved(
 }
 
 /// Posts the first event of a new channel. A new channel has room for it, so where it fails there is no memory.
-pub fn tell_first<R: Wait, P: Balancer, C: Clock, D: Draws>(
-    bench: &Bench<'_, P, R, C>,
+pub fn report_first<R: Wait, P: Balancer, C: Clock, D: Draws>(
+    context: &WorkerContext<'_, P, R, C>,
     seat: Seat<P>,
     draws: D,
     event: Event,
 ) -> Result<Seat<P>, NoMemory>
-    requires seat { IsFirstSeat bench.now.channel.now seat }
-    ensures lock { IfOk result (λ s. s.lock ≡ bench.now.channel.now) }
+    requires seat { IsFirstSeat context.now.channel.now seat }
+    ensures lock { IfOk result (λ s. s.lock ≡ context.now.channel.now) }
     ensures parts { IfOk result (λ s. s.parts ≡ 4294967296) }
-    ensures told { IfOk result (λ s. IsToldFirst event s.seen) }
+    ensures reported { IfOk result (λ s. IsReportedFirst event s.seen) }
     ensures own { IfOk result (λ s. Stands s.seen s.own × AllByRecursion (λ p. p.1.event ≡ event) s.own) }
 {
-    let mut post = bench.handle(seat, draws);
+    let mut post = context.handle(seat, draws);
     let came = post.post(event);
     let mut seat = post.into_seat();
     // The handle has every part, so what it then sees is all its own: its entry is the first.
-    bench.channel.connectivity(&mut seat);
-    told(came, seat)
+    context.channel.connectivity(&mut seat);
+    reported(came, seat)
 }
 
 /// The handle, where the post made an entry.
-fn told<P: Balancer>(came: Result<Reply, PostError>, seat: Seat<P>) -> Result<Seat<P>, NoMemory>
+fn reported<P: Balancer>(came: Result<Reply, PostError>, seat: Seat<P>) -> Result<Seat<P>, NoMemory>
     ensures { IfOk result (λ s. (s ≡ seat) × ((r : Reply) × (came ≡ Ok r))) }
 {
     match came {

@@ -5,7 +5,7 @@ use Rattle.std.proofs.lemmas.List.Elements.{recursion_from_All}
 use Rattle.grpc_base.specs.declared.event.Entry.{Entry}
 use Rattle.grpc_base.specs.declared.event.Event.TheVariants as event
 use Rattle.grpc_base.specs.declared.script.CallLine.{CallLine}
-use Rattle.live_pump.specs.Calls.{GoesOn, GoesOnFront, IsTake, LineFront, LinesFront, MakesLine, MakesLines, SendsAll}
+use Rattle.live_pump.specs.Calls.{GoesOn, GoesOnPrefix, IsTake, LinePrefix, LinesPrefix, MakesLine, MakesLines, SendsAll}
 use Rattle.live_pump.specs.Kinds.{AddsOnly}
 use Rattle.live_pump.proofs.KindLaws.{adds_none, adds_one, adds_then}
 use Rattle.live_run.specs.declared.outcome.Outcome.{Outcome}
@@ -46,26 +46,26 @@ lines_of_calls [] before after same = adds_none IsOfCall before after same
 lines_of_calls (line ∷ lines) before after (next, first, more) =
     adds_then IsOfCall before next after (line_of_calls line before next first) (lines_of_calls lines next after more)
 
-begun_of_calls : (line : CallLine) (call : ℕ) (before after : List Entry) → GoesOnFront line call before after → AddsOnly IsOfCall before after
+begun_of_calls : (line : CallLine) (call : ℕ) (before after : List Entry) → GoesOnPrefix line call before after → AddsOnly IsOfCall before after
 begun_of_calls line call before after (inl sends) = sends_of_calls call sends.sent before after sends.sends
 begun_of_calls line call before after (inr finished) =
     adds_then IsOfCall before finished.sent after (sends_of_calls call line.messages before finished.sent finished.sends)
     (adds_then IsOfCall finished.sent finished.finished after (adds_one IsOfCall (event.Finish call) finished.sent finished.finished finished.r refl finished.finish)
     (takes_of_calls call finished.finished after finished.takes.takes finished.takes.each finished.takes.made))
 
-front_of_calls : (line : CallLine) (before after : List Entry) → LineFront line before after → AddsOnly IsOfCall before after
-front_of_calls line before after (inl same) = adds_none IsOfCall before after same
-front_of_calls line before after (inr begun) =
+prefix_of_calls : (line : CallLine) (before after : List Entry) → LinePrefix line before after → AddsOnly IsOfCall before after
+prefix_of_calls line before after (inl same) = adds_none IsOfCall before after same
+prefix_of_calls line before after (inr begun) =
     adds_then IsOfCall before begun.begun after (adds_one IsOfCall (event.Begin line.request) before begun.begun begun.r refl begun.begin)
     (begun_of_calls line begun.call begun.begun after begun.goes_on)
 
-lines_front_of_calls : (lines : List CallLine) (before after : List Entry) → LinesFront lines before after → AddsOnly IsOfCall before after
-lines_front_of_calls lines before after front =
-    adds_then IsOfCall before front.next after (lines_of_calls front.whole before front.next front.makes) (front_of_calls front.line front.next after front.front)
+lines_prefix_of_calls : (lines : List CallLine) (before after : List Entry) → LinesPrefix lines before after → AddsOnly IsOfCall before after
+lines_prefix_of_calls lines before after prefix =
+    adds_then IsOfCall before prefix.next after (lines_of_calls prefix.whole before prefix.next prefix.makes) (prefix_of_calls prefix.line prefix.next after prefix.prefix)
 
-either_of_calls : (lines : List CallLine) (made : List Entry) → MakesLines lines [] made ⊎ LinesFront lines [] made → AddsOnly IsOfCall [] made
+either_of_calls : (lines : List CallLine) (made : List Entry) → MakesLines lines [] made ⊎ LinesPrefix lines [] made → AddsOnly IsOfCall [] made
 either_of_calls lines made (inl whole) = lines_of_calls lines [] made whole
-either_of_calls lines made (inr front) = lines_front_of_calls lines [] made front
+either_of_calls lines made (inr prefix) = lines_prefix_of_calls lines [] made prefix
 
 up_to_of_calls : (o : Outcome) (lines : List CallLine) (made : List Entry) → MakesUpTo o lines made → AddsOnly IsOfCall [] made
 up_to_of_calls outcome.Whole lines made makes = lines_of_calls lines [] made makes

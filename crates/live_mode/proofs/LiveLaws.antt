@@ -14,12 +14,12 @@ use Rattle.session_text.specs.declared.ran.Ran.{Ran}
 use Rattle.session_text.specs.declared.ran.Ran.TheVariants as ran
 use Rattle.live_run.specs.declared.outcome.Outcome.{Outcome}
 use Rattle.live_run.specs.declared.outcome.Outcome.TheVariants as outcome
-use Rattle.live_channel.specs.Handles.{AreGiven, IsStarted, Keeper, Splits, keepers_in, seats_in}
+use Rattle.live_channel.specs.Handles.{DialersAreGiven, IsStarted, Keeper, Splits, keepers_in, seats_in}
 use Rattle.live_run.specs.declared.link_job.LinkJob.{LinkJob}
 use Rattle.live_channel.specs.Reported.{ReportsOn}
-use Rattle.live_channel.specs.Told.{TellsTarget}
-use Rattle.live_channel.proofs.SeatLaws.{left_by, told_stays}
-use Rattle.live_mode.specs.Handles.{AreMade, LeavesCalls, busy}
+use Rattle.live_channel.specs.Report.{ReportsTarget}
+use Rattle.live_channel.proofs.SeatLaws.{left_by, reported_stays}
+use Rattle.live_mode.specs.Handles.{CallsAreMade, LeavesCalls, busy}
 use Rattle.live_mode.specs.Live.{EndsLiveFull, IsAnyLiveReport, IsLiveReport, IsLiveText, IsLived}
 use Rattle.live_mode.specs.Made.{worker_lines}
 use Rattle.live_mode.specs.Sides.{RunDone}
@@ -31,8 +31,8 @@ use Rattle.live_mode.proofs.CarriedLaws.{carries, come}
 -- ---- the report
 
 pub live_report : (policies : List PolicySeen) (held : List (Option (List (List ℕ)))) (r : Ran) (lock : LockId) (o : Outcome) (script : LiveScript) (groups : List (List CallLine)) (seat : SeatSeen Entry) (text : List ℕ) → lock.origin ≡ origin_of (authority_of script.value) policies
-    → TellsTarget script.value script.config seat.seen → (r ≡ ran.Whole → o ≡ outcome.Whole) → groups ≡ worker_lines script.calls.items → LeavesCalls lock held script.config o groups seat → ReportsOn r script.target seat text → IsLiveReport policies held r script text
-live_report policies held r lock o script groups seat text root told whole same left is =
+    → ReportsTarget script.value script.config seat.seen → (r ≡ ran.Whole → o ≡ outcome.Whole) → groups ≡ worker_lines script.calls.items → LeavesCalls lock held script.config o groups seat → ReportsOn r script.target seat text → IsLiveReport policies held r script text
+live_report policies held r lock o script groups seat text root reported whole same left is =
     let core : CoreSeen = is.0 in
     let session = session_at (authority_of script.value) policies core seat.lock.origin (ap (λ (l : LockId). l.origin) left.left.lock_is ∙ root) is.1 in
     record {
@@ -40,7 +40,7 @@ live_report policies held r lock o script groups seat text root told whole same 
       journal = core.journal;
       ledger = ledger_in core;
       session = session.1;
-      told = told_stays script.value script.config core.journal.entries seat.seen is.2 told;
+      reported = reported_stays script.value script.config core.journal.entries seat.seen is.2 reported;
       calls = carries r lock held script.config o script.calls.items groups seat core.journal.entries whole same left is.3 is.2;
       come = come lock held script.config o groups seat core.journal.entries left is.3 is.2;
       full = is.4;
@@ -56,19 +56,19 @@ seats_length (job ∷ jobs) seat_of = ap suc (seats_length jobs seat_of)
 
 -- what a run left of a handle of which others were split off before
 pub left_calls : {H N L D : Type 0} (seat_of : H → SeatSeen Entry) (coming : N → Option (List (List ℕ))) (lock : LockId) (held : List (Option (List (List ℕ)))) (config : Option (List ℕ)) (o : Outcome) (groups : List (List CallLine)) (linkers : Linkers H N L D) (calls : Callers H) (links others : List (SeatSeen Entry)) (seat mid out : SeatSeen Entry)
-    → IsStarted lock links seat → AreGiven held config (keepers_in coming linkers.jobs.items) seat → Splits seat others mid → seat_of calls.closer ≡ mid → map (λ j. j.lines.items) calls.jobs.items ≡ busy groups → length calls.jobs.items ≡ length others → length linkers.jobs.items ≡ length links → RunDone seat_of coming linkers calls out o
+    → IsStarted lock links seat → DialersAreGiven held config (keepers_in coming linkers.jobs.items) seat → Splits seat others mid → seat_of calls.closer ≡ mid → map (λ j. j.lines.items) calls.jobs.items ≡ busy groups → length calls.jobs.items ≡ length others → length linkers.jobs.items ≡ length links → RunDone seat_of coming linkers calls out o
     → LeavesCalls lock held config o groups out
 left_calls seat_of coming lock held config o groups linkers calls links others seat mid out started given splits same lines mine beside done = record {
   owns = done.owns;
-  makes = subst (λ (g : List (List CallLine)). AreMade o g done.owns) lines done.makes;
+  makes = subst (λ (g : List (List CallLine)). CallsAreMade o g done.owns) lines done.makes;
   left = left_by lock held config o (keepers_in coming linkers.jobs.items) done.owns links others seat mid (seat_of calls.closer) out given started splits same done.lock
       (done.parts ∙ ap (λ (n : ℕ). (seat_of calls.closer).parts + n + length linkers.jobs.items) mine ∙ ap (λ (n : ℕ). (seat_of calls.closer).parts + length others + n) beside) done.leaves;
 }
 
 -- and that of the whole run, of what the world said that its dialers hold
-pub left_at : {E : Type 0} (lock : LockId) (here held : List (Option (List (List ℕ)))) (config : Option (List ℕ)) (groups : List (List CallLine)) (keepers : List Keeper) (seat : SeatSeen Entry) (result : Result (SeatSeen Entry × Outcome) E) → here ≡ held → AreGiven here config keepers seat
-    → IfOk result (λ r. (h : List (Option (List (List ℕ)))) (c : Option (List ℕ)) → AreGiven h c keepers seat → LeavesCalls lock h c r.1 groups r.0) → IfOk result (λ r. LeavesCalls lock held config r.1 groups r.0)
-left_at lock here held config groups keepers seat (Ok r) same given left = left held config (subst (λ (l : List (Option (List (List ℕ)))). AreGiven l config keepers seat) same given)
+pub left_at : {E : Type 0} (lock : LockId) (here held : List (Option (List (List ℕ)))) (config : Option (List ℕ)) (groups : List (List CallLine)) (keepers : List Keeper) (seat : SeatSeen Entry) (result : Result (SeatSeen Entry × Outcome) E) → here ≡ held → DialersAreGiven here config keepers seat
+    → IfOk result (λ r. (h : List (Option (List (List ℕ)))) (c : Option (List ℕ)) → DialersAreGiven h c keepers seat → LeavesCalls lock h c r.1 groups r.0) → IfOk result (λ r. LeavesCalls lock held config r.1 groups r.0)
+left_at lock here held config groups keepers seat (Ok r) same given left = left held config (subst (λ (l : List (Option (List (List ℕ)))). DialersAreGiven l config keepers seat) same given)
 left_at lock here held config groups keepers seat (Err e) same given left = tt
 
 -- ---- the script

@@ -5,7 +5,7 @@ use Rattle.std.specs.Option.{option_to_list}
 use Rattle.grpc_base.specs.declared.event.Entry.{Entry}
 use Rattle.grpc_base.specs.declared.post.PostError.{PostError}
 use Rattle.grpc_base.specs.declared.script.CallLine.{CallLine}
-use Rattle.live_pump.specs.Calls.{LinesFront, MakesLines}
+use Rattle.live_pump.specs.Calls.{LinesPrefix, MakesLines}
 use Rattle.live_pump.specs.Pumps.{HandleSeen}
 use Rattle.live_run.specs.Outcomes.{MakesCalls, gravest}
 use Rattle.live_run.specs.Sides.{CallDone, seen_by}
@@ -30,8 +30,8 @@ use Rattle.live_mode.proofs.CarriedLaws.{all_worse, up_to_worse}
 
 made_up_to : (o : Outcome) (lines : List CallLine) (before after : HandleSeen) → before.made ≡ [] → MakesCalls lines before after o → MakesUpTo o lines after.made
 made_up_to outcome.Whole lines before after none makes = subst (λ (l : List Entry). MakesLines lines l after.made) none makes.0
-made_up_to outcome.Full lines before after none makes = inr (subst (λ (l : List Entry). LinesFront lines l after.made) none makes.0)
-made_up_to outcome.NoMemory lines before after none makes = inr (subst (λ (l : List Entry). LinesFront lines l after.made) none makes.0)
+made_up_to outcome.Full lines before after none makes = inr (subst (λ (l : List Entry). LinesPrefix lines l after.made) none makes.0)
+made_up_to outcome.NoMemory lines before after none makes = inr (subst (λ (l : List Entry). LinesPrefix lines l after.made) none makes.0)
 
 worked_one : {H : Type 0} (seat_of : H → SeatSeen Entry) (errors : H → ℕ) (last : H → Option PostError) (lock : LockId) (o : Outcome) (before after : CallJob H)
     → CallDone (seen_by (λ h. entries_of (seat_of h).own) errors last) (λ h. share_of (seat_of h)) before after → (o ≡ outcome.Whole → after.outcome ≡ outcome.Whole) → IsFresh lock (seat_of before.post)
@@ -128,7 +128,7 @@ run_done seat_of coming links l calls c seat o keeps makes fresh lock parts leav
 pub two_popped : {X : Type 0} (items mid rest : List X) (first last : Option X) (a b : X) → length items ≡ 2 → items ≡ mid ++ option_to_list last → mid ≡ rest ++ option_to_list first → last ≡ Some b → first ≡ Some a → items ≡ a ∷ b ∷ []
 two_popped {X} items mid rest first last a b long split split' is is' =
     let all : items ≡ (rest ++ a ∷ []) ++ b ∷ [] = split ∙ ap (λ (o : Option X). mid ++ option_to_list o) is ∙ ap (λ (l : List X). l ++ b ∷ []) (split' ∙ ap (λ (o : Option X). rest ++ option_to_list o) is') in
-    all ∙ ap (λ (l : List X). (l ++ a ∷ []) ++ b ∷ []) (none rest (let size = ap length all ∙ length-append (rest ++ a ∷ []) (b ∷ []) in let front = length-append rest (a ∷ []) in omega (arith, long, size, front)))
+    all ∙ ap (λ (l : List X). (l ++ a ∷ []) ++ b ∷ []) (none rest (let size = ap length all ∙ length-append (rest ++ a ∷ []) (b ∷ []) in let prefix = length-append rest (a ∷ []) in omega (arith, long, size, prefix)))
   where
     none : {X : Type 0} (l : List X) → length l ≡ 0 → l ≡ []
     none [] empty = refl

@@ -7,7 +7,7 @@ use Rattle.live_run.specs.declared.outcome.Outcome.{Outcome}
 use Rattle.turn_lock.specs.History.{SeatSeen}
 use Rattle.live_channel.specs.Handles.{Closes, IsFresh, Leaves, keepers_in}
 use Rattle.live_channel.specs.Keeping.{KeepsDone}
-use Rattle.live_mode.specs.Handles.{AreMade}
+use Rattle.live_mode.specs.Handles.{CallsAreMade}
 use Rattle.live_mode.specs.declared.sides.Callers.{Callers}
 use Rattle.live_channel.specs.declared.linkers.Linkers.{Linkers}
 use Rattle.live_mode.specs.declared.sides.Side.{Side}
@@ -23,7 +23,7 @@ pub record MakesDone {H : Type 0} (seat_of : H → SeatSeen Entry) (before after
   pub lock : (seat_of after.closer).lock ≡ (seat_of before.closer).lock
   pub parts : (seat_of after.closer).parts ≡ (seat_of before.closer).parts + length before.jobs.items
   pub owns : List (List (ℕ × Entry))
-  pub makes : AreMade after.outcome (map (λ j. j.lines.items) before.jobs.items) owns
+  pub makes : CallsAreMade after.outcome (map (λ j. j.lines.items) before.jobs.items) owns
   pub closes : Closes after.outcome owns (seat_of before.closer).seen (seat_of before.closer).own (seat_of after.closer)
 
 abbrev pub SideDone : {H N L D : Type 0} → (H → SeatSeen Entry) → (N → Option (List (List ℕ))) → Side H N L D → Side H N L D → Type 0
@@ -36,5 +36,5 @@ pub record RunDone {H N L D : Type 0} (seat_of : H → SeatSeen Entry) (coming :
   pub lock : seat.lock ≡ (seat_of calls.closer).lock
   pub parts : seat.parts ≡ (seat_of calls.closer).parts + length calls.jobs.items + length links.jobs.items
   pub owns : List (List (ℕ × Entry))
-  pub makes : AreMade o (map (λ j. j.lines.items) calls.jobs.items) owns
+  pub makes : CallsAreMade o (map (λ j. j.lines.items) calls.jobs.items) owns
   pub leaves : Leaves o (keepers_in coming links.jobs.items) owns (seat_of calls.closer).seen (seat_of calls.closer).own seat

@@ -1,8 +1,8 @@
 // The mode `live`.
 ghost use Rattle.std.specs.Prelude.{◌≡◌, ◌⊎◌, map, true};
 ghost use Rattle.gate_io.specs.Outside.{Rises};
-ghost use Rattle.live_mode.specs.Live.{EndsLiveFull, IsAnyLiveReport, IsLiveReport, IsLiveText, IsLived, StopsInCalls, TellsBadCall};
-ghost use Rattle.session_text.specs.Writing.{WritesAll, WritesFront, WritesSome};
+ghost use Rattle.live_mode.specs.Live.{EndsLiveFull, IsAnyLiveReport, IsLiveReport, IsLiveText, IsLived, StopsInCalls, ReportsBadCall};
+ghost use Rattle.session_text.specs.Writing.{WritesAll, WritesPrefix, WritesSome};
 ghost use Rattle.session_text.specs.declared.ran.Ran.TheVariants as ran_is;
 ghost use Rattle.policy_rack.specs.Kinds.{are_ready};
 ghost use Rattle.resolver_core.specs.AnyTargets.{IsTarget};
@@ -13,7 +13,7 @@ use dns_watch::NamedWorld;
 use gate_io::{Sink, Source};
 use lb_policy::Balancer;
 use script_input::{InputFault, LiveScript, read_live};
-use session_text::{Ran, tell_bad, unwritten};
+use session_text::{Ran, report_bad, unwritten};
 use std::alloc::Global;
 use std::sync::Wait;
 use std::thread::Threads;
@@ -26,8 +26,8 @@ use std::thread::Threads;
 /// | 0 | each call was made to its end | the report |
 /// | 3 | a line of the script is bad | `fault line <n> cause <c>` |
 /// | 4 | a read failed before the input's end and its first bad line | nothing |
-/// | 5 | a write failed | a front of the output |
-/// | 6 | out of memory | nothing, or a front of the output |
+/// | 5 | a write failed | a prefix of the output |
+/// | 6 | out of memory | nothing, or a prefix of the output |
 /// | 7 | the session had no room for an event | the report, and `fault session full` |
 pub fn run_live<R: Threads + Wait + Sync, P: Balancer + Send, S: Source, K: Sink, W: NamedWorld>(
     rt: &R,
@@ -40,9 +40,9 @@ pub fn run_live<R: Threads + Wait + Sync, P: Balancer + Send, S: Source, K: Sink
 ) -> u8
     requires { are_ready (map P.seen policies.items) ≡ true }
     ensures done { result ≡ 0 → WritesAll (IsLived (map P.seen policies.items) (W.held world) (S.left script.old) (S.left script.new)) (K.taken report.old) (K.taken report.new) }
-    ensures line { result ≡ 3 → WritesAll (TellsBadCall (S.left script.old) (S.left script.new)) (K.taken report.old) (K.taken report.new) }
+    ensures line { result ≡ 3 → WritesAll (ReportsBadCall (S.left script.old) (S.left script.new)) (K.taken report.old) (K.taken report.new) }
     ensures reading { result ≡ 4 → StopsInCalls (S.left script.old) (S.left script.new) (K.taken report.old) (K.taken report.new) (S.faults script.old) (S.faults script.new) }
-    ensures writing { result ≡ 5 → Rises (K.faults report.old) (K.faults report.new) × WritesFront (IsLiveText (map P.seen policies.items) (W.held world) (S.left script.old) (S.left script.new)) (K.taken report.old) (K.taken report.new) }
+    ensures writing { result ≡ 5 → Rises (K.faults report.old) (K.faults report.new) × WritesPrefix (IsLiveText (map P.seen policies.items) (W.held world) (S.left script.old) (S.left script.new)) (K.taken report.old) (K.taken report.new) }
     ensures memory { result ≡ 6 → WritesSome (IsLiveText (map P.seen policies.items) (W.held world) (S.left script.old) (S.left script.new)) (K.taken report.old) (K.taken report.new) }
     ensures full { result ≡ 7 → WritesAll (EndsLiveFull (map P.seen policies.items) (W.held world) (S.left script.old) (S.left script.new)) (K.taken report.old) (K.taken report.new) }
     ensures known { (result ≡ 0) ⊎ (result ≡ 3) ⊎ (result ≡ 4) ⊎ (result ≡ 5) ⊎ (result ≡ 6) ⊎ (result ≡ 7) }
@@ -51,7 +51,7 @@ pub fn run_live<R: Threads + Wait + Sync, P: Balancer + Send, S: Source, K: Sink
         Ok(read) => live_script(rt, alloc, settings, policies, world, read, report),
         Err(fault) => match fault {
             InputFault::Empty => unreachable!(),
-            InputFault::BadLine { line, cause } => tell_bad(alloc, line, cause, report),
+            InputFault::BadLine { line, cause } => report_bad(alloc, line, cause, report),
             InputFault::ReadFailed => 4,
             InputFault::NoMemory => 6,
         },
@@ -72,7 +72,7 @@ fn live_script<R: Threads + Wait + Sync, P: Balancer + Send, K: Sink, W: NamedWo
     requires target { IsTarget script.value }
     ensures done { result ≡ 0 → WritesAll (IsLiveReport (map P.seen policies.items) (W.held world) ran_is.Whole script) (K.taken report.old) (K.taken report.new) }
     ensures full { result ≡ 7 → WritesAll (IsLiveReport (map P.seen policies.items) (W.held world) ran_is.Full script) (K.taken report.old) (K.taken report.new) }
-    ensures writing { result ≡ 5 → Rises (K.faults report.old) (K.faults report.new) × WritesFront (IsAnyLiveReport (map P.seen policies.items) (W.held world) script) (K.taken report.old) (K.taken report.new) }
+    ensures writing { result ≡ 5 → Rises (K.faults report.old) (K.faults report.new) × WritesPrefix (IsAnyLiveReport (map P.seen policies.items) (W.held world) script) (K.taken report.old) (K.taken report.new) }
     ensures memory { result ≡ 6 → WritesSome (IsAnyLiveReport (map P.seen policies.items) (W.held world) script) (K.taken report.old) (K.taken report.new) }
     ensures known { (result ≡ 0) ⊎ (result ≡ 5) ⊎ (result ≡ 6) ⊎ (result ≡ 7) }
 {

@@ -2,12 +2,12 @@
 ghost use Rattle.std.specs.Prelude.{◌≡◌, ◌≤◌, IfOk, OnErr, Err, map, true, length};
 ghost use Rattle.gate_io.specs.Outside.{Rises};
 ghost use Rattle.live_channel.specs.Handles.{IsFirstSeat};
-ghost use Rattle.live_channel.specs.Told.{TellsTarget};
+ghost use Rattle.live_channel.specs.Report.{ReportsTarget};
 ghost use Rattle.live_mode.specs.Live.{IsAnyLiveReport, IsLiveReport};
 ghost use Rattle.live_mode.specs.Handles.{LeavesCalls};
 ghost use Rattle.policy_rack.specs.Kinds.{are_ready};
 ghost use Rattle.resolver_core.specs.AnyTargets.{IsTarget};
-ghost use Rattle.session_text.specs.Writing.{WritesAll, WritesFront, WritesSome};
+ghost use Rattle.session_text.specs.Writing.{WritesAll, WritesPrefix, WritesSome};
 
 use crate::settings::LiveSettings;
 use crate::start::run_calls;
@@ -15,7 +15,7 @@ use dns_watch::NamedWorld;
 use gate_io::{Sink, World};
 use grpc_base::{CallLine, NoMemory, Octets};
 use lb_policy::Balancer;
-use live_channel::{Bench, open_channel, ran_of, report_channel, start_links};
+use live_channel::{WorkerContext, open_channel, ran_of, report_channel, start_links};
 use live_run::{Outcome, by_worker};
 use resolver_core::Target;
 use script_input::LiveScript;
@@ -27,7 +27,7 @@ use std::sync::Wait;
 use std::thread::Threads;
 
 /// Runs the calls of a live script over this world with these policies, and writes the report of the channel's session; where the
-/// session had no room for an event, a line behind it says so. May never return.
+/// session had no room for an event, a line after it says so. May never return.
 pub fn report_live<R: Threads + Wait + Sync, P: Balancer + Send, K: Sink, W: NamedWorld>(
     rt: &R,
     alloc: Global,
@@ -41,7 +41,7 @@ pub fn report_live<R: Threads + Wait + Sync, P: Balancer + Send, K: Sink, W: Nam
     requires target { IsTarget script.value }
     ensures ok { IfOk result (λ ran. WritesAll (IsLiveReport (map P.seen policies.items) (W.held world) ran script) (K.taken report.old) (K.taken report.new)) }
     ensures err { OnErr result (WritesSome (IsAnyLiveReport (map P.seen policies.items) (W.held world) script) (K.taken report.old) (K.taken report.new)) }
-    ensures write { (result ≡ Err ReportFault.Write) → Rises (K.faults report.old) (K.faults report.new) × WritesFront (IsAnyLiveReport (map P.seen policies.items) (W.held world) script) (K.taken report.old) (K.taken report.new) }
+    ensures write { (result ≡ Err ReportFault.Write) → Rises (K.faults report.old) (K.faults report.new) × WritesPrefix (IsAnyLiveReport (map P.seen policies.items) (W.held world) script) (K.taken report.old) (K.taken report.new) }
 {
     let LiveScript {
         target,
@@ -76,7 +76,7 @@ fn run_world<R: Threads + Wait + Sync, P: Balancer + Send, W: NamedWorld>(
     requires seat { IsFirstSeat channel.now seat }
     requires few { length groups.items ≤ 16 }
     ensures left { IfOk result (λ r. LeavesCalls channel.now (W.held world) config r.1 (map (λ g. g.items) groups.items) r.0) }
-    ensures told { IfOk result (λ r. TellsTarget target config r.0.seen) }
+    ensures reported { IfOk result (λ r. ReportsTarget target config r.0.seen) }
 {
     let lookup = world.lookup();
     let (clock, mut draws, dialers) = world.parts(settings.seed);
@@ -85,7 +85,7 @@ fn run_world<R: Threads + Wait + Sync, P: Balancer + Send, W: NamedWorld>(
         nets,
         keep,
     } = settings;
-    let bench = Bench {
+    let context = WorkerContext {
         rt,
         alloc,
         channel,
@@ -93,6 +93,6 @@ fn run_world<R: Threads + Wait + Sync, P: Balancer + Send, W: NamedWorld>(
         nets,
         keep,
     };
-    let (seat, links) = start_links(&bench, seat, &mut draws, dialers, lookup, target, config)?;
-    run_calls(&bench, seat, draws, groups, links)
+    let (seat, links) = start_links(&context, seat, &mut draws, dialers, lookup, target, config)?;
+    run_calls(&context, seat, draws, groups, links)
 }

@@ -24,7 +24,7 @@ use std::alloc::Global;
 use std::sync::Wait;
 use std::thread::{Threads, for_each_mut};
 
-/// The workers that make calls, and the handle through which the channel is shut down behind them.
+/// The workers that make calls, and the handle through which the channel is shut down after them.
 #[derive(Drop)]
 pub struct Callers<H> {
     pub jobs: Vec<CallJob<H>>,
@@ -35,8 +35,8 @@ pub struct Callers<H> {
 impl<P: Balancer + Send, R: Threads + Wait + Sync, C: Clock, D: Draws> Callers<
     ChannelSeat<'_, P, R, C, D>,
 > {
-    /// Makes the calls, takes in the handles of their workers, and shuts the channel down: behind all entries that the closer then
-    /// has seen, so behind those of the calls.
+    /// Makes the calls, takes in the handles of their workers, and shuts the channel down: after all entries that the closer then
+    /// has seen, so after those of the calls.
     fn make(&mut self, rt: &R)
         requires fresh { AllByRecursion (IsFresh self.old.closer.seat.lock) (map (λ j. j.post.seat) self.old.jobs.items) }
         ensures { MakesDone (λ h. h.seat) self.old self.new }
@@ -167,7 +167,7 @@ fn sides_of<H: Drop, N: Drop, L: Drop, D: Drop>(
     Ok(sides)
 }
 
-/// Runs the calls beside the workers that keep links open or look a name up, and shuts the channel down behind the calls; where there
+/// Runs the calls beside the workers that keep links open or look a name up, and shuts the channel down after the calls; where there
 /// are none, before those workers start. Gives back the handle through which it was shut down, which took in those of all workers. May
 /// never return.
 pub fn run_sides<

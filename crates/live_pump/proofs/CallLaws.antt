@@ -6,7 +6,7 @@ use Rattle.grpc_base.specs.declared.event.Entry.{Entry}
 use Rattle.grpc_base.specs.declared.event.Event.TheVariants as event
 use Rattle.grpc_base.specs.declared.event.Reply.{Reply}
 use Rattle.grpc_base.specs.declared.script.CallLine.{CallLine}
-use Rattle.live_pump.specs.Calls.{GoesOn, GoesOnFront, IsTake, LineFront, LinesFront, MakesLine, MakesLines, SendsAll, SendsFront, TakesFront, call_of, ends_takes}
+use Rattle.live_pump.specs.Calls.{GoesOn, GoesOnPrefix, IsTake, LinePrefix, LinesPrefix, MakesLine, MakesLines, SendsAll, SendsPrefix, TakesPrefix, call_of, ends_takes}
 
 -- takes that are not the end, and one more
 pub takes_more : (call : ℕ) (start now next takes : List Entry) (r : Reply) → All (IsTake call) takes → now ≡ start ++ takes → AddsEntry now next (event.Take call) r → false ≡ ends_takes r
@@ -39,25 +39,25 @@ lines_more (first ∷ done) line start here next so_far made = (so_far.0, so_far
 pub parts_more : {X : Type 0} (all done rest later : List X) (x : X) → all ≡ done ++ rest → rest ≡ x ∷ later → all ≡ (done ++ x ∷ []) ++ later
 parts_more {X} all done rest later x parts next = parts ∙ ap (λ (l : List X). done ++ l) next ∙ sym (append_assoc done (x ∷ []) later)
 
-pub line_begun : (line : CallLine) (call : ℕ) (before begun after : List Entry) (r : Reply) → AddsEntry before begun (event.Begin line.request) r → Some call ≡ call_of r → GoesOnFront line call begun after → LineFront line before after
-line_begun line call before begun after r begin number front = inr (record { call = call; begun = begun; r = r; number = sym number; begin = begin; goes_on = front })
+pub line_begun : (line : CallLine) (call : ℕ) (before begun after : List Entry) (r : Reply) → AddsEntry before begun (event.Begin line.request) r → Some call ≡ call_of r → GoesOnPrefix line call begun after → LinePrefix line before after
+line_begun line call before begun after r begin number prefix = inr (record { call = call; begun = begun; r = r; number = sym number; begin = begin; goes_on = prefix })
 
 -- a Send failed
-pub sends_failed : (call : ℕ) (messages done rest : List (List ℕ)) (start here after : List Entry) → messages ≡ done ++ rest → SendsAll call done start here → after ≡ here → SendsFront call messages start after
+pub sends_failed : (call : ℕ) (messages done rest : List (List ℕ)) (start here after : List Entry) → messages ≡ done ++ rest → SendsAll call done start here → after ≡ here → SendsPrefix call messages start after
 sends_failed call messages done rest start here after parts so_far same = record { sent = done; unsent = rest; parts = parts; sends = subst (λ (l : List Entry). SendsAll call done start l) (sym same) so_far }
 
 -- the Finish failed
-pub finish_failed : (line : CallLine) (call : ℕ) (before sent after : List Entry) → SendsAll call line.messages before sent → after ≡ sent → GoesOnFront line call before after
+pub finish_failed : (line : CallLine) (call : ℕ) (before sent after : List Entry) → SendsAll call line.messages before sent → after ≡ sent → GoesOnPrefix line call before after
 finish_failed line call before sent after sends same = inl (sends_failed call line.messages line.messages [] before sent after (sym (append-nil line.messages)) sends same)
 
 -- a Take failed
-pub takes_failed : (line : CallLine) (call : ℕ) (before sent finished after : List Entry) (r : Reply) → SendsAll call line.messages before sent → AddsEntry sent finished (event.Finish call) r → TakesFront call finished after → GoesOnFront line call before after
+pub takes_failed : (line : CallLine) (call : ℕ) (before sent finished after : List Entry) (r : Reply) → SendsAll call line.messages before sent → AddsEntry sent finished (event.Finish call) r → TakesPrefix call finished after → GoesOnPrefix line call before after
 takes_failed line call before sent finished after r sends finish takes = inr (record { sent = sent; finished = finished; r = r; sends = sends; finish = finish; takes = takes })
 
 -- a line failed
-pub lines_failed : (lines done rest later : List CallLine) (line : CallLine) (start here after : List Entry) → lines ≡ done ++ rest → rest ≡ line ∷ later → MakesLines done start here → LineFront line here after → LinesFront lines start after
-lines_failed lines done rest later line start here after parts next so_far front =
-    record { whole = done; line = line; later = later; next = here; parts = parts ∙ ap (λ (l : List CallLine). done ++ l) next; makes = so_far; front = front }
+pub lines_failed : (lines done rest later : List CallLine) (line : CallLine) (start here after : List Entry) → lines ≡ done ++ rest → rest ≡ line ∷ later → MakesLines done start here → LinePrefix line here after → LinesPrefix lines start after
+lines_failed lines done rest later line start here after parts next so_far prefix =
+    record { whole = done; line = line; later = later; next = here; parts = parts ∙ ap (λ (l : List CallLine). done ++ l) next; makes = so_far; prefix = prefix }
 
 -- nothing is left
 pub sends_done : (call : ℕ) (messages done rest : List (List ℕ)) (start here : List Entry) → messages ≡ done ++ rest → rest ≡ [] → SendsAll call done start here → SendsAll call messages start here

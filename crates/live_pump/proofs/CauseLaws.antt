@@ -80,7 +80,7 @@ pumps eyes before link after link_after answer (inr (inr w)) =
     (drains eyes link.link w.writes.0 link.output link_after.output (eyes.handle before.post) (eyes.handle w.wrote) _ w.writes.2)
     (then_too eyes (eyes.handle w.wrote) (eyes.handle w.read) (eyes.handle after.post)
     (reads eyes link.link link.input link_after.input (eyes.handle w.wrote) (eyes.handle w.read) _ w.reads)
-    (asks eyes link.link w.read w.told after.post after.tender answer w.asks))
+    (asks eyes link.link w.read w.reported after.post after.tender answer w.asks))
 
 turns : {P T I O : Type 0} (eyes : Eyes P T I O) (kept links : List (OpenLink I O)) (before after : Site P T) (left : List (OpenLink I O)) (end : Option PostError) → TurnsLinks eyes kept before links after left end → Makes eyes (eyes.handle before.post) (eyes.handle after.post)
 turns {P} {T} eyes kept [] before after left end done = same eyes (eyes.handle before.post) (eyes.handle after.post) (ap (λ (s : Site P T). eyes.handle s.post) done.0)

@@ -1,4 +1,4 @@
--- Entries of a kind that are added behind one another.
+-- Entries of a kind that are added after one another.
 use Rattle.std.proofs.Common.{◌≡◌, List, [], ◌∷◌, ◌++◌, sym, ap, subst, ◌∙◌, append_assoc, append-nil}
 use Rattle.std.specs.List.{AllByRecursion}
 use Rattle.grpc_base.specs.Posts.{AddsEntry}

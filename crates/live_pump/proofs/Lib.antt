@@ -1,8 +1,8 @@
 pub mod CallLaws
 pub mod CauseLaws
 pub mod DialLaws
-pub mod FrontLaws
-pub mod FrontLists
+pub mod PrefixLaws
+pub mod PrefixLists
 pub mod HandleLaws
 pub mod KindLaws
 pub mod PumpLaws

@@ -6,7 +6,7 @@ use Rattle.grpc_base.specs.declared.tender.TendTurn.{TendTurn}
 use Rattle.live_pump.specs.Dials.{DialerSeen}
 use Rattle.live_pump.specs.Pumps.{HandleSeen, OutSeen}
 use Rattle.live_pump.specs.Runs.{Closes, ClosesUnless, Eyes, KeepsDialled, Reads, RoundOf, RoundsOn, RunsTo, Site, Stand, TenderSeen, TurnsLink, TurnsLinks, Writes, error_of, is_given_up}
-use Rattle.live_pump.specs.Workers.{Tells, is_going}
+use Rattle.live_pump.specs.Workers.{ReportsThat, is_going}
 use Rattle.live_pump.specs.declared.dial.DialTurn.{DialTurn}
 use Rattle.live_pump.specs.declared.dial.DialTurn.TheVariants as turn
 use Rattle.live_pump.specs.declared.link_turn.OpenLink.{OpenLink}
@@ -32,9 +32,9 @@ pub turned_on : {P T I O : Type 0} (eyes : Eyes P T I O) (links : List (OpenLink
 turned_on {P} {T} {I} {O} eyes links at link turned answer before next after left end inside is turn on later =
     let first : drop at links ≡ link ∷ drop (at + 1) links = drop_more links at link inside ∙ ap (λ (k : OpenLink I O). k ∷ drop (at + 1) links) (sym is) in
     let kept : take (at + 1) (slice_set links at turned) ≡ take at links ++ turned ∷ [] = take_more_set links at turned inside in
-    let behind : drop (at + 1) (slice_set links at turned) ≡ drop (at + 1) links = drop-set-lt (at + 1) links at turned (omega arith) in
+    let afterwards : drop (at + 1) (slice_set links at turned) ≡ drop (at + 1) links = drop-set-lt (at + 1) links at turned (omega arith) in
     let rest = subst (λ (k : List (OpenLink I O)). TurnsLinks eyes k next (drop (at + 1) links) after left end) kept
-    (subst (λ (k : List (OpenLink I O)). TurnsLinks eyes (take (at + 1) (slice_set links at turned)) next k after left end) behind later) in
+    (subst (λ (k : List (OpenLink I O)). TurnsLinks eyes (take (at + 1) (slice_set links at turned)) next k after left end) afterwards later) in
     subst (λ (k : List (OpenLink I O)). TurnsLinks eyes (take at links) before k after left end) (sym first) (next, turned, answer, turn, inl (on, rest))
 
 -- the link that is next is given up
@@ -45,9 +45,9 @@ pub turned_off : {P T I O : Type 0} (eyes : Eyes P T I O) (links fewer : List (O
 turned_off {P} {T} {I} {O} eyes links fewer at to link turned answer before next after left end inside is turn off without here later_there =
     let later = subst (λ (n : ℕ). TurnsLinks eyes (take n fewer) next (drop n fewer) after left end) here later_there in
     let first : drop at links ≡ link ∷ drop (at + 1) links = drop_more links at link inside ∙ ap (λ (k : OpenLink I O). k ∷ drop (at + 1) links) (sym is) in
-    let front : take at (slice_set links at turned) ≡ take at links = take-set links at turned in
-    let behind : drop (at + 1) (slice_set links at turned) ≡ drop (at + 1) links = drop-set-lt (at + 1) links at turned (omega arith) in
-    let all : fewer ≡ take at links ++ drop (at + 1) links = without ∙ ap (λ (k : List (OpenLink I O)). k ++ drop (at + 1) (slice_set links at turned)) front ∙ ap (λ (k : List (OpenLink I O)). take at links ++ k) behind in
+    let prefix : take at (slice_set links at turned) ≡ take at links = take-set links at turned in
+    let afterwards : drop (at + 1) (slice_set links at turned) ≡ drop (at + 1) links = drop-set-lt (at + 1) links at turned (omega arith) in
+    let all : fewer ≡ take at links ++ drop (at + 1) links = without ∙ ap (λ (k : List (OpenLink I O)). k ++ drop (at + 1) (slice_set links at turned)) prefix ∙ ap (λ (k : List (OpenLink I O)). take at links ++ k) afterwards in
     let long : length (take at links) ≡ at = length-take-le at links (omega arith) in
     let kept : take at fewer ≡ take at links = ap (λ (k : List (OpenLink I O)). take at k) all ∙ take_at (take at links) (drop (at + 1) links) at long in
     let to_come : drop at fewer ≡ drop (at + 1) links = ap (λ (k : List (OpenLink I O)). drop at k) all ∙ drop_at (take at links) (drop (at + 1) links) at long in
@@ -90,12 +90,12 @@ fails_with (pumped.Gone r) error is = absurd (let no : ⊥ = (cc) in no)
 fails_with (pumped.Failed e) error is = let same_error : e ≡ error = (cc) in ap (λ (x : PostError). pumped.Failed x) same_error
 fails_with pumped.Shut error is = absurd (let no : ⊥ = (cc) in no)
 
-pub given_up_tells : (before after : HandleSeen) (a : Pumped) → is_given_up a ≡ true → Tells before after a → after.errors ≡ before.errors
-given_up_tells before after pumped.Going up tells = tells
-given_up_tells before after pumped.Lost up tells = tells
-given_up_tells before after (pumped.Gone r) up tells = tells
-given_up_tells before after (pumped.Failed e) up tells = absurd (let no : ⊥ = (cc) in no)
-given_up_tells before after pumped.Shut up tells = tells
+pub given_up_reports : (before after : HandleSeen) (a : Pumped) → is_given_up a ≡ true → ReportsThat before after a → after.errors ≡ before.errors
+given_up_reports before after pumped.Going up reports_that = reports_that
+given_up_reports before after pumped.Lost up reports_that = reports_that
+given_up_reports before after (pumped.Gone r) up reports_that = reports_that
+given_up_reports before after (pumped.Failed e) up reports_that = absurd (let no : ⊥ = (cc) in no)
+given_up_reports before after pumped.Shut up reports_that = reports_that
 
 -- what is written where the link goes on
 pub writes_on : {P T I O : Type 0} (eyes : Eyes P T I O) (link : ℕ) (before : P) (out : O) (after : P) (out_after : O) (answer : Pumped) → is_going answer ≡ true → Writes eyes link before out after out_after answer → Writes eyes link before out after out_after pumped.Going

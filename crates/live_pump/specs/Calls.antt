@@ -69,15 +69,15 @@ abbrev pub MakesLines : List CallLine → List Entry → List Entry → Type 0
 MakesLines [] before after = after ≡ before
 MakesLines (line ∷ lines) before after = (next : List Entry) × MakesLine line before next × MakesLines lines next after
 
--- a front of these messages was sent
-pub record SendsFront (call : ℕ) (messages : List (List ℕ)) (before after : List Entry) : Type 0 where
+-- a prefix of these messages was sent
+pub record SendsPrefix (call : ℕ) (messages : List (List ℕ)) (before after : List Entry) : Type 0 where
   pub sent : List (List ℕ)
   pub unsent : List (List ℕ)
   pub parts : messages ≡ sent ++ unsent
   pub sends : SendsAll call sent before after
 
 -- takes of a call, none of which ends them
-pub record TakesFront (call : ℕ) (before after : List Entry) : Type 0 where
+pub record TakesPrefix (call : ℕ) (before after : List Entry) : Type 0 where
   pub takes : List Entry
   pub each : All (IsTake call) takes
   pub made : after ≡ before ++ takes
@@ -89,31 +89,31 @@ pub record IsFinished (line : CallLine) (call : ℕ) (before after : List Entry)
   pub r : Reply
   pub sends : SendsAll call line.messages before sent
   pub finish : AddsEntry sent finished (event.Finish call) r
-  pub takes : TakesFront call finished after
+  pub takes : TakesPrefix call finished after
 
--- a front of what follows the Begin of a line
-abbrev pub GoesOnFront : CallLine → ℕ → List Entry → List Entry → Type 0
-GoesOnFront line call before after = SendsFront call line.messages before after ⊎ IsFinished line call before after
+-- a prefix of what follows the Begin of a line
+abbrev pub GoesOnPrefix : CallLine → ℕ → List Entry → List Entry → Type 0
+GoesOnPrefix line call before after = SendsPrefix call line.messages before after ⊎ IsFinished line call before after
 
--- a line that was begun with this number, and a front of what follows
+-- a line that was begun with this number, and a prefix of what follows
 pub record IsBegunLine (line : CallLine) (before after : List Entry) : Type 0 where
   pub call : ℕ
   pub begun : List Entry
   pub r : Reply
   pub number : call_of r ≡ Some call
   pub begin : AddsEntry before begun (event.Begin line.request) r
-  pub goes_on : GoesOnFront line call begun after
+  pub goes_on : GoesOnPrefix line call begun after
 
--- a front of a line: nothing, or its Begin and a front of what follows
-abbrev pub LineFront : CallLine → List Entry → List Entry → Type 0
-LineFront line before after = (after ≡ before) ⊎ IsBegunLine line before after
+-- a prefix of a line: nothing, or its Begin and a prefix of what follows
+abbrev pub LinePrefix : CallLine → List Entry → List Entry → Type 0
+LinePrefix line before after = (after ≡ before) ⊎ IsBegunLine line before after
 
--- a front of the lines: some of them whole, and a front of the next
-pub record LinesFront (lines : List CallLine) (before after : List Entry) : Type 0 where
+-- a prefix of the lines: some of them whole, and a prefix of the next
+pub record LinesPrefix (lines : List CallLine) (before after : List Entry) : Type 0 where
   pub whole : List CallLine
   pub line : CallLine
   pub later : List CallLine
   pub next : List Entry
   pub parts : lines ≡ whole ++ line ∷ later
   pub makes : MakesLines whole before next
-  pub front : LineFront line next after
+  pub prefix : LinePrefix line next after

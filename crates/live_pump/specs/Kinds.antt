@@ -18,7 +18,7 @@ IsOfLinks (event.Ping link word) = Unit {0}
 IsOfLinks event.Tick = Unit {0}
 IsOfLinks _ = ⊥
 
--- entries were added behind these, each of an event of this kind
+-- entries were added after these, each of an event of this kind
 pub record AddsOnly (IsOfKind : Event → Type 0) (before after : List Entry) : Type 0 where
   pub added : List Entry
   pub made : after ≡ before ++ added

@@ -1,6 +1,6 @@
 pub mod Calls
 pub mod Dials
-pub mod Fronts
+pub mod Prefixes
 pub mod Kinds
 pub mod Pumps
 pub mod Runs

@@ -10,7 +10,7 @@ use Rattle.grpc_base.specs.declared.event.Reply.{Reply}
 use Rattle.grpc_base.specs.declared.event.Reply.TheVariants as reply
 use Rattle.grpc_base.specs.declared.post.PostError.{PostError}
 use Rattle.grpc_base.specs.declared.post.PostError.TheVariants as failed
-use Rattle.gate_io.specs.Outside.{Appends, AppendsFront, IsAtEnd, Takes}
+use Rattle.gate_io.specs.Outside.{Appends, AppendsPrefix, IsAtEnd, Takes}
 use Rattle.live_pump.specs.declared.pumped.Pumped.{Pumped}
 use Rattle.live_pump.specs.declared.pumped.Pumped.TheVariants as pumped
 
@@ -45,7 +45,7 @@ PostsTo e done before after result = (came : Result Reply PostError) × PostsOne
 abbrev pub WantsMemory : HandleSeen → HandleSeen → Pumped → Type 0
 WantsMemory before after result = PostsNothing before after × (result ≡ pumped.Failed (failed.NoMemory false))
 
--- what a link that is read shows: the bytes that are left where they are told, how often a read failed, and how often one was quiet
+-- what a link that is read shows: the bytes that are left where they are reported, how often a read failed, and how often one was quiet
 pub record InSeen : Type 0 where
   pub left : Option (List ℕ)
   pub faults : ℕ
@@ -83,7 +83,7 @@ PumpsIn link in_before in_after before after result =
     ⊎ ((piece : List ℕ) × Gives piece in_before in_after × Arrives link piece before after result)
     ⊎ (IsOver in_before in_after × PostsTo (event.LinkLost link) pumped.Lost before after result)
 
--- what a link that is written shows: the bytes that were taken where they are told, and how often a write failed
+-- what a link that is written shows: the bytes that were taken where they are reported, and how often a write failed
 pub record OutSeen : Type 0 where
   pub taken : Option (List ℕ)
   pub faults : ℕ
@@ -98,9 +98,9 @@ pub record IsWritten (piece : List ℕ) (before after : OutSeen) : Type 0 where
   pub taken : Appends before.taken after.taken piece
   pub faults : after.faults ≡ before.faults
 
--- a write of these bytes failed; what was taken is a front of them
+-- a write of these bytes failed; what was taken is a prefix of them
 pub record IsCutOff (piece : List ℕ) (before after : OutSeen) : Type 0 where
-  pub taken : AppendsFront before.taken after.taken piece
+  pub taken : AppendsPrefix before.taken after.taken piece
   pub faults : after.faults ≡ one_more before.faults
 
 -- what was drained is written whole, or a write fails and LinkLost is posted

@@ -83,11 +83,11 @@ pub record IsWhole {P T I O : Type 0} (eyes : Eyes P T I O) (before : Site P T) 
   pub number : link_after.link ≡ link.link
   pub wrote : P
   pub read : P
-  pub told : T
+  pub reported : T
   pub writes : Writes eyes link.link before.post link.output wrote link_after.output pumped.Going
   pub reads : Reads eyes link.link wrote link.input read link_after.input pumped.Going
-  pub turns : eyes.tender told ≡ eyes.tender before.tender
-  pub asks : Asks eyes link.link read told after.post after.tender answer
+  pub turns : eyes.tender reported ≡ eyes.tender before.tender
+  pub asks : Asks eyes link.link read reported after.post after.tender answer
 
 abbrev pub PumpsLink : {P T I O : Type 0} → Eyes P T I O → Site P T → OpenLink I O → Site P T → OpenLink I O → Pumped → Type 0
 PumpsLink eyes before link after link_after answer =
@@ -116,12 +116,12 @@ is_given_up pumped.Going = false
 is_given_up (pumped.Failed error) = false
 is_given_up _ = true
 
--- the error that an answer tells
+-- the error that an answer reports
 abbrev pub error_of : Pumped → Option PostError
 error_of (pumped.Failed error) = Some error
 error_of _ = None
 
--- a turn of each of these links, in order, behind those that were kept: one that goes on is kept, one that is lost or
+-- a turn of each of these links, in order, after those that were kept: one that goes on is kept, one that is lost or
 -- gone is given up, and an error ends the part
 abbrev pub TurnsLinks : {P T I O : Type 0} → Eyes P T I O → List (OpenLink I O) → Site P T → List (OpenLink I O) → Site P T → List (OpenLink I O) → Option PostError → Type 0
 TurnsLinks eyes kept before [] after left end = (after ≡ before) × (left ≡ kept) × (end ≡ None)
@@ -203,7 +203,7 @@ pub record EndsAtLinks {P T N I O : Type 0} (eyes : Eyes P T I O) (sees : N → 
   pub dialer : after.dialer ≡ dialled.dialer
   pub ends : end ≡ Some (pumped.Failed error)
 
--- how a round ends behind its tick
+-- how a round ends after its tick
 abbrev pub end_of : Result Bool PostError → Option Pumped
 end_of (Ok ticked) = None
 end_of (Err error) = Some (pumped.Failed error)

@@ -23,9 +23,9 @@ abbrev pub IsCauseOf : PostError → HandleSeen → HandleSeen → Type 0
 IsCauseOf e before after = (Rises before.errors after.errors × (after.last ≡ Some e)) ⊎ (e ≡ failed.NoMemory false)
 
 -- an error is answered with its cause, and without one no post failed
-abbrev pub Tells : HandleSeen → HandleSeen → Pumped → Type 0
-Tells before after (pumped.Failed e) = IsCauseOf e before after
-Tells before after _ = after.errors ≡ before.errors
+abbrev pub ReportsThat : HandleSeen → HandleSeen → Pumped → Type 0
+ReportsThat before after (pumped.Failed e) = IsCauseOf e before after
+ReportsThat before after _ = after.errors ≡ before.errors
 
 -- what a tender says of a link is done: a Ping or LinkLost is posted, or nothing
 abbrev pub TendsTo : ℕ → Tend → HandleSeen → HandleSeen → Pumped → Type 0
@@ -33,7 +33,7 @@ TendsTo link tend.Nothing before after result = PostsNothing before after × (re
 TendsTo link (tend.Ping word) before after result = PostsTo (event.Ping link word) pumped.Going before after result
 TendsTo link tend.Lost before after result = PostsTo (event.LinkLost link) pumped.Lost before after result
 
--- an answer that tells of no failed post
+-- an answer that reports no failed post
 abbrev pub is_quiet : Pumped → Bool
 is_quiet (pumped.Failed e) = false
 is_quiet _ = true

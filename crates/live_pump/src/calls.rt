@@ -4,7 +4,7 @@ ghost use Rattle.grpc_base.specs.Posts.{AddsEntry};
 ghost use Rattle.grpc_base.specs.declared.event.Event.TheVariants as event;
 ghost use Rattle.grpc_base.specs.declared.event.Reply.{Reply};
 ghost use Rattle.grpc_base.specs.declared.event.Reply.TheVariants as reply;
-ghost use Rattle.live_pump.specs.Calls.{GoesOn, GoesOnFront, LineFront, LinesFront, MakesLine, MakesLines, SendsAll, SendsFront, TakesAll, TakesFront, call_of, ends_takes};
+ghost use Rattle.live_pump.specs.Calls.{GoesOn, GoesOnPrefix, LinePrefix, LinesPrefix, MakesLine, MakesLines, SendsAll, SendsPrefix, TakesAll, TakesPrefix, call_of, ends_takes};
 ghost use Rattle.live_pump.specs.Pumps.{HandleSeen};
 ghost use Rattle.live_pump.specs.Workers.{IsCauseOf};
 
@@ -15,7 +15,7 @@ use std::sync::Wait;
 fn send<P: Caller>(post: &mut P, call: u32, message: &Octets) -> Result<Reply, PostError>
     ensures sent { IfOk result (λ r. AddsEntry (P.made post.old) (P.made post.new) (event.Send call message.now) r × (P.errors post.new ≡ P.errors post.old)) }
     ensures error { IfErr result (λ e. let before : HandleSeen = record { made = P.made post.old; errors = P.errors post.old; last = P.last_error post.old } in let after : HandleSeen = record { made = P.made post.new; errors = P.errors post.new; last = P.last_error post.new } in IsCauseOf e before after) }
-    ensures front { OnErr result (P.made post.new ≡ P.made post.old) }
+    ensures prefix { OnErr result (P.made post.new ≡ P.made post.old) }
     ensures share { P.share post.new ≡ P.share post.old }
 {
     let message = match message.share() {
@@ -25,7 +25,7 @@ fn send<P: Caller>(post: &mut P, call: u32, message: &Octets) -> Result<Reply, P
     post.await_send(call, message)
 }
 
-/// The first message, and those behind it.
+/// The first message, and those after it.
 fn first_message(messages: &[Octets]) -> Option<(&Octets, &[Octets])>
     ensures { MatchOption result (messages.now ≡ []) (λ x. messages.now ≡ x.0.now ∷ x.1.now) }
 {
@@ -37,7 +37,7 @@ fn first_message(messages: &[Octets]) -> Option<(&Octets, &[Octets])>
 fn send_all<P: Caller>(post: &mut P, call: u32, messages: &[Octets]) -> Result<(), PostError>
     ensures sent { OnOk result (SendsAll call messages.now (P.made post.old) (P.made post.new) × (P.errors post.new ≡ P.errors post.old)) }
     ensures error { IfErr result (λ e. let before : HandleSeen = record { made = P.made post.old; errors = P.errors post.old; last = P.last_error post.old } in let after : HandleSeen = record { made = P.made post.new; errors = P.errors post.new; last = P.last_error post.new } in IsCauseOf e before after) }
-    ensures front { OnErr result (SendsFront call messages.now (P.made post.old) (P.made post.new)) }
+    ensures prefix { OnErr result (SendsPrefix call messages.now (P.made post.old) (P.made post.new)) }
     ensures share { P.share post.new ≡ P.share post.old }
 {
     let mut rest = messages;
@@ -59,7 +59,7 @@ fn ends_takes(reply: &Reply) -> bool
 fn take_one<P: Caller>(post: &mut P, call: u32) -> Result<bool, PostError>
     ensures taken { IfOk result (λ ended. (r : Reply) × AddsEntry (P.made post.old) (P.made post.new) (event.Take call) r × (ended ≡ ends_takes r) × (P.errors post.new ≡ P.errors post.old)) }
     ensures error { IfErr result (λ e. let before : HandleSeen = record { made = P.made post.old; errors = P.errors post.old; last = P.last_error post.old } in let after : HandleSeen = record { made = P.made post.new; errors = P.errors post.new; last = P.last_error post.new } in IsCauseOf e before after) }
-    ensures front { OnErr result (P.made post.new ≡ P.made post.old) }
+    ensures prefix { OnErr result (P.made post.new ≡ P.made post.old) }
     ensures share { P.share post.new ≡ P.share post.old }
 {
     let reply = post.await_take(call)?;
@@ -70,7 +70,7 @@ fn take_one<P: Caller>(post: &mut P, call: u32) -> Result<bool, PostError>
 fn take_all<W: Wait, P: Caller>(rt: &W, post: &mut P, call: u32) -> Result<(), PostError>
     ensures taken { OnOk result (TakesAll call (P.made post.old) (P.made post.new) × (P.errors post.new ≡ P.errors post.old)) }
     ensures error { IfErr result (λ e. let before : HandleSeen = record { made = P.made post.old; errors = P.errors post.old; last = P.last_error post.old } in let after : HandleSeen = record { made = P.made post.new; errors = P.errors post.new; last = P.last_error post.new } in IsCauseOf e before after) }
-    ensures front { OnErr result (TakesFront call (P.made post.old) (P.made post.new)) }
+    ensures prefix { OnErr result (TakesPrefix call (P.made post.old) (P.made post.new)) }
     ensures share { P.share post.new ≡ P.share post.old }
 {
     for _ in rt.forever() {
@@ -85,7 +85,7 @@ fn take_all<W: Wait, P: Caller>(rt: &W, post: &mut P, call: u32) -> Result<(), P
 fn begin<P: Caller>(post: &mut P, line: &CallLine) -> Result<Option<u32>, PostError>
     ensures begun { IfOk result (λ call. (r : Reply) × AddsEntry (P.made post.old) (P.made post.new) (event.Begin line.now.request) r × (call ≡ call_of r) × (P.errors post.new ≡ P.errors post.old)) }
     ensures error { IfErr result (λ e. let before : HandleSeen = record { made = P.made post.old; errors = P.errors post.old; last = P.last_error post.old } in let after : HandleSeen = record { made = P.made post.new; errors = P.errors post.new; last = P.last_error post.new } in IsCauseOf e before after) }
-    ensures front { OnErr result (P.made post.new ≡ P.made post.old) }
+    ensures prefix { OnErr result (P.made post.new ≡ P.made post.old) }
     ensures share { P.share post.new ≡ P.share post.old }
 {
     let request = match line.request.copy() {
@@ -110,7 +110,7 @@ fn call_of(reply: &Reply) -> Option<u32>
 fn finish<P: Caller>(post: &mut P, call: u32) -> Result<(), PostError>
     ensures finished { OnOk result ((r : Reply) × AddsEntry (P.made post.old) (P.made post.new) (event.Finish call) r × (P.errors post.new ≡ P.errors post.old)) }
     ensures error { IfErr result (λ e. let before : HandleSeen = record { made = P.made post.old; errors = P.errors post.old; last = P.last_error post.old } in let after : HandleSeen = record { made = P.made post.new; errors = P.errors post.new; last = P.last_error post.new } in IsCauseOf e before after) }
-    ensures front { OnErr result (P.made post.new ≡ P.made post.old) }
+    ensures prefix { OnErr result (P.made post.new ≡ P.made post.old) }
     ensures share { P.share post.new ≡ P.share post.old }
 {
     match post.post(Event::Finish { call }) {
@@ -129,7 +129,7 @@ fn make_call<W: Wait, P: Caller>(
 ) -> Result<(), PostError>
     ensures made { OnOk result (GoesOn line.now call (P.made post.old) (P.made post.new) × (P.errors post.new ≡ P.errors post.old)) }
     ensures error { IfErr result (λ e. let before : HandleSeen = record { made = P.made post.old; errors = P.errors post.old; last = P.last_error post.old } in let after : HandleSeen = record { made = P.made post.new; errors = P.errors post.new; last = P.last_error post.new } in IsCauseOf e before after) }
-    ensures front { OnErr result (GoesOnFront line.now call (P.made post.old) (P.made post.new)) }
+    ensures prefix { OnErr result (GoesOnPrefix line.now call (P.made post.old) (P.made post.new)) }
     ensures share { P.share post.new ≡ P.share post.old }
 {
     send_all(post, call, line.messages.as_slice())?;
@@ -143,7 +143,7 @@ fn make_call<W: Wait, P: Caller>(
 fn make_line<W: Wait, P: Caller>(rt: &W, post: &mut P, line: &CallLine) -> Result<(), PostError>
     ensures made { OnOk result (MakesLine line.now (P.made post.old) (P.made post.new) × (P.errors post.new ≡ P.errors post.old)) }
     ensures error { IfErr result (λ e. let before : HandleSeen = record { made = P.made post.old; errors = P.errors post.old; last = P.last_error post.old } in let after : HandleSeen = record { made = P.made post.new; errors = P.errors post.new; last = P.last_error post.new } in IsCauseOf e before after) }
-    ensures front { OnErr result (LineFront line.now (P.made post.old) (P.made post.new)) }
+    ensures prefix { OnErr result (LinePrefix line.now (P.made post.old) (P.made post.new)) }
     ensures share { P.share post.new ≡ P.share post.old }
 {
     match begin(post, line)? {
@@ -152,7 +152,7 @@ fn make_line<W: Wait, P: Caller>(rt: &W, post: &mut P, line: &CallLine) -> Resul
     }
 }
 
-/// The first line, and those behind it.
+/// The first line, and those after it.
 fn first_line(calls: &[CallLine]) -> Option<(&CallLine, &[CallLine])>
     ensures { MatchOption result (calls.now ≡ []) (λ x. calls.now ≡ x.0.now ∷ x.1.now) }
 {
@@ -161,7 +161,7 @@ fn first_line(calls: &[CallLine]) -> Option<(&CallLine, &[CallLine])>
 
 /// Makes the calls of a script's lines, one after another: of each its Begin, a Send for each message, its Finish, and
 /// Takes up to the end. Each Send waits for room, and each Take for something to take. A refused Send or Finish is
-/// passed over, and a refused Begin or Take ends its line. The first post that fails ends the work; it is told, or
+/// passed over, and a refused Begin or Take ends its line. The first post that fails ends the work; it is reported, or
 /// that the worker found no memory itself.
 #[tactic(auto, using(crate::proofs::CallLaws::lines_done, crate::proofs::CallLaws::lines_failed))]
 pub fn call_worker<W: Wait, P: Caller>(
@@ -171,7 +171,7 @@ pub fn call_worker<W: Wait, P: Caller>(
 ) -> Result<(), PostError>
     ensures made { OnOk result (MakesLines calls.now (P.made post.old) (P.made post.new) × (P.errors post.new ≡ P.errors post.old)) }
     ensures error { IfErr result (λ e. let before : HandleSeen = record { made = P.made post.old; errors = P.errors post.old; last = P.last_error post.old } in let after : HandleSeen = record { made = P.made post.new; errors = P.errors post.new; last = P.last_error post.new } in IsCauseOf e before after) }
-    ensures front { OnErr result (LinesFront calls.now (P.made post.old) (P.made post.new)) }
+    ensures prefix { OnErr result (LinesPrefix calls.now (P.made post.old) (P.made post.new)) }
     ensures share { P.share post.new ≡ P.share post.old }
 {
     let mut rest = calls;

@@ -4,13 +4,13 @@ ghost use Rattle.grpc_base.specs.Counts.{one_more};
 ghost use Rattle.grpc_base.specs.declared.tender.Tend.{Tend};
 ghost use Rattle.live_pump.specs.Pumps.{HandleSeen, OutSeen};
 ghost use Rattle.live_pump.specs.Runs.{Closes, ClosesUnless, Eyes, PumpsLink, TurnsLink, eyes_of};
-ghost use Rattle.live_pump.specs.Workers.{HasNotFallen, Tells, TendsTo, is_going};
+ghost use Rattle.live_pump.specs.Workers.{HasNotFallen, ReportsThat, TendsTo, is_going};
 ghost use Rattle.live_pump.specs.declared.link_turn.OpenLink.{OpenLink};
 
 use crate::Pumped;
 use crate::pumped::post_to;
 use crate::pumps::{read_link, send_link};
-use gate_io::{Clock, LinkIn, LinkOut, Patience};
+use gate_io::{Clock, LinkIn, LinkOut, PollDelay};
 use grpc_base::{Event, Glance, Post, Tend, Tender};
 use std::alloc::Global;
 
@@ -32,7 +32,7 @@ fn tend_link<P: Post, C: Clock, T: Tender>(
     ensures posted { let before : HandleSeen = record { made = P.made post.old; errors = P.errors post.old; last = P.last_error post.old } in let after : HandleSeen = record { made = P.made post.new; errors = P.errors post.new; last = P.last_error post.new } in (moment : ℕ) × (answer : Tend) × C.may_give clock.now moment × (T.last_turn tender.new ≡ Some (record { link = link; moment = moment; answer = answer })) × TendsTo link answer before after result }
     ensures turns { T.turns tender.new ≡ one_more (T.turns tender.old) }
     ensures looks { (P.looks post.new ≡ P.looks post.old) × (P.last_look post.new ≡ P.last_look post.old) }
-    ensures tells { let before : HandleSeen = record { made = P.made post.old; errors = P.errors post.old; last = P.last_error post.old } in let after : HandleSeen = record { made = P.made post.new; errors = P.errors post.new; last = P.last_error post.new } in Tells before after result }
+    ensures reports_that { let before : HandleSeen = record { made = P.made post.old; errors = P.errors post.old; last = P.last_error post.old } in let after : HandleSeen = record { made = P.made post.new; errors = P.errors post.new; last = P.last_error post.new } in ReportsThat before after result }
     ensures share { P.share post.new ≡ P.share post.old }
 {
     match tender.turn(link, clock.now()) {
@@ -42,8 +42,8 @@ fn tend_link<P: Post, C: Clock, T: Tender>(
     }
 }
 
-/// Tells the tender of bytes that came on a link.
-fn tell_tender<C: Clock, T: Tender>(clock: &C, tender: &mut T, link: u32, came: bool)
+/// reports to the tender of bytes that came on a link.
+fn report_tender<C: Clock, T: Tender>(clock: &C, tender: &mut T, link: u32, came: bool)
     ensures { (T.turns tender.new ≡ T.turns tender.old) × (T.last_turn tender.new ≡ T.last_turn tender.old) }
 {
     if came {
@@ -51,27 +51,27 @@ fn tell_tender<C: Clock, T: Tender>(clock: &C, tender: &mut T, link: u32, came: 
     }
 }
 
-/// Writes what the channel has for a link, reads it once, tells the tender of bytes that came, and asks it.
+/// Writes what the channel has for a link, reads it once, reports to the tender of bytes that came, and asks it.
 fn pump_link<P: Post + Glance, I: LinkIn, O: LinkOut, C: Clock, T: Tender>(
     alloc: Global,
     post: &mut P,
     clock: &C,
     tender: &mut T,
-    patience: &mut Patience,
+    poll_delay: &mut PollDelay,
     kept: &mut OpenLink<I, O>,
 ) -> Pumped
     ensures looks { HasNotFallen (P.looks post.old) (P.looks post.new) }
-    ensures tells { let before : HandleSeen = record { made = P.made post.old; errors = P.errors post.old; last = P.last_error post.old } in let after : HandleSeen = record { made = P.made post.new; errors = P.errors post.new; last = P.last_error post.new } in Tells before after result }
+    ensures reports_that { let before : HandleSeen = record { made = P.made post.old; errors = P.errors post.old; last = P.last_error post.old } in let after : HandleSeen = record { made = P.made post.new; errors = P.errors post.new; last = P.last_error post.new } in ReportsThat before after result }
     ensures pumped { let eyes : Eyes P T I O = eyes_of P.made P.errors P.last_error P.last_look T.turns T.last_turn I.left I.faults I.quiet O.taken O.faults O.closed in PumpsLink eyes (record { post = post.old; tender = tender.old }) kept.old (record { post = post.new; tender = tender.new }) kept.new result }
     ensures share { P.share post.new ≡ P.share post.old }
 {
     let link = kept.link;
-    let wrote = send_link(post, patience, &mut kept.output, link);
+    let wrote = send_link(post, poll_delay, &mut kept.output, link);
     if !wrote.is_going() {
         return wrote;
     }
-    let (read, came) = read_link(alloc, post, patience, &mut kept.input, link);
-    tell_tender(clock, tender, link, came);
+    let (read, came) = read_link(alloc, post, poll_delay, &mut kept.input, link);
+    report_tender(clock, tender, link, came);
     if !read.is_going() {
         return read;
     }
@@ -84,16 +84,16 @@ pub(crate) fn turn_link<P: Post + Glance, I: LinkIn, O: LinkOut, C: Clock, T: Te
     post: &mut P,
     clock: &C,
     tender: &mut T,
-    patience: &mut Patience,
+    poll_delay: &mut PollDelay,
     kept: &mut OpenLink<I, O>,
 ) -> Pumped
     ensures looks { HasNotFallen (P.looks post.old) (P.looks post.new) }
-    ensures tells { let before : HandleSeen = record { made = P.made post.old; errors = P.errors post.old; last = P.last_error post.old } in let after : HandleSeen = record { made = P.made post.new; errors = P.errors post.new; last = P.last_error post.new } in Tells before after result }
+    ensures reports_that { let before : HandleSeen = record { made = P.made post.old; errors = P.errors post.old; last = P.last_error post.old } in let after : HandleSeen = record { made = P.made post.new; errors = P.errors post.new; last = P.last_error post.new } in ReportsThat before after result }
     ensures closed { is_going result ≡ false → O.closed kept.new.output ≡ true }
     ensures turned { let eyes : Eyes P T I O = eyes_of P.made P.errors P.last_error P.last_look T.turns T.last_turn I.left I.faults I.quiet O.taken O.faults O.closed in TurnsLink eyes (record { post = post.old; tender = tender.old }) kept.old (record { post = post.new; tender = tender.new }) kept.new result }
     ensures share { P.share post.new ≡ P.share post.old }
 {
-    let answer = pump_link(alloc, post, clock, tender, patience, kept);
+    let answer = pump_link(alloc, post, clock, tender, poll_delay, kept);
     close_unless(answer.is_going(), kept);
     answer
 }

@@ -2,7 +2,7 @@
 ghost use Rattle.std.specs.Prelude.{◌≡◌, true};
 ghost use Rattle.live_pump.specs.Pumps.{HandleSeen, PostsTo, answer_of};
 ghost use Rattle.live_pump.specs.Runs.{error_of, is_given_up};
-ghost use Rattle.live_pump.specs.Workers.{Tells, is_going, is_quiet};
+ghost use Rattle.live_pump.specs.Workers.{ReportsThat, is_going, is_quiet};
 
 use grpc_base::{Event, Post, PostError, Reply};
 
@@ -36,7 +36,7 @@ impl Pumped {
         !matches!(self, Pumped::Going | Pumped::Failed(_))
     }
 
-    /// The error that is told.
+    /// The error that is reported.
     pub(crate) fn error(&self) -> Option<PostError>
         ensures { result ≡ error_of self.now }
     {
@@ -64,7 +64,7 @@ pub(crate) fn answer_of(done: Pumped, came: &Result<Reply, PostError>) -> Pumped
 pub(crate) fn post_to<P: Post>(post: &mut P, event: Event, done: Pumped) -> Pumped
     ensures posted { let before : HandleSeen = record { made = P.made post.old; errors = P.errors post.old; last = P.last_error post.old } in let after : HandleSeen = record { made = P.made post.new; errors = P.errors post.new; last = P.last_error post.new } in PostsTo event done before after result }
     ensures looks { (P.looks post.new ≡ P.looks post.old) × (P.last_look post.new ≡ P.last_look post.old) }
-    ensures tells { let before : HandleSeen = record { made = P.made post.old; errors = P.errors post.old; last = P.last_error post.old } in let after : HandleSeen = record { made = P.made post.new; errors = P.errors post.new; last = P.last_error post.new } in is_quiet done ≡ true → Tells before after result }
+    ensures reports_that { let before : HandleSeen = record { made = P.made post.old; errors = P.errors post.old; last = P.last_error post.old } in let after : HandleSeen = record { made = P.made post.new; errors = P.errors post.new; last = P.last_error post.new } in is_quiet done ≡ true → ReportsThat before after result }
     ensures share { P.share post.new ≡ P.share post.old }
 {
     let came = post.post(event);

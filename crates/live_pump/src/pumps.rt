@@ -2,13 +2,13 @@
 ghost use Rattle.std.specs.Prelude.{◌≡◌, ◌≤◌, Bool, true, false, Some, length};
 ghost use Rattle.grpc_base.specs.Counts.{one_more};
 ghost use Rattle.grpc_base.specs.declared.post.Look.TheVariants as look;
-ghost use Rattle.gate_io.specs.Outside.{Appends, AppendsFront};
-ghost use Rattle.live_pump.specs.Workers.{Tells};
+ghost use Rattle.gate_io.specs.Outside.{Appends, AppendsPrefix};
+ghost use Rattle.live_pump.specs.Workers.{ReportsThat};
 ghost use Rattle.live_pump.specs.Pumps.{Arrives, HandleSeen, InSeen, OutSeen, PumpsIn, PumpsOut, WritesOut, drained_of};
 
 use crate::Pumped;
 use crate::pumped::{answer_of, post_to};
-use gate_io::{LinkIn, LinkOut, LinkRead, Patience, Pause, WriteAnswer};
+use gate_io::{LinkIn, LinkOut, LinkRead, Pause, PollDelay, WriteAnswer};
 use grpc_base::{Event, Glance, Octets, Post, PostError, Reply};
 use std::alloc::Global;
 
@@ -22,7 +22,7 @@ const DRAIN_ROOM: u32 = 65_536;
 fn arrived<P: Post>(alloc: Global, post: &mut P, link: u32, piece: &[u8]) -> Pumped
     ensures posted { let before : HandleSeen = record { made = P.made post.old; errors = P.errors post.old; last = P.last_error post.old } in let after : HandleSeen = record { made = P.made post.new; errors = P.errors post.new; last = P.last_error post.new } in Arrives link piece.now before after result }
     ensures looks { (P.looks post.new ≡ P.looks post.old) × (P.last_look post.new ≡ P.last_look post.old) }
-    ensures tells { let before : HandleSeen = record { made = P.made post.old; errors = P.errors post.old; last = P.last_error post.old } in let after : HandleSeen = record { made = P.made post.new; errors = P.errors post.new; last = P.last_error post.new } in Tells before after result }
+    ensures reports_that { let before : HandleSeen = record { made = P.made post.old; errors = P.errors post.old; last = P.last_error post.old } in let after : HandleSeen = record { made = P.made post.new; errors = P.errors post.new; last = P.last_error post.new } in ReportsThat before after result }
     ensures share { P.share post.new ≡ P.share post.old }
 {
     match Octets::of_slice(alloc, piece) {
@@ -40,7 +40,7 @@ fn pump_read<P: Post, I: LinkIn>(
 ) -> (Pumped, bool)
     ensures posted { let before : HandleSeen = record { made = P.made post.old; errors = P.errors post.old; last = P.last_error post.old } in let after : HandleSeen = record { made = P.made post.new; errors = P.errors post.new; last = P.last_error post.new } in PumpsIn link (record { left = I.left input.old; faults = I.faults input.old; quiet = I.quiet input.old }) (record { left = I.left input.new; faults = I.faults input.new; quiet = I.quiet input.new }) before after result.0 }
     ensures looks { (P.looks post.new ≡ P.looks post.old) × (P.last_look post.new ≡ P.last_look post.old) }
-    ensures tells { let before : HandleSeen = record { made = P.made post.old; errors = P.errors post.old; last = P.last_error post.old } in let after : HandleSeen = record { made = P.made post.new; errors = P.errors post.new; last = P.last_error post.new } in Tells before after result.0 }
+    ensures reports_that { let before : HandleSeen = record { made = P.made post.old; errors = P.errors post.old; last = P.last_error post.old } in let after : HandleSeen = record { made = P.made post.new; errors = P.errors post.new; last = P.last_error post.new } in ReportsThat before after result.0 }
     ensures share { P.share post.new ≡ P.share post.old }
 {
     let mut piece = [0u8; READ_BYTES];
@@ -57,21 +57,21 @@ fn pump_read<P: Post, I: LinkIn>(
 pub(crate) fn read_link<P: Post, I: LinkIn>(
     alloc: Global,
     post: &mut P,
-    patience: &mut Patience,
+    poll_delay: &mut PollDelay,
     input: &mut I,
     link: u32,
 ) -> (Pumped, bool)
     ensures posted { let before : HandleSeen = record { made = P.made post.old; errors = P.errors post.old; last = P.last_error post.old } in let after : HandleSeen = record { made = P.made post.new; errors = P.errors post.new; last = P.last_error post.new } in PumpsIn link (record { left = I.left input.old; faults = I.faults input.old; quiet = I.quiet input.old }) (record { left = I.left input.new; faults = I.faults input.new; quiet = I.quiet input.new }) before after result.0 }
     ensures looks { (P.looks post.new ≡ P.looks post.old) × (P.last_look post.new ≡ P.last_look post.old) }
-    ensures tells { let before : HandleSeen = record { made = P.made post.old; errors = P.errors post.old; last = P.last_error post.old } in let after : HandleSeen = record { made = P.made post.new; errors = P.errors post.new; last = P.last_error post.new } in Tells before after result.0 }
+    ensures reports_that { let before : HandleSeen = record { made = P.made post.old; errors = P.errors post.old; last = P.last_error post.old } in let after : HandleSeen = record { made = P.made post.new; errors = P.errors post.new; last = P.last_error post.new } in ReportsThat before after result.0 }
     ensures share { P.share post.new ≡ P.share post.old }
 {
     input.wait_at_most(Pause::None);
     let (read, came) = pump_read(alloc, post, input, link);
     if came {
-        patience.hit();
+        poll_delay.hit();
     } else {
-        patience.miss();
+        poll_delay.miss();
     }
     (read, came)
 }
@@ -81,17 +81,17 @@ pub(crate) fn read_link<P: Post, I: LinkIn>(
 pub fn pump_in<P: Post, I: LinkIn>(alloc: Global, post: &mut P, input: &mut I, link: u32) -> Pumped
     ensures posted { let before : HandleSeen = record { made = P.made post.old; errors = P.errors post.old; last = P.last_error post.old } in let after : HandleSeen = record { made = P.made post.new; errors = P.errors post.new; last = P.last_error post.new } in PumpsIn link (record { left = I.left input.old; faults = I.faults input.old; quiet = I.quiet input.old }) (record { left = I.left input.new; faults = I.faults input.new; quiet = I.quiet input.new }) before after result }
     ensures looks { (P.looks post.new ≡ P.looks post.old) × (P.last_look post.new ≡ P.last_look post.old) }
-    ensures tells { let before : HandleSeen = record { made = P.made post.old; errors = P.errors post.old; last = P.last_error post.old } in let after : HandleSeen = record { made = P.made post.new; errors = P.errors post.new; last = P.last_error post.new } in Tells before after result }
+    ensures reports_that { let before : HandleSeen = record { made = P.made post.old; errors = P.errors post.old; last = P.last_error post.old } in let after : HandleSeen = record { made = P.made post.new; errors = P.errors post.new; last = P.last_error post.new } in ReportsThat before after result }
     ensures share { P.share post.new ≡ P.share post.old }
 {
     pump_read(alloc, post, input, link).0
 }
 
 /// Writes a piece whole, and says whether all of it was taken. It is not exactly where a write of this call
-/// failed: that write is the only one that failed, and what was taken before it is a front of the piece.
+/// failed: that write is the only one that failed, and what was taken before it is a prefix of the piece.
 fn write_link<O: LinkOut>(output: &mut O, piece: &[u8]) -> bool
     ensures whole { result ≡ true → Appends (O.taken output.old) (O.taken output.new) piece.now }
-    ensures part { result ≡ false → AppendsFront (O.taken output.old) (O.taken output.new) piece.now }
+    ensures part { result ≡ false → AppendsPrefix (O.taken output.old) (O.taken output.new) piece.now }
     ensures steady { result ≡ true → O.faults output.new ≡ O.faults output.old }
     ensures once { result ≡ false → O.faults output.new ≡ one_more (O.faults output.old) }
     ensures closed { O.closed output.new ≡ O.closed output.old }
@@ -111,7 +111,7 @@ fn write_out<P: Post, O: LinkOut>(post: &mut P, output: &mut O, link: u32, piece
     ensures posted { let before : HandleSeen = record { made = P.made post.old; errors = P.errors post.old; last = P.last_error post.old } in let after : HandleSeen = record { made = P.made post.new; errors = P.errors post.new; last = P.last_error post.new } in WritesOut link piece.now (record { taken = O.taken output.old; faults = O.faults output.old }) (record { taken = O.taken output.new; faults = O.faults output.new }) before after result }
     ensures looks { (P.looks post.new ≡ P.looks post.old) × (P.last_look post.new ≡ P.last_look post.old) }
     ensures closed { O.closed output.new ≡ O.closed output.old }
-    ensures tells { let before : HandleSeen = record { made = P.made post.old; errors = P.errors post.old; last = P.last_error post.old } in let after : HandleSeen = record { made = P.made post.new; errors = P.errors post.new; last = P.last_error post.new } in Tells before after result }
+    ensures reports_that { let before : HandleSeen = record { made = P.made post.old; errors = P.errors post.old; last = P.last_error post.old } in let after : HandleSeen = record { made = P.made post.new; errors = P.errors post.new; last = P.last_error post.new } in ReportsThat before after result }
     ensures share { P.share post.new ≡ P.share post.old }
 {
     if write_link(output, piece) {
@@ -135,7 +135,7 @@ fn drain_out<P: Post, O: LinkOut>(post: &mut P, output: &mut O, link: u32) -> Pu
     ensures posted { let before : HandleSeen = record { made = P.made post.old; errors = P.errors post.old; last = P.last_error post.old } in let after : HandleSeen = record { made = P.made post.new; errors = P.errors post.new; last = P.last_error post.new } in PumpsOut link true (record { taken = O.taken output.old; faults = O.faults output.old }) (record { taken = O.taken output.new; faults = O.faults output.new }) before after result }
     ensures looks { (P.looks post.new ≡ P.looks post.old) × (P.last_look post.new ≡ P.last_look post.old) }
     ensures closed { O.closed output.new ≡ O.closed output.old }
-    ensures tells { let before : HandleSeen = record { made = P.made post.old; errors = P.errors post.old; last = P.last_error post.old } in let after : HandleSeen = record { made = P.made post.new; errors = P.errors post.new; last = P.last_error post.new } in Tells before after result }
+    ensures reports_that { let before : HandleSeen = record { made = P.made post.old; errors = P.errors post.old; last = P.last_error post.old } in let after : HandleSeen = record { made = P.made post.new; errors = P.errors post.new; last = P.last_error post.new } in ReportsThat before after result }
     ensures share { P.share post.new ≡ P.share post.old }
 {
     let room = DRAIN_ROOM;
@@ -150,20 +150,20 @@ fn drain_out<P: Post, O: LinkOut>(post: &mut P, output: &mut O, link: u32) -> Pu
 /// a try that found something.
 pub(crate) fn send_link<P: Post + Glance, O: LinkOut>(
     post: &mut P,
-    patience: &mut Patience,
+    poll_delay: &mut PollDelay,
     output: &mut O,
     link: u32,
 ) -> Pumped
     ensures posted { let before : HandleSeen = record { made = P.made post.old; errors = P.errors post.old; last = P.last_error post.old } in let after : HandleSeen = record { made = P.made post.new; errors = P.errors post.new; last = P.last_error post.new } in (can : Bool) × (P.last_look post.new ≡ Some (look.CanDrain link can)) × PumpsOut link can (record { taken = O.taken output.old; faults = O.faults output.old }) (record { taken = O.taken output.new; faults = O.faults output.new }) before after result }
     ensures looks { P.looks post.new ≡ one_more (P.looks post.old) }
     ensures closed { O.closed output.new ≡ O.closed output.old }
-    ensures tells { let before : HandleSeen = record { made = P.made post.old; errors = P.errors post.old; last = P.last_error post.old } in let after : HandleSeen = record { made = P.made post.new; errors = P.errors post.new; last = P.last_error post.new } in Tells before after result }
+    ensures reports_that { let before : HandleSeen = record { made = P.made post.old; errors = P.errors post.old; last = P.last_error post.old } in let after : HandleSeen = record { made = P.made post.new; errors = P.errors post.new; last = P.last_error post.new } in ReportsThat before after result }
     ensures share { P.share post.new ≡ P.share post.old }
 {
     if !post.can_drain(link) {
         return Pumped::Going;
     }
-    patience.hit();
+    poll_delay.hit();
     drain_out(post, output, link)
 }
 
@@ -173,8 +173,8 @@ pub fn pump_out<P: Post + Glance, O: LinkOut>(post: &mut P, output: &mut O, link
     ensures posted { let before : HandleSeen = record { made = P.made post.old; errors = P.errors post.old; last = P.last_error post.old } in let after : HandleSeen = record { made = P.made post.new; errors = P.errors post.new; last = P.last_error post.new } in (can : Bool) × (P.last_look post.new ≡ Some (look.CanDrain link can)) × PumpsOut link can (record { taken = O.taken output.old; faults = O.faults output.old }) (record { taken = O.taken output.new; faults = O.faults output.new }) before after result }
     ensures looks { P.looks post.new ≡ one_more (P.looks post.old) }
     ensures closed { O.closed output.new ≡ O.closed output.old }
-    ensures tells { let before : HandleSeen = record { made = P.made post.old; errors = P.errors post.old; last = P.last_error post.old } in let after : HandleSeen = record { made = P.made post.new; errors = P.errors post.new; last = P.last_error post.new } in Tells before after result }
+    ensures reports_that { let before : HandleSeen = record { made = P.made post.old; errors = P.errors post.old; last = P.last_error post.old } in let after : HandleSeen = record { made = P.made post.new; errors = P.errors post.new; last = P.last_error post.new } in ReportsThat before after result }
     ensures share { P.share post.new ≡ P.share post.old }
 {
-    send_link(post, &mut Patience::new(), output, link)
+    send_link(post, &mut PollDelay::new(), output, link)
 }

@@ -3,7 +3,7 @@ ghost use Rattle.std.specs.Prelude.{◌≡◌, ◌≤◌, ◌<◌, ◌⊎◌, �
 ghost use Rattle.grpc_base.specs.Counts.{Rises};
 ghost use Rattle.grpc_base.specs.declared.event.Conn.TheVariants as conn;
 ghost use Rattle.grpc_base.specs.declared.post.PostError.{PostError};
-ghost use Rattle.live_pump.specs.Fronts.{ArrivesInFront};
+ghost use Rattle.live_pump.specs.Prefixes.{ArrivesBefore};
 ghost use Rattle.live_pump.specs.Kinds.{AddsOnly, IsOfLinks};
 ghost use Rattle.live_pump.specs.Pumps.{HandleSeen, OutSeen};
 ghost use Rattle.live_pump.specs.Runs.{Closes, DialsLink, Eyes, IsCaused, RoundOf, RunsOn, RunsTo, Site, TurnsLinks, eyes_of, is_shut};
@@ -12,7 +12,7 @@ ghost use Rattle.live_pump.specs.declared.link_turn.OpenLink.{OpenLink};
 
 use crate::link_turn::{OpenLink, close_link, close_links, turn_link};
 use crate::{DialTurn, Pumped, dial_once, tick_if_due};
-use gate_io::{Clock, Dialer, LinkIn, LinkOut, Patience, Pause};
+use gate_io::{Clock, Dialer, LinkIn, LinkOut, Pause, PollDelay};
 use grpc_base::{Conn, Glance, NoMemory, Post, PostError, Tender};
 use std::alloc::Global;
 use std::sync::Wait;
@@ -20,7 +20,7 @@ use std::sync::Wait;
 /// A worker found no memory itself.
 const NO_MEMORY: PostError = PostError::NoMemory { spent: false };
 
-/// Keeps a link that was opened, and tells the tender of it. On out of memory it is closed, or left to be closed.
+/// Keeps a link that was opened, and reports to the tender of it. On out of memory it is closed, or left to be closed.
 fn keep_link<I: LinkIn, O: LinkOut, C: Clock, T: Tender>(
     clock: &C,
     tender: &mut T,
@@ -81,7 +81,7 @@ fn turn_at<P: Post + Glance, I: LinkIn, O: LinkOut, C: Clock, T: Tender>(
     post: &mut P,
     clock: &C,
     tender: &mut T,
-    patience: &mut Patience,
+    poll_delay: &mut PollDelay,
     links: &mut Vec<OpenLink<I, O>>,
     at: usize,
 ) -> Result<usize, PostError>
@@ -94,7 +94,7 @@ fn turn_at<P: Post + Glance, I: LinkIn, O: LinkOut, C: Clock, T: Tender>(
     ensures share { P.share post.new ≡ P.share post.old }
 {
     let kept = &mut links[at];
-    let answer = turn_link(alloc, post, clock, tender, patience, kept);
+    let answer = turn_link(alloc, post, clock, tender, poll_delay, kept);
     if answer.is_given_up() {
         drop(links.remove(at));
         return Ok(0);
@@ -111,7 +111,7 @@ fn links_part<P: Post + Glance, I: LinkIn, O: LinkOut, C: Clock, T: Tender>(
     post: &mut P,
     clock: &C,
     tender: &mut T,
-    patience: &mut Patience,
+    poll_delay: &mut PollDelay,
     links: &mut Vec<OpenLink<I, O>>,
 ) -> Option<PostError>
     ensures part { let before : HandleSeen = record { made = P.made post.old; errors = P.errors post.old; last = P.last_error post.old } in let after : HandleSeen = record { made = P.made post.new; errors = P.errors post.new; last = P.last_error post.new } in Parts before after result }
@@ -121,7 +121,7 @@ fn links_part<P: Post + Glance, I: LinkIn, O: LinkOut, C: Clock, T: Tender>(
 {
     let mut at = 0;
     while at < links.len() {
-        match turn_at(alloc, post, clock, tender, patience, links, at) {
+        match turn_at(alloc, post, clock, tender, poll_delay, links, at) {
             Ok(passed) => at += passed,
             Err(error) => return Some(error),
         }
@@ -137,21 +137,21 @@ fn is_shut(state: Conn) -> bool
 }
 
 /// Pauses, the longer nothing was found lately; where the dialer can wait, until bytes come, until there is news, or until a moment at which
-/// something is due. Right behind a round that found something it does not. A round without links found nothing.
+/// something is due. Right after a round that found something it does not. A round without links found nothing.
 fn rest<N: Dialer, C: Clock>(
     dialer: &N,
     clock: &C,
-    patience: &mut Patience,
+    poll_delay: &mut PollDelay,
     links: usize,
     due: Option<u64>,
 ) {
     if links == 0 {
-        patience.miss();
+        poll_delay.miss();
     }
-    let pause = if patience.takes_find() {
+    let pause = if poll_delay.takes_find() {
         Pause::None
     } else {
-        patience.pause()
+        poll_delay.pause()
     };
     if !dialer.wait(pause, due) {
         clock.pause(pause);
@@ -165,7 +165,7 @@ fn round<P: Post + Glance, N: Dialer, C: Clock, T: Tender>(
     dialer: &mut N,
     clock: &C,
     tender: &mut T,
-    patience: &mut Patience,
+    poll_delay: &mut PollDelay,
     links: &mut Vec<OpenLink<N::In, N::Out>>,
 ) -> Option<Pumped>
     ensures round { let before : HandleSeen = record { made = P.made post.old; errors = P.errors post.old; last = P.last_error post.old } in let after : HandleSeen = record { made = P.made post.new; errors = P.errors post.new; last = P.last_error post.new } in Rounds before after (P.last_look post.new) result }
@@ -180,10 +180,10 @@ fn round<P: Post + Glance, N: Dialer, C: Clock, T: Tender>(
     if let Some(error) = dial_part(post, dialer, clock, tender, links) {
         return Some(Pumped::Failed(error));
     }
-    if let Some(error) = links_part(alloc, post, clock, tender, patience, links) {
+    if let Some(error) = links_part(alloc, post, clock, tender, poll_delay, links) {
         return Some(Pumped::Failed(error));
     }
-    rest(dialer, clock, patience, links.len(), view.next);
+    rest(dialer, clock, poll_delay, links.len(), view.next);
     let ticked = tick_if_due(post, clock);
     match ticked {
         Ok(_) => None,
@@ -228,9 +228,9 @@ fn run_rounds<W: Wait, P: Post + Glance, N: Dialer, C: Clock, T: Tender>(
     ensures run { let eyes : Eyes P T N.In N.Out = eyes_of P.made P.errors P.last_error P.last_look T.turns T.last_turn N.In.LinkIn.left N.In.LinkIn.faults N.In.LinkIn.quiet N.Out.LinkOut.taken N.Out.LinkOut.faults N.Out.LinkOut.closed in RunsOn eyes (λ (d : N). record { coming = N.coming d; faults = N.faults d }) (C.may_give clock.now) (record { site = record { post = post.old; tender = tender.old }; dialer = dialer.old; links = links.old.items }) (record { site = record { post = post.new; tender = tender.new }; dialer = dialer.new; links = links.new.items }) result }
     ensures share { P.share post.new ≡ P.share post.old }
 {
-    let mut patience = Patience::new();
+    let mut poll_delay = PollDelay::new();
     for _ in rt.forever() {
-        if let Some(end) = round(alloc, post, dialer, clock, tender, &mut patience, links) {
+        if let Some(end) = round(alloc, post, dialer, clock, tender, &mut poll_delay, links) {
             return end;
         }
     }
@@ -254,7 +254,7 @@ pub fn net_worker<W: Wait, P: Post + Glance, N: Dialer, C: Clock, T: Tender>(
     ensures looks { Rises (P.looks post.old) (P.looks post.new) }
     ensures run { let eyes : Eyes P T N.In N.Out = eyes_of P.made P.errors P.last_error P.last_look T.turns T.last_turn N.In.LinkIn.left N.In.LinkIn.faults N.In.LinkIn.quiet N.Out.LinkOut.taken N.Out.LinkOut.faults N.Out.LinkOut.closed in RunsTo eyes (λ (d : N). record { coming = N.coming d; faults = N.faults d }) (C.may_give clock.now) (record { site = record { post = post.old; tender = tender.old }; dialer = dialer.old; links = [] }) (record { post = post.new; tender = tender.new }) dialer.new result }
     ensures causes { let eyes : Eyes P T N.In N.Out = eyes_of P.made P.errors P.last_error P.last_look T.turns T.last_turn N.In.LinkIn.left N.In.LinkIn.faults N.In.LinkIn.quiet N.Out.LinkOut.taken N.Out.LinkOut.faults N.Out.LinkOut.closed in IsCaused eyes (eyes.handle post.old) (eyes.handle post.new) }
-    ensures fronts { let before : HandleSeen = record { made = P.made post.old; errors = P.errors post.old; last = P.last_error post.old } in let after : HandleSeen = record { made = P.made post.new; errors = P.errors post.new; last = P.last_error post.new } in ArrivesInFront (N.coming dialer.old) before after }
+    ensures prefixes { let before : HandleSeen = record { made = P.made post.old; errors = P.errors post.old; last = P.last_error post.old } in let after : HandleSeen = record { made = P.made post.new; errors = P.errors post.new; last = P.last_error post.new } in ArrivesBefore (N.coming dialer.old) before after }
     ensures kinds { AddsOnly IsOfLinks (P.made post.old) (P.made post.new) }
     ensures share { P.share post.new ≡ P.share post.old }
 {

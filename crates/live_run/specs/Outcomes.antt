@@ -4,7 +4,7 @@ use Rattle.grpc_base.specs.declared.post.Look.{Look}
 use Rattle.grpc_base.specs.declared.post.PostError.{PostError}
 use Rattle.grpc_base.specs.declared.post.PostError.TheVariants as failed
 use Rattle.grpc_base.specs.declared.script.CallLine.{CallLine}
-use Rattle.live_pump.specs.Calls.{LinesFront, MakesLines}
+use Rattle.live_pump.specs.Calls.{LinesPrefix, MakesLines}
 use Rattle.live_pump.specs.Pumps.{HandleSeen}
 use Rattle.live_pump.specs.Workers.{Ends, IsCauseOf}
 use Rattle.live_pump.specs.declared.pumped.Pumped.{Pumped}
@@ -12,7 +12,7 @@ use Rattle.live_pump.specs.declared.pumped.Pumped.TheVariants as pumped
 use Rattle.live_run.specs.declared.outcome.Outcome.{Outcome}
 use Rattle.live_run.specs.declared.outcome.Outcome.TheVariants as outcome
 
--- how a worker ended that was told an error
+-- how a worker ended that was given an error
 abbrev pub outcome_of : PostError → Outcome
 outcome_of (failed.NoMemory spent) = outcome.NoMemory
 outcome_of (failed.SessionFull entries octets) = outcome.Full
@@ -37,10 +37,10 @@ ended_with _ = outcome.Whole
 abbrev pub KeepsLinks : HandleSeen → HandleSeen → Option Look → Outcome → Type 0
 KeepsLinks before after look o = (end : Pumped) × Ends before after look end × (o ≡ ended_with end)
 
--- a worker that makes calls made all its lines, or a front of them, and then an error came, with its cause
+-- a worker that makes calls made all its lines, or a prefix of them, and then an error came, with its cause
 abbrev pub MakesCalls : List CallLine → HandleSeen → HandleSeen → Outcome → Type 0
 MakesCalls lines before after outcome.Whole = MakesLines lines before.made after.made × (after.errors ≡ before.errors)
-MakesCalls lines before after o = LinesFront lines before.made after.made × ((e : PostError) × (outcome_of e ≡ o) × IsCauseOf e before after)
+MakesCalls lines before after o = LinesPrefix lines before.made after.made × ((e : PostError) × (outcome_of e ≡ o) × IsCauseOf e before after)
 
 -- the worker that looks a name up ended: no post of it failed, or an error came, with its cause
 abbrev pub EndsLookups : HandleSeen → HandleSeen → Outcome → Type 0

@@ -5,7 +5,7 @@ use Rattle.grpc_base.specs.declared.event.Event.{Event}
 use Rattle.grpc_base.specs.declared.event.Event.TheVariants as event
 use Rattle.grpc_base.specs.declared.post.Look.{Look}
 use Rattle.grpc_base.specs.declared.post.PostError.{PostError}
-use Rattle.live_pump.specs.Fronts.{ArrivesInFront}
+use Rattle.live_pump.specs.Prefixes.{ArrivesBefore}
 use Rattle.live_pump.specs.Kinds.{AddsOnly, IsOfLinks}
 use Rattle.live_pump.specs.Pumps.{HandleSeen}
 use Rattle.live_run.specs.Outcomes.{EndsLookups, KeepsLinks, MakesCalls}
@@ -16,7 +16,7 @@ use Rattle.live_run.specs.declared.link_job.LinkJob.{LinkJob}
 use Rattle.live_run.specs.declared.link_job.LinkJob.TheVariants as job
 use Rattle.live_run.specs.declared.outcome.Outcome.{Outcome}
 
--- a handle, by what it tells of its entries and its errors
+-- a handle, by what it reports of its entries and its errors
 abbrev pub seen_by : {H : Type 0} → (H → List Entry) → (H → ℕ) → (H → Option PostError) → H → HandleSeen
 seen_by made errors last post = record { made = made post; errors = errors post; last = last post }
 
@@ -25,19 +25,19 @@ pub record CallDone {H : Type 0} (seen : H → HandleSeen) (share : H → List �
   pub makes : MakesCalls before.lines.items (seen before.post) (seen after.post) after.outcome
   pub same_share : share after.post ≡ share before.post
 
--- a worker that keeps links open ended. What it posted as Arrived are fronts of what its dialer held, and it posted nothing but
+-- a worker that keeps links open ended. What it posted as Arrived are prefixes of what its dialer held, and it posted nothing but
 -- what is of dials, of links and of the clock. Its handle has the share of the channel that it had
 pub record NetDone {H N : Type 0} (seen : H → HandleSeen) (share : H → List ℕ) (last_look : H → Option Look) (coming : N → Option (List (List ℕ))) (before after : NetJob H N) : Type 0 where
   pub keeps : KeepsLinks (seen before.post) (seen after.post) (last_look after.post) after.outcome
-  pub fronts : ArrivesInFront (coming before.dialer) (seen before.post) (seen after.post)
+  pub prefixes : ArrivesBefore (coming before.dialer) (seen before.post) (seen after.post)
   pub posts : AddsOnly IsOfLinks (seen before.post).made (seen after.post).made
   pub same_share : share after.post ≡ share before.post
 
--- an event that tells of a lookup; addresses come with this config
+-- an event that reports a lookup; addresses come with this config
 abbrev pub IsOfNames : Option (List ℕ) → Event → Type 0
-IsOfNames told (event.Resolved addresses config) = config ≡ told
-IsOfNames told event.ResolveFailed = Unit {0}
-IsOfNames told _ = ⊥
+IsOfNames reported (event.Resolved addresses config) = config ≡ reported
+IsOfNames reported event.ResolveFailed = Unit {0}
+IsOfNames reported _ = ⊥
 
 -- the worker that looks a name up ended. It posted nothing but what is of lookups, with the config that it was given. Its handle has
 -- the share of the channel that it had

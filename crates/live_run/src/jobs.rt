@@ -1,6 +1,6 @@
 // The work of each worker.
 ghost use Rattle.std.specs.Prelude.{◌≡◌};
-ghost use Rattle.live_pump.specs.Fronts.{ArrivesInFront};
+ghost use Rattle.live_pump.specs.Prefixes.{ArrivesBefore};
 ghost use Rattle.live_pump.specs.Kinds.{AddsOnly, IsOfLinks};
 ghost use Rattle.live_pump.specs.Pumps.{HandleSeen};
 ghost use Rattle.live_run.specs.Outcomes.{EndsLookups, KeepsLinks, MakesCalls, ended_with};
@@ -8,7 +8,7 @@ ghost use Rattle.live_run.specs.Sides.{IsOfNames};
 
 use crate::{Outcome, Watching};
 use dns_watch::{DnsOnce, DnsWatch, Lookup, dns_once};
-use gate_io::{Clock, Dialer, Draws, Patience};
+use gate_io::{Clock, Dialer, Draws, PollDelay};
 use grpc_base::{CallLine, Caller, Glance, Octets, Post};
 use live_pump::{Pumped, call_worker, net_worker};
 use std::alloc::Global;
@@ -28,7 +28,7 @@ impl<H: Post + Glance, N: Dialer> NetJob<H, N> {
     /// Keeps links open until the channel is shut down.
     pub(crate) fn work<W: Wait, C: Clock>(&mut self, rt: &W, clock: &C)
         ensures end { let before : HandleSeen = record { made = H.made self.old.post; errors = H.errors self.old.post; last = H.last_error self.old.post } in let after : HandleSeen = record { made = H.made self.new.post; errors = H.errors self.new.post; last = H.last_error self.new.post } in KeepsLinks before after (H.last_look self.new.post) self.new.outcome }
-        ensures fronts { let before : HandleSeen = record { made = H.made self.old.post; errors = H.errors self.old.post; last = H.last_error self.old.post } in let after : HandleSeen = record { made = H.made self.new.post; errors = H.errors self.new.post; last = H.last_error self.new.post } in ArrivesInFront (N.coming self.old.dialer) before after }
+        ensures prefixes { let before : HandleSeen = record { made = H.made self.old.post; errors = H.errors self.old.post; last = H.last_error self.old.post } in let after : HandleSeen = record { made = H.made self.new.post; errors = H.errors self.new.post; last = H.last_error self.new.post } in ArrivesBefore (N.coming self.old.dialer) before after }
         ensures posts { AddsOnly IsOfLinks (H.made self.old.post) (H.made self.new.post) }
         ensures share { H.share self.new.post ≡ H.share self.old.post }
     {
@@ -54,7 +54,7 @@ fn outcome_of(end: &Pumped) -> Outcome
     }
 }
 
-/// The work of one that makes calls, one behind another.
+/// The work of one that makes calls, one after another.
 #[derive(Drop)]
 pub struct CallJob<H> {
     pub post: H,
@@ -76,7 +76,7 @@ impl<H: Caller> CallJob<H> {
     }
 }
 
-/// The work of the one that looks a name up and tells the channel.
+/// The work of the one that looks a name up and reports to the channel.
 #[derive(Drop)]
 pub struct NameJob<H, L, D> {
     pub alloc: Global,
@@ -95,7 +95,7 @@ impl<H: Post + Glance, L: Lookup, D: Draws> NameJob<H, L, D> {
         ensures posts { AddsOnly (IsOfNames self.old.config) (H.made self.old.post) (H.made self.new.post) }
         ensures share { H.share self.new.post ≡ H.share self.old.post }
     {
-        let mut patience = Patience::new();
+        let mut poll_delay = PollDelay::new();
         for _ in rt.forever() {
             match dns_once(
                 self.alloc,
@@ -107,10 +107,10 @@ impl<H: Post + Glance, L: Lookup, D: Draws> NameJob<H, L, D> {
                 &self.config,
             ) {
                 DnsOnce::Nothing => {
-                    patience.miss();
-                    clock.pause(patience.pause());
+                    poll_delay.miss();
+                    clock.pause(poll_delay.pause());
                 }
-                DnsOnce::Posted => patience.hit(),
+                DnsOnce::Posted => poll_delay.hit(),
                 DnsOnce::Shut | DnsOnce::Refused { .. } => {
                     self.outcome = Outcome::Whole;
                     return;

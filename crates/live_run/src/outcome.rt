@@ -16,7 +16,7 @@ pub enum Outcome {
 }
 
 impl Outcome {
-    /// How a worker ended that was told this error.
+    /// How a worker ended that was given this error.
     pub fn of_error(error: PostError) -> Outcome
         ensures { result ≡ outcome_of error }
     {

@@ -1,4 +1,4 @@
-// A channel in memory: it makes an entry of each event, and replies by what it is told.
+// A channel in memory: it makes an entry of each event, and replies by what it is reported.
 ghost use Rattle.std.specs.Prelude.{◌≡◌, ◌++◌, ◌∷◌, [], IfOk, OnErr, Some, false};
 ghost use Rattle.grpc_base.specs.Counts.{one_more};
 ghost use Rattle.grpc_base.specs.Posts.{AddsEntry, CountsErrors, MayReply, Posts, is_not_yet};
@@ -147,7 +147,7 @@ pub struct Channel {
     last_error: Option<PostError>,
     looks: u64,
     last_look: Option<Look>,
-    /// How often it was told that a worker found no memory.
+    /// How often it was notified that a worker found no memory.
     pub notes: u64,
     zero: Moment,
     ok: Code,

@@ -67,7 +67,7 @@ fn resolved(channel: &Channel) -> &[Address] {
 }
 
 #[test]
-fn a_job_tells_the_channel_what_its_lookups_found(rt: HostRuntime) -> Result<(), Fail> {
+fn a_job_reports_to_the_channel_what_its_lookups_found(rt: HostRuntime) -> Result<(), Fail> {
     let alloc = rt.alloc();
     // Found at 0, so not due at 5 s but at 30 s; that fails, so not due at once but a second after.
     let moments = vec![in alloc;
@@ -130,7 +130,7 @@ fn many(alloc: Global) -> Result<MemLookup, Fail> {
 }
 
 #[test]
-fn of_seventy_addresses_the_first_64_are_told(rt: HostRuntime) -> Result<(), Fail> {
+fn of_seventy_addresses_the_first_64_are_reported(rt: HostRuntime) -> Result<(), Fail> {
     let alloc = rt.alloc();
     let mut channel = Channel::new(alloc, Plan::new()).expect(&rt, "0 is a moment");
     let came = dns_once(
@@ -143,10 +143,10 @@ fn of_seventy_addresses_the_first_64_are_told(rt: HostRuntime) -> Result<(), Fai
         &Some(Octets::of_static(b"{}")),
     );
     assert_eq!(rt; came, DnsOnce::Posted);
-    let told = resolved(&channel);
-    assert_eq!(rt; told.len(), 64);
+    let reported = resolved(&channel);
+    assert_eq!(rt; reported.len(), 64);
     let (ip, port) = (64, 50_051);
-    assert_eq!(rt; told.last(), Some(&Address { ip, port }));
+    assert_eq!(rt; reported.last(), Some(&Address { ip, port }));
     Ok(())
 }
 

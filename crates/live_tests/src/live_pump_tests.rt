@@ -185,7 +185,7 @@ fn what_is_drained_is_written_whole_or_the_link_is_lost(rt: HostRuntime) -> Resu
     Ok(())
 }
 
-/// A link in memory that stays quiet behind these bytes.
+/// A link in memory that stays quiet after these bytes.
 fn link(alloc: Global, bytes: &[u8]) -> Result<MemLink, AllocError> {
     Ok(MemLink {
         input: input(alloc, bytes, false, &[])?,
@@ -314,7 +314,7 @@ fn run<W: Wait>(
 }
 
 #[test]
-fn a_device_that_fails_once_in_a_run_is_told_once(rt: HostRuntime) -> Result<(), Fail> {
+fn a_device_that_fails_once_in_a_run_is_reported_once(rt: HostRuntime) -> Result<(), Fail> {
     // A drain is written in two pieces, so the third write is the second round's first.
     for (dial, read, write, posted) in [
         (
@@ -347,7 +347,7 @@ fn a_peer_that_never_answers_is_pinged_and_lost(rt: HostRuntime) -> Result<(), F
     rounds.glances = 18;
     let mut channel = Channel::new(alloc, rounds).expect(&rt, "0 is a moment");
     let mut dialer = dialer(alloc, b"settings", &[])?;
-    // The link is opened at 0 and heard at 1; then each round reads the clock for the tender and for the tick.
+    // The link is opened at 0 and received at 1; then each round reads the clock for the tender and for the tick.
     let clock = ListClock::new(vec![in alloc; 0, 1, 1, 1, 11, 11, 12, 12, 13]?);
     let rule = KeepRule {
         time: 10,

@@ -37,7 +37,7 @@ fn name(alloc: Global, post: Channel) -> Result<Job, Fail> {
     }))
 }
 
-/// How often the channel of a worker was told that memory was wanting.
+/// How often the channel of a worker was notified that memory was wanting.
 fn notes_of(job: &Job) -> u64 {
     match job {
         LinkJob::Net(net) => net.post.notes,
@@ -93,8 +93,8 @@ fn a_worker_that_found_no_memory_lets_the_channel_know(rt: HostRuntime) -> Resul
         let post = Channel::new(alloc, plan).expect(&rt, "0 is a moment");
         jobs.push(name(alloc, post)?)?;
         let came = work_links(&rt, &clock, jobs.as_mut_slice());
-        let told = (notes_of(&jobs[0]), notes_of(&jobs[1]));
-        assert_eq!(rt; (row, came, told), (row, outcome, (notes, notes)));
+        let reported = (notes_of(&jobs[0]), notes_of(&jobs[1]));
+        assert_eq!(rt; (row, came, reported), (row, outcome, (notes, notes)));
     }
     Ok(())
 }

@@ -6,7 +6,7 @@ use Rattle.std.specs.List.{flat_map, range_with_len}
 use Rattle.load_plan.specs.Batches.{batches_of, calls_in}
 use Rattle.load_plan.proofs.Runs.{range_join}
 
--- the calls of a batch and all behind it are the calls from its first one on: it is full, or none is behind it
+-- the calls of a batch and all after it are the calls from its first one on: it is full, or none is after it
 joined : (calls k : ℕ) (full : Bool) → nat_le 16 (calls - 16 * k) ≡ full → calls_in calls k ++ range_with_len (16 * (k + 1) + 1) (calls - 16 * (k + 1)) ≡ range_with_len (16 * k + 1) (calls - 16 * k)
 joined calls k true t =
     let enough : 16 ≤ calls - 16 * k = grind (arith, nat_tests) in
@@ -26,8 +26,8 @@ from_batch calls k zero e =
     let none : 0 ≡ calls - 16 * k = omega (arith, e) in
     ap (range_with_len (16 * k + 1)) none
 from_batch calls k (suc n) e =
-    let behind : batches_of calls ≡ k + 1 + n = omega (arith, e) in
-    ap (λ xs. calls_in calls k ++ xs) (from_batch calls (k + 1) n behind)
+    let afterwards : batches_of calls ≡ k + 1 + n = omega (arith, e) in
+    ap (λ xs. calls_in calls k ++ xs) (from_batch calls (k + 1) n afterwards)
     ∙ joined calls k (nat_le 16 (calls - 16 * k)) refl
 
 pub each_call_once : (calls : ℕ) → flat_map (calls_in calls) (range_with_len 0 (batches_of calls)) ≡ range_with_len 1 calls

@@ -26,8 +26,8 @@ run_climbs bound f k zero j e each =
     let same : k ≡ j = omega (arith, e) in
     subst (λ i. bound k ≤ bound i) same (le_refl (bound k))
 run_climbs bound f k (suc n) j e each =
-    let behind : k + 1 + n ≡ j = omega (arith, e) in
-    joined (bound k) (bound (k + 1)) (bound j) (f k) (flat_map f (range_with_len (k + 1) n)) (each k) (run_climbs bound f (k + 1) n j behind each)
+    let afterwards : k + 1 + n ≡ j = omega (arith, e) in
+    joined (bound k) (bound (k + 1)) (bound j) (f k) (flat_map f (range_with_len (k + 1) n)) (each k) (run_climbs bound f (k + 1) n j afterwards each)
 
 call_climbs : (seed moment call : ℕ) → Climbs moment (call_actions seed moment call) moment
 call_climbs seed moment call = let same : moment ≤ moment = le_refl moment in (same, (same, (same, (same, same))))

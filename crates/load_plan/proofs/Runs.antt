@@ -32,7 +32,7 @@ flat_map_range f a n j e =
     ∙ flat_map-append f (range_with_len a n) (j ∷ [])
     ∙ ap (λ xs. flat_map f (range_with_len a n) ++ xs) (append-nil (f j))
 
--- what stands for one number more goes behind what stood there
+-- what stands for one number more goes after what stood there
 pub run_more : {X : Type 0} (f : ℕ → List X) (a n j : ℕ) (old now new : List X) → a + n ≡ j → now ≡ old ++ flat_map f (range_with_len a n) → new ≡ now ++ f j → new ≡ old ++ flat_map f (range_with_len a (n + 1))
 run_more f a n j old now new e kept added =
     added

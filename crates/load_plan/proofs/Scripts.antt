@@ -9,12 +9,12 @@ use Rattle.grpc_base.specs.declared.script.AnswerPart.{AnswerPart}
 use Rattle.grpc_base.specs.declared.script.AnswerPart.TheVariants as part
 use Rattle.grpc_base.specs.Backoff.{draw, nth_word}
 use Rattle.grpc_base.specs.Requests.{IsPath, names_of_path}
-use Rattle.grpc_base.specs.Scripts.{AreNumbered, IsAnswer, IsAnswerPart, IsServerScript, count_of, ends_stream, is_goaway}
-use Rattle.grpc_base.proofs.PathLaws.{path_told}
+use Rattle.grpc_base.specs.Scripts.{AnswersAreNumbered, IsAnswer, IsAnswerPart, IsServerScript, count_of, ends_stream, is_goaway}
+use Rattle.grpc_base.proofs.PathLaws.{path_reported}
 use Rattle.load_plan.specs.Answers.{answer, drawn_answer, drawn_parts, good_parts, load_path, server_script}
 
 pub load_path_is : IsPath load_path
-load_path_is = (path_told (λ n. n) (names_of_path load_path) load_path true refl refl).0 refl
+load_path_is = (path_reported (λ n. n) (names_of_path load_path) load_path true refl refl).0 refl
 
 -- the parts of an answer keep their rules
 record AreParts (parts : List AnswerPart) : Type 0 where
@@ -67,8 +67,8 @@ drawn_count seed k zero j e =
     let last : j ≡ k = omega (arith, e) in
     (refl, last, tt)
 drawn_count seed k (suc n) j e =
-    let behind : k + 1 + n ≡ j = omega (arith, e) in
-    (refl, refl, drawn_count seed (k + 1) n j behind)
+    let afterwards : k + 1 + n ≡ j = omega (arith, e) in
+    (refl, refl, drawn_count seed (k + 1) n j afterwards)
 
 number_at : (k i : ℕ) (xs : List AnswerLine) (d : AnswerLine) → Counts k xs → i < length xs → ((get_or xs i d).path ≡ load_path) × ((get_or xs i d).n ≡ k + i)
 number_at k i [] d counts within = absurd (omega (arith, within))
@@ -93,7 +93,7 @@ counted_before (suc i) xs d counts within =
     ∙ ap (λ n. n + 1) (counted_before i xs d counts before)
     ∙ sym one
 
-numbered : (xs : List AnswerLine) → Counts 1 xs → AreNumbered xs
+numbered : (xs : List AnswerLine) → Counts 1 xs → AnswersAreNumbered xs
 numbered xs counts i d within =
     let at : ((get_or xs i d).path ≡ load_path) × ((get_or xs i d).n ≡ 1 + i) = number_at 1 i xs d counts within in
     let before : count_of (get_or xs i d).path (take i xs) ≡ i = ap (λ path. count_of path (take i xs)) at.0 ∙ counted_before i xs d counts (let early : i ≤ length xs = omega (arith, within) in early) in

@@ -35,6 +35,6 @@ answer n parts = record { path = load_path; n = n; parts = parts }
 abbrev pub drawn_answer : ℕ → ℕ → AnswerLine
 drawn_answer seed n = answer n (drawn_parts (draw (nth_word seed n) 3))
 
--- the script of the server: an answer for each call, and a good one behind these
+-- the script of the server: an answer for each call, and a good one after these
 abbrev pub server_script : ℕ → ℕ → ServerScript
 server_script seed calls = record { answers = map (drawn_answer seed) (range_with_len 1 calls) ++ answer (calls + 1) good_parts ∷ [] }

@@ -14,6 +14,6 @@ calls_in calls number = range_with_len (16 * number + 1) (min 16 (calls - 16 * n
 abbrev pub round_nanos : ℕ
 round_nanos = 10000000
 
--- when a batch begins: sixteen rounds behind the one before
+-- when a batch begins: sixteen rounds after the one before
 abbrev pub batch_moment : ℕ → ℕ
 batch_moment number = 16 * number * round_nanos

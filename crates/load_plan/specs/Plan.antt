@@ -55,7 +55,7 @@ call_actions seed moment call =
     ∷ at moment does.Exchange
     ∷ []
 
--- a round, from 1, behind the calls that began at a moment: time passes, and the links exchange what they hold
+-- a round, from 1, after the calls that began at a moment: time passes, and the links exchange what they hold
 abbrev pub round_actions : ℕ → ℕ → List LoadAction
 round_actions begun round =
     at (begun + round * round_nanos) (does.Post event.Tick)
@@ -72,6 +72,6 @@ batch_actions seed calls number =
     ++ flat_map (round_actions (batch_moment number)) (range_with_len 1 16)
     ++ map (takes_at (batch_moment (number + 1))) (calls_in calls number)
 
--- a load: what is done before the first call, and then its batches one behind another
+-- a load: what is done before the first call, and then its batches one after another
 abbrev pub actions_of : ℕ → ℕ → List LoadAction
 actions_of seed calls = opening ++ flat_map (batch_actions seed calls) (range_with_len 0 (batches_of calls))

@@ -19,7 +19,7 @@ const REFUSED_STREAM: u32 = 7;
 
 impl Load {
     /// What the server answers: to the n-th request of the load's path, for each n up to the calls, by the word of n, and
-    /// one good answer behind these.
+    /// one good answer after these.
     pub fn server(self, alloc: Global) -> Result<ServerScript, NoMemory>
         ensures script { IfOk result (λ s. s ≡ server_script self.seed self.calls) }
         ensures valid { IfOk result IsServerScript }

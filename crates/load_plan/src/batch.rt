@@ -14,7 +14,7 @@ use crate::words::drawn;
 use grpc_base::{Event, Items, Metadata, NoMemory, Octets, Request, RequestFault};
 use std::alloc::Global;
 
-/// The rounds behind the calls of a batch.
+/// The rounds after the calls of a batch.
 const ROUNDS: u32 = 16;
 
 /// How many nanoseconds pass in a round.
@@ -43,7 +43,7 @@ impl Load {
     }
 }
 
-/// Appends what `count` calls do behind the first `before` calls, all at one moment.
+/// Appends what `count` calls do after the first `before` calls, all at one moment.
 fn append_calls(
     alloc: Global,
     actions: &mut Items<LoadAction>,
@@ -126,7 +126,7 @@ fn append_round(actions: &mut Items<LoadAction>, nanos: u64, round: u64) -> Resu
     append_step(actions, moment, LoadStep::Exchange)
 }
 
-/// Appends takes of `count` calls behind the first `before` calls, all at one moment.
+/// Appends takes of `count` calls after the first `before` calls, all at one moment.
 fn append_takes(
     actions: &mut Items<LoadAction>,
     nanos: u64,

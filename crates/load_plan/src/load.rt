@@ -11,7 +11,7 @@ pub struct Load {
     pub ghost within: { calls ≤ 10000 },
 }
 
-/// How many calls begin one behind another before time passes.
+/// How many calls begin one after another before time passes.
 pub const BATCH: u32 = 16;
 
 impl Load {

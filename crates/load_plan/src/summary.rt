@@ -27,7 +27,7 @@ pub struct LoadSummary {
 }
 
 impl LoadSummary {
-    /// Its line, with no line feed behind it.
+    /// Its line, with no line feed after it.
     pub fn line(&self, alloc: Global) -> Result<Octets, NoMemory>
         ensures { IfOk result (λ line. line ≡ summary_line self.now) }
     {

@@ -14,7 +14,7 @@ use Rattle.loop_server.specs.Steps.{CoreArrives}
 use Rattle.load_plan.specs.declared.action.LoadAction.{LoadAction}
 use Rattle.load_plan.specs.declared.action.LoadStep.{LoadStep}
 use Rattle.load_plan.specs.declared.action.LoadStep.TheVariants as does
-use Rattle.load_session.specs.Playing.{ArriveAt, Does, Drained, Exchanges, Hears, Plays, Posts, Sends, Sides, Takes, TakesMore, is_more, octets_in}
+use Rattle.load_session.specs.Playing.{ArriveAt, Does, Drained, Exchanges, Receives, Plays, Posts, Sends, Sides, Takes, TakesMore, is_more, octets_in}
 
 -- ---- one link
 
@@ -33,8 +33,8 @@ pub arrive_some : (moment link : ℕ) (octets : List ℕ) (old new : CoreSeen) (
 arrive_some moment link [] old new r some posts = absurd (some refl)
 arrive_some moment link (x ∷ octets) old new r some posts = (r, posts)
 
-pub hears : (moment link : ℕ) (old new : CoreSeen) (server after : Core) (octets : List ℕ) → CoreDrains server link after octets → ArriveAt moment link octets old new → Hears moment link (record { channel = old; server = server }) (record { channel = new; server = after })
-hears moment link old new server after octets drains arrive = record { octets = octets; drains = drains; arrive = arrive }
+pub receives : (moment link : ℕ) (old new : CoreSeen) (server after : Core) (octets : List ℕ) → CoreDrains server link after octets → ArriveAt moment link octets old new → Receives moment link (record { channel = old; server = server }) (record { channel = new; server = after })
+receives moment link old new server after octets drains arrive = record { octets = octets; drains = drains; arrive = arrive }
 
 -- ---- takes
 
@@ -79,23 +79,23 @@ Plays-snoc xs x a b c plays done = Plays-join xs (x ∷ []) a b c plays (c, done
 
 -- the actions so far, and those that are left
 pub record IsPlaying (all : List LoadAction) (a now : Sides) (left : List LoadAction) : Type 0 where
-  pub front : List LoadAction
-  pub parts : all ≡ front ++ left
-  pub plays : Plays front a now
+  pub prefix : List LoadAction
+  pub parts : all ≡ prefix ++ left
+  pub plays : Plays prefix a now
 
 pub IsPlaying-new : (all left : List LoadAction) (a : Sides) → left ≡ all → IsPlaying all a a left
-IsPlaying-new all left a same = record { front = []; parts = sym same; plays = refl }
+IsPlaying-new all left a same = record { prefix = []; parts = sym same; plays = refl }
 
 pub IsPlaying-more : (all left rest : List LoadAction) (x : LoadAction) (a now new : Sides) → IsPlaying all a now left → left ≡ x ∷ rest → Does x.moment x.step now new → IsPlaying all a new rest
 IsPlaying-more all left rest x a now new playing e done = record {
-  front = playing.front ++ x ∷ [];
-  parts = playing.parts ∙ ap (λ (xs : List LoadAction). playing.front ++ xs) e ∙ sym (append_assoc playing.front (x ∷ []) rest);
-  plays = Plays-snoc playing.front x a now new playing.plays done;
+  prefix = playing.prefix ++ x ∷ [];
+  parts = playing.parts ∙ ap (λ (xs : List LoadAction). playing.prefix ++ xs) e ∙ sym (append_assoc playing.prefix (x ∷ []) rest);
+  plays = Plays-snoc playing.prefix x a now new playing.plays done;
 }
 
 pub IsPlaying-done : (all left : List LoadAction) (a now : Sides) → IsPlaying all a now left → left ≡ [] → Plays all a now
 IsPlaying-done all left a now playing none =
-    subst (λ (xs : List LoadAction). Plays xs a now) (sym (playing.parts ∙ ap (λ (xs : List LoadAction). playing.front ++ xs) none ∙ append-nil playing.front)) playing.plays
+    subst (λ (xs : List LoadAction). Plays xs a now) (sym (playing.parts ∙ ap (λ (xs : List LoadAction). playing.prefix ++ xs) none ∙ append-nil playing.prefix)) playing.plays
 
 -- ---- many batches
 

@@ -58,11 +58,11 @@ got {X} f a (suc n) zero p at =
     inl (ap (λ (j : ℕ). Some (f j)) here)
 got f a (suc n) (suc k) p at =
     let further : a + 1 + k ≡ p = omega (arith, at) in
-    behind (got f (a + 1) n k p further)
+    afterwards (got f (a + 1) n k p further)
   where
-    behind : (slice_get (map f (range_with_len (a + 1) n)) k ≡ Some (f p)) ⊎ ((slice_get (map f (range_with_len (a + 1) n)) k ≡ None) × (a + 1 + n ≤ p)) → (slice_get (map f (range_with_len (a + 1) n)) k ≡ Some (f p)) ⊎ ((slice_get (map f (range_with_len (a + 1) n)) k ≡ None) × (a + suc n ≤ p))
-    behind (inl there) = inl there
-    behind (inr gone) = inr (gone.0, omega (arith, gone.1))
+    afterwards : (slice_get (map f (range_with_len (a + 1) n)) k ≡ Some (f p)) ⊎ ((slice_get (map f (range_with_len (a + 1) n)) k ≡ None) × (a + 1 + n ≤ p)) → (slice_get (map f (range_with_len (a + 1) n)) k ≡ Some (f p)) ⊎ ((slice_get (map f (range_with_len (a + 1) n)) k ≡ None) × (a + suc n ≤ p))
+    afterwards (inl there) = inl there
+    afterwards (inr gone) = inr (gone.0, omega (arith, gone.1))
 
 -- ---- an end is noted
 
@@ -133,14 +133,14 @@ noted_more entries e n ends are =
 pub entries_more : (entries : List Entry) (i : ℕ) (e : Entry) → i < length entries → e ≡ get_or entries i e → take (i + 1) entries ≡ take i entries ++ e ∷ []
 entries_more entries i e within is = take_more entries i e within ∙ ap (λ (x : Entry). take i entries ++ x ∷ []) (sym is)
 
--- the calls behind number 0
+-- the calls after number 0
 pub from_one : (f : ℕ → Option ℕ) (n : ℕ) → map f (range_with_len 0 (n + 1)) ≡ f 0 ∷ map f (range_with_len 1 n)
 from_one f n =
     let count : n + 1 ≡ suc n = omega arith in
     ap (λ (k : ℕ). map f (range_with_len 0 k)) count
 
-pub behind_first : (f : ℕ → Option ℕ) (n : ℕ) (ends rest : List (Option ℕ)) → ends ≡ map f (range_with_len 0 (n + 1)) → ((first : Option ℕ) (others : List (Option ℕ)) → ends ≡ first ∷ others → rest ≡ others) → rest ≡ map f (range_with_len 1 n)
-behind_first f n ends rest are told = told (f 0) (map f (range_with_len 1 n)) (are ∙ from_one f n)
+pub after_the_first : (f : ℕ → Option ℕ) (n : ℕ) (ends rest : List (Option ℕ)) → ends ≡ map f (range_with_len 0 (n + 1)) → ((first : Option ℕ) (others : List (Option ℕ)) → ends ≡ first ∷ others → rest ≡ others) → rest ≡ map f (range_with_len 1 n)
+after_the_first f n ends rest are reported = reported (f 0) (map f (range_with_len 1 n)) (are ∙ from_one f n)
 
 pub are_few : (f : ℕ → Option ℕ) (n : ℕ) (rest : List (Option ℕ)) → rest ≡ map f (range_with_len 1 n) → n ≤ 10000 → length rest ≤ 10000
 are_few f n rest is few =

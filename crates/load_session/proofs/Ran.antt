@@ -17,13 +17,13 @@ use Rattle.journal_room.proofs.RunLaws.{step_has_run}
 use Rattle.load_plan.specs.declared.action.LoadAction.{LoadAction}
 use Rattle.load_plan.specs.declared.action.LoadStep.{LoadStep}
 use Rattle.load_plan.specs.declared.action.LoadStep.TheVariants as does
-use Rattle.load_session.specs.Playing.{ArriveAt, Does, Drained, Exchanges, ExchangesOn, Hears, Plays, Posts, Sends, Sides, Takes, TakesMore}
+use Rattle.load_session.specs.Playing.{ArriveAt, Does, Drained, Exchanges, ExchangesOn, Receives, Plays, Posts, Sends, Sides, Takes, TakesMore}
 use Rattle.load_session.specs.Steps.{GoesOn}
 use Rattle.load_session.specs.Stopping.{LacksRoom}
 use Rattle.load_session.specs.declared.fault.LoadFault.{LoadFault}
 use Rattle.load_session.specs.declared.fault.LoadFault.TheVariants as fault
 
--- ---- events behind those of a run
+-- ---- events after those of a run
 
 pub goes_on_none : (old new : CoreSeen) → new ≡ old → GoesOn old [] new
 goes_on_none old new same authority policies before run =
@@ -68,12 +68,12 @@ ran_arrive : (moment link : ℕ) (octets : List ℕ) (old new : CoreSeen) → Ar
 ran_arrive moment link [] old new same = ran_none old new same
 ran_arrive moment link (x ∷ octets) old new arrives = ran_one moment (event.Arrived link (x ∷ octets)) old new arrives.0 arrives.1
 
-pub ran_hears : (moment link : ℕ) (a b : Sides) → Hears moment link a b → Ran a.channel b.channel
-ran_hears moment link a b hears = ran_arrive moment link hears.octets a.channel b.channel hears.arrive
+pub ran_receives : (moment link : ℕ) (a b : Sides) → Receives moment link a b → Ran a.channel b.channel
+ran_receives moment link a b receives = ran_arrive moment link receives.octets a.channel b.channel receives.arrive
 
 pub ran_exchanges_on : (moment link : ℕ) (a b : Sides) → ExchangesOn moment link a b → Ran a.channel b.channel
 ran_exchanges_on moment link a b exchanges =
-    ran_join a.channel exchanges.0.channel b.channel (ran_sends moment link a exchanges.0 exchanges.1) (ran_hears moment link exchanges.0 b exchanges.2)
+    ran_join a.channel exchanges.0.channel b.channel (ran_sends moment link a exchanges.0 exchanges.1) (ran_receives moment link exchanges.0 b exchanges.2)
 
 pub ran_exchanges : (moment : ℕ) (a b : Sides) → Exchanges moment a b → Ran a.channel b.channel
 ran_exchanges moment a b exchanges =

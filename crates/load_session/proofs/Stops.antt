@@ -26,32 +26,32 @@ stops_takes moment step call a is stops = subst (λ (s : LoadStep). Stops moment
 
 pub stops_at : (all left rest : List LoadAction) (x : LoadAction) (a now : Sides) → IsPlaying all a now left → left ≡ x ∷ rest → Stops x.moment x.step now → StopsIn all a
 stops_at all left rest x a now playing e stops = record {
-  played = playing.front;
+  played = playing.prefix;
   action = x;
-  behind = rest;
-  parts = playing.parts ∙ ap (λ (xs : List LoadAction). playing.front ++ xs) e;
+  afterwards = rest;
+  parts = playing.parts ∙ ap (λ (xs : List LoadAction). playing.prefix ++ xs) e;
   mid = now;
   plays = playing.plays;
   stops = stops;
 }
 
-pub stops_in_front : (xs ys : List LoadAction) (a : Sides) → StopsIn xs a → StopsIn (xs ++ ys) a
-stops_in_front xs ys a stops = record {
+pub stops_before : (xs ys : List LoadAction) (a : Sides) → StopsIn xs a → StopsIn (xs ++ ys) a
+stops_before xs ys a stops = record {
   played = stops.played;
   action = stops.action;
-  behind = stops.behind ++ ys;
-  parts = ap (λ (zs : List LoadAction). zs ++ ys) stops.parts ∙ append_assoc stops.played (stops.action ∷ stops.behind) ys;
+  afterwards = stops.afterwards ++ ys;
+  parts = ap (λ (zs : List LoadAction). zs ++ ys) stops.parts ∙ append_assoc stops.played (stops.action ∷ stops.afterwards) ys;
   mid = stops.mid;
   plays = stops.plays;
   stops = stops.stops;
 }
 
-pub stops_behind : (xs ys : List LoadAction) (a b : Sides) → Plays xs a b → StopsIn ys b → StopsIn (xs ++ ys) a
-stops_behind xs ys a b plays stops = record {
+pub stops_after : (xs ys : List LoadAction) (a b : Sides) → Plays xs a b → StopsIn ys b → StopsIn (xs ++ ys) a
+stops_after xs ys a b plays stops = record {
   played = xs ++ stops.played;
   action = stops.action;
-  behind = stops.behind;
-  parts = ap (λ (zs : List LoadAction). xs ++ zs) stops.parts ∙ sym (append_assoc xs stops.played (stops.action ∷ stops.behind));
+  afterwards = stops.afterwards;
+  parts = ap (λ (zs : List LoadAction). xs ++ zs) stops.parts ∙ sym (append_assoc xs stops.played (stops.action ∷ stops.afterwards));
   mid = stops.mid;
   plays = Plays-join xs stops.played a b stops.mid plays stops.plays;
   stops = stops.stops;
@@ -83,4 +83,4 @@ stops_in_batch batch n total a now within plays stops =
     let rest : List ℕ = range_with_len (n + 1) (total - (n + 1)) in
     subst (λ (xs : List LoadAction). StopsIn xs a)
     (sym (ap (flat_map batch) (one_of n total within) ∙ flat_map-append batch (range_with_len 0 n) (n ∷ rest)))
-    (stops_behind (flat_map batch (range_with_len 0 n)) (batch n ++ flat_map batch rest) a now plays (stops_in_front (batch n) (flat_map batch rest) now stops))
+    (stops_after (flat_map batch (range_with_len 0 n)) (batch n ++ flat_map batch rest) a now plays (stops_before (batch n) (flat_map batch rest) now stops))

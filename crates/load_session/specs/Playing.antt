@@ -49,20 +49,20 @@ ArriveAt moment link [] old new = new ≡ old
 ArriveAt moment link (octet ∷ octets) old new = (r : Reply) × Posts moment (event.Arrived link (octet ∷ octets)) old new r
 
 -- what the server has to send on a link comes to the channel
-pub record Hears (moment link : ℕ) (a b : Sides) : Type 0 where
+pub record Receives (moment link : ℕ) (a b : Sides) : Type 0 where
   pub octets : List ℕ
   pub drains : CoreDrains a.server link b.server octets
   pub arrive : ArriveAt moment link octets a.channel b.channel
 
 -- both, on one link
 abbrev pub ExchangesOn : ℕ → ℕ → Sides → Sides → Type 0
-ExchangesOn moment link a b = (mid : Sides) × Sends moment link a mid × Hears moment link mid b
+ExchangesOn moment link a b = (mid : Sides) × Sends moment link a mid × Receives moment link mid b
 
 -- an exchange: on link 1, and then on link 2
 abbrev pub Exchanges : ℕ → Sides → Sides → Type 0
 Exchanges moment a b = (mid : Sides) × ExchangesOn moment 1 a mid × ExchangesOn moment 2 mid b
 
--- more may have come behind a head or a message
+-- more may have come after a head or a message
 abbrev pub is_more : Reply → Bool
 is_more (reply.Head meta) = true
 is_more (reply.Message octets) = true
@@ -89,7 +89,7 @@ Does moment (does.Post e) a b = (b.server ≡ a.server) × (r : Reply) × Posts 
 Does moment does.Exchange a b = Exchanges moment a b
 Does moment (does.Takes call) a b = (b.server ≡ a.server) × Takes moment call a.channel b.channel
 
--- actions, one behind the other
+-- actions, one after the other
 abbrev pub Plays : List LoadAction → Sides → Sides → Type 0
 Plays [] a b = b ≡ a
 Plays (action ∷ actions) a b = (mid : Sides) × Does action.moment action.step a mid × Plays actions mid b

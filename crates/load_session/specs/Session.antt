@@ -23,7 +23,7 @@ pub record Begins (load : Load) (policies : List PolicySeen) (a : Sides) : Type 
   pub channel : IsNewBy alloc authority policies a.channel
   pub server : a.server ≡ new_core (all_lines (server_script load.seed load.calls))
 
--- the session of a load: from there its actions were played, one behind the other and nothing else, by which the channel was given these
+-- the session of a load: from there its actions were played, one after the other and nothing else, by which the channel was given these
 -- events, each where there was room; journal and ledger are those that it has then
 pub record IsSession (load : Load) (policies : List PolicySeen) (journal : Journal) (ledger : Ledger) : Type 0 where
   pub start : Sides

@@ -1,4 +1,4 @@
--- Nobody has to believe these steps: events behind those of a run, one Take, a session on a channel to its end or to a full journal, and how
+-- Nobody has to believe these steps: events after those of a run, one Take, a session on a channel to its end or to a full journal, and how
 -- the ends of calls are noted while the journal is read.
 use Rattle.std.specs.Prelude.{◌≡◌, ℕ, Bool, Option, Some, None, List, ◌++◌, slice_get, slice_set}
 use Rattle.grpc_base.specs.declared.event.Entry.{Entry}
@@ -42,7 +42,7 @@ GoesOn old events new =
     (authority : List ℕ) (policies : List PolicySeen) (before : List Stamped) → HasRunBy authority policies before old
     → HasRunBy authority policies (before ++ events) new
 
--- a Take, and whether more may have come behind it
+-- a Take, and whether more may have come after it
 pub record TakesOne (more : Bool) (moment call : ℕ) (old new : CoreSeen) : Type 0 where
   pub reply : Reply
   pub posts : Posts moment (event.Take call) old new reply

@@ -23,7 +23,7 @@ abbrev pub StopsSending : ℕ → CoreSeen → Type 0
 StopsSending link core = (can_drain_in link core.state ≡ true) × LacksRoom (event.Drain link 65536) core
 
 -- for the bytes that the server has to send on a link
-pub record StopsHearing (link : ℕ) (a : Sides) : Type 0 where
+pub record StopsReceiving (link : ℕ) (a : Sides) : Type 0 where
   pub server : Core
   pub octets : List ℕ
   pub drains : CoreDrains a.server link server octets
@@ -32,9 +32,9 @@ pub record StopsHearing (link : ℕ) (a : Sides) : Type 0 where
 
 -- for either of an exchange on one link
 abbrev pub StopsOn : ℕ → ℕ → Sides → Type 0
-StopsOn moment link a = StopsSending link a.channel ⊎ ((mid : Sides) × Sends moment link a mid × StopsHearing link mid)
+StopsOn moment link a = StopsSending link a.channel ⊎ ((mid : Sides) × Sends moment link a mid × StopsReceiving link mid)
 
--- on link 1, or behind it on link 2
+-- on link 1, or after it on link 2
 abbrev pub StopsExchange : ℕ → Sides → Type 0
 StopsExchange moment a = StopsOn moment 1 a ⊎ ((mid : Sides) × ExchangesOn moment 1 a mid × StopsOn moment 2 mid)
 
@@ -55,8 +55,8 @@ Stops moment (does.Takes call) a = StopsTaking moment call a.channel
 pub record StopsIn (actions : List LoadAction) (a : Sides) : Type 0 where
   pub played : List LoadAction
   pub action : LoadAction
-  pub behind : List LoadAction
-  pub parts : actions ≡ played ++ action ∷ behind
+  pub afterwards : List LoadAction
+  pub parts : actions ≡ played ++ action ∷ afterwards
   pub mid : Sides
   pub plays : Plays played a mid
   pub stops : Stops action.moment action.step mid

@@ -34,7 +34,7 @@ pub(crate) fn outcomes(alloc: Global, entries: &[Entry], calls: u32) -> Result<C
     ensures unended { IfOk result (λ o. o.unended ≡ calls_with Outcome.Open calls entries.now) }
 {
     let ends = first_ends(alloc, entries, calls)?;
-    let ends = behind_first(ends.as_slice());
+    let ends = after_the_first(ends.as_slice());
     Ok(Counts {
         well: count(ends, Outcome::Well),
         failed: count(ends, Outcome::Failed),
@@ -112,7 +112,7 @@ fn end_code(reply: &Reply) -> Option<u32>
 }
 
 /// All but the first.
-fn behind_first(ends: &[Option<u32>]) -> &[Option<u32>]
+fn after_the_first(ends: &[Option<u32>]) -> &[Option<u32>]
     ensures { (first : Option ℕ) (rest : List (Option ℕ)) → ends.now ≡ first ∷ rest → result.now ≡ rest }
 {
     match ends {
@@ -121,7 +121,7 @@ fn behind_first(ends: &[Option<u32>]) -> &[Option<u32>]
     }
 }
 
-/// How many ends tell of an outcome.
+/// How many ends report an outcome.
 fn count(ends: &[Option<u32>], outcome: Outcome) -> u32
     requires { length ends.now ≤ 10000 }
     ensures { result ≡ count_by (has_outcome outcome) ends.now }
@@ -135,7 +135,7 @@ fn count(ends: &[Option<u32>], outcome: Outcome) -> u32
     count
 }
 
-/// Whether an end, or that there is none, tells of an outcome.
+/// Whether an end, or that there is none, reports an outcome.
 fn has_outcome(end: Option<u32>, outcome: Outcome) -> bool
     ensures { result ≡ has_outcome outcome end }
 {

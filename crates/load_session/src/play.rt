@@ -9,7 +9,7 @@ ghost use Rattle.load_session.specs.Steps.{TakesOne};
 ghost use Rattle.load_session.specs.Stopping.{LacksRoom, Stops, StopsExchange, StopsIn, StopsOn, StopsTaking};
 
 use crate::fault::LoadFault;
-use crate::sides::{hear, post, send};
+use crate::sides::{post, receive, send};
 use channel_core::ChannelCore;
 use grpc_base::{Event, Moment, Reply};
 use lb_policy::Balancer;
@@ -36,7 +36,7 @@ pub(crate) fn play_load<P: Balancer>(
     play_batches(alloc, load, core, server)
 }
 
-/// Plays the batches of a load, one behind the other.
+/// Plays the batches of a load, one after the other.
 fn play_batches<P: Balancer>(
     alloc: Global,
     load: Load,
@@ -143,7 +143,7 @@ fn exchange_on<P: Balancer>(
     ensures full { result ≡ Err LoadFault.SessionFull → StopsOn moment link (record { channel = core.old; server = server.old }) }
 {
     send(core, server, moment, link)?;
-    hear(core, server, moment, link)
+    receive(core, server, moment, link)
 }
 
 /// Takes what came for a call, up to its end or until nothing further has come.
@@ -165,7 +165,7 @@ fn take_all<P: Balancer>(
     Err(LoadFault::SessionFull)
 }
 
-/// Takes once; says whether more may have come behind it.
+/// Takes once; says whether more may have come after it.
 #[tactic(none)]
 fn take_once<P: Balancer>(
     core: &mut ChannelCore<P>,
@@ -179,7 +179,7 @@ fn take_once<P: Balancer>(
     Ok(is_more(&reply))
 }
 
-/// Whether more may have come behind this reply: it is a head or a message.
+/// Whether more may have come after this reply: it is a head or a message.
 fn is_more(reply: &Reply) -> bool
     ensures { result ≡ is_more reply.now }
 {

@@ -1,8 +1,8 @@
 // One event for the channel, and the bytes of one link between the channel and the server.
 ghost use Rattle.std.specs.Prelude.{◌≡◌, ℕ, Option, [], Err, IfOk, OnOk};
 ghost use Rattle.loop_server.specs.Steps.{CoreArrives};
-ghost use Rattle.load_session.specs.Playing.{ArriveAt, Hears, Posts, Sends, octets_in};
-ghost use Rattle.load_session.specs.Stopping.{LacksRoom, StopsHearing, StopsSending};
+ghost use Rattle.load_session.specs.Playing.{ArriveAt, Receives, Posts, Sends, octets_in};
+ghost use Rattle.load_session.specs.Stopping.{LacksRoom, StopsReceiving, StopsSending};
 
 use crate::fault::LoadFault;
 use channel_core::{ChannelCore, CoreError};
@@ -79,14 +79,14 @@ fn deliver(server: &mut ServerCore, link: u32, octets: &Octets) -> Result<(), Lo
 
 /// Takes what the server has to send on a link to the channel.
 #[tactic(none)]
-pub(crate) fn hear<P: Balancer>(
+pub(crate) fn receive<P: Balancer>(
     core: &mut ChannelCore<P>,
     server: &mut ServerCore,
     moment: Moment,
     link: u32,
 ) -> Result<(), LoadFault>
-    ensures ok { OnOk result (Hears moment link (record { channel = core.old; server = server.old }) (record { channel = core.new; server = server.new })) }
-    ensures full { result ≡ Err LoadFault.SessionFull → StopsHearing link (record { channel = core.old; server = server.old }) }
+    ensures ok { OnOk result (Receives moment link (record { channel = core.old; server = server.old }) (record { channel = core.new; server = server.new })) }
+    ensures full { result ≡ Err LoadFault.SessionFull → StopsReceiving link (record { channel = core.old; server = server.old }) }
 {
     let octets = server.drain(link)?;
     arrive(core, moment, link, octets)

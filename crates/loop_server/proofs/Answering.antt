@@ -31,10 +31,10 @@ pub record Passes (lines : List AnswerLine) (start h : Giving) (place : ℕ) : T
 passed_by : (lines : List AnswerLine) (g h : Giving) (place : ℕ) (o : Option Turn) → slice_get g.session.turns place ≡ o → first_move lines g.answered g.session.link.wire place (drop place g.session.turns) ≡ first_move lines g.answered g.session.link.wire 0 g.session.turns → WentAs false (answer_at lines g place (slice_get g.session.turns place)) g h → Passes lines g h place
 passed_by lines g h place None e f w =
     let here : drop place g.session.turns ≡ [] = none_drop g.session.turns place e in
-    let behind : drop (place + 1) g.session.turns ≡ [] = sym (drop-drop 1 place g.session.turns) ∙ ap (drop 1) here in
+    let afterwards : drop (place + 1) g.session.turns ≡ [] = sym (drop-drop 1 place g.session.turns) ∙ ap (drop 1) here in
     record {
       same = subst (λ (o : Option Turn). WentAs false (answer_at lines g place o) g h) e w;
-      first = ap (first_move lines g.answered g.session.link.wire (place + 1)) behind ∙ (sym (ap (first_move lines g.answered g.session.link.wire place) here) ∙ f);
+      first = ap (first_move lines g.answered g.session.link.wire (place + 1)) afterwards ∙ (sym (ap (first_move lines g.answered g.session.link.wire place) here) ∙ f);
     }
 passed_by lines g h place (Some t) e f w = let p = passes lines g h place t e f w in record { same = p.0; first = p.1 }
 

@@ -2,10 +2,10 @@
 use Rattle.std.proofs.Common.{◌≡◌, ℕ, suc, ◌<◌, Bool, true, false, List, ◌++◌, refl, sym, ◌∙◌, ap, ap₂, subst, Some, None}
 use Rattle.std.specs.Prelude.{Option, drop, is_some, length}
 use Rattle.grpc_base.specs.declared.script.AnswerLine.{AnswerLine}
-use Rattle.h2_server.specs.Heard.{heard}
+use Rattle.h2_server.specs.Received.{handled}
 use Rattle.loop_server.specs.Drains.{Giving, given, given_more, next}
 use Rattle.loop_server.specs.Outcomes.{WentAs}
-use Rattle.loop_server.specs.Steps.{Arriving, after_steps, is_done, stepped, told_of}
+use Rattle.loop_server.specs.Steps.{Arriving, after_steps, is_done, stepped, reported_of}
 use Rattle.loop_server.proofs.Pieces.{not_done}
 use Rattle.loop_server.proofs.Weights.{next_weight, weight}
 
@@ -35,9 +35,9 @@ pub stops : (lines : List AnswerLine) (g h : Giving) → WentAs false (next line
 stops lines g h w = none_is lines g h (next lines g) refl w
 
 -- one frame of a piece
-pub one_step : (start a b : Arriving) (n : ℕ) → after_steps n start ≡ a → is_done a ≡ false → b.state ≡ told_of a.state (heard a.state.session.link a.rest) → b.rest ≡ drop (heard a.state.session.link a.rest).taken a.rest → after_steps (suc n) start ≡ b
+pub one_step : (start a b : Arriving) (n : ℕ) → after_steps n start ≡ a → is_done a ≡ false → b.state ≡ reported_of a.state (handled a.state.session.link a.rest) → b.rest ≡ drop (handled a.state.session.link a.rest).taken a.rest → after_steps (suc n) start ≡ b
 one_step start a b n e d s r =
-    let made : stepped a ≡ record { state = told_of a.state (heard a.state.session.link a.rest); rest = drop (heard a.state.session.link a.rest).taken a.rest } = rw d refl in
+    let made : stepped a ≡ record { state = reported_of a.state (handled a.state.session.link a.rest); rest = drop (handled a.state.session.link a.rest).taken a.rest } = rw d refl in
     ap stepped e ∙ (made ∙ sym (ap₂ (λ x t. record { state = x; rest = t }) s r))
 
 pub open_as : (a : Arriving) → a.state.session.link.wire.broken ≡ None → 0 < length a.rest → is_done a ≡ false

@@ -32,8 +32,8 @@ pushed_within room more (part.Hold count) h = omega (arith, h)
 pushbacks_within : (room : ℕ) (parts : List AnswerPart) → list_size (pushback_fields room parts) ≤ room
 pushbacks_within room [] = omega arith
 pushbacks_within room (p ∷ parts) =
-    let behind = pushbacks_within (room_after room p) parts in
-    let both = pushed_within room (list_size (pushback_fields (room_after room p) parts)) p behind in
+    let afterwards = pushbacks_within (room_after room p) parts in
+    let both = pushed_within room (list_size (pushback_fields (room_after room p) parts)) p afterwards in
     omega (arith, both, size_append (fields_of room p) (pushback_fields (room_after room p) parts))
 
 begins_by : (b : Bool) → list_size (if b then [] else head_fields) ≤ 102

@@ -244,8 +244,8 @@ pub record HasRank (path : List ℕ) (lines : List AnswerLine) (i r : ℕ) : Typ
   pub cut : drop i lines ≡ line ∷ rest
   pub kept : drop r (filter (is_of path) lines) ≡ line ∷ filter (is_of path) rest
 
-behind : {A : Type 0} (i : ℕ) (xs : List A) (x : A) (rest : List A) → drop i xs ≡ x ∷ rest → drop (i + 1) xs ≡ rest
-behind i xs x rest e = sym (drop-drop 1 i xs) ∙ ap (drop 1) e
+afterwards : {A : Type 0} (i : ℕ) (xs : List A) (x : A) (rest : List A) → drop i xs ≡ x ∷ rest → drop (i + 1) xs ≡ rest
+afterwards i xs x rest e = sym (drop-drop 1 i xs) ∙ ap (drop 1) e
 
 there : {A : Type 0} (i : ℕ) (xs : List A) (x : A) (rest : List A) → drop i xs ≡ x ∷ rest → slice_get xs i ≡ Some x
 there zero (y ∷ xs) x rest e = cc
@@ -262,11 +262,11 @@ first_rank path lines i e =
 
 next_rank : (path : List ℕ) (lines : List AnswerLine) (i j r : ℕ) → HasRank path lines i r → next_from path (i + 1) (drop (i + 1) lines) ≡ Some j → HasRank path lines j (r + 1)
 next_rank path lines i j r h e =
-    let rest_is : drop (i + 1) lines ≡ h.rest = behind i lines h.line h.rest h.cut in
+    let rest_is : drop (i + 1) lines ≡ h.rest = afterwards i lines h.line h.rest h.cut in
     let n = is_next path (i + 1) h.rest j (sym (ap (next_from path (i + 1)) rest_is) ∙ e) in
     let low = n.from_start in
     let sum : (i + 1) + (j - (i + 1)) ≡ j = omega (arith, low) in
-    let kept_rest : drop (r + 1) (filter (is_of path) lines) ≡ filter (is_of path) h.rest = behind r (filter (is_of path) lines) h.line (filter (is_of path) h.rest) h.kept in
+    let kept_rest : drop (r + 1) (filter (is_of path) lines) ≡ filter (is_of path) h.rest = afterwards r (filter (is_of path) lines) h.line (filter (is_of path) h.rest) h.kept in
     record {
       line = n.line;
       rest = n.rest;
@@ -282,7 +282,7 @@ cut_size (suc r) (y ∷ xs) x rest e = let k = cut_size r xs x rest e in omega (
 
 last_size : (path : List ℕ) (lines : List AnswerLine) (i r : ℕ) → HasRank path lines i r → next_from path (i + 1) (drop (i + 1) lines) ≡ None → length (filter (is_of path) lines) ≡ r + 1
 last_size path lines i r h e =
-    let rest_is : drop (i + 1) lines ≡ h.rest = behind i lines h.line h.rest h.cut in
+    let rest_is : drop (i + 1) lines ≡ h.rest = afterwards i lines h.line h.rest h.cut in
     let none : filter (is_of path) h.rest ≡ [] = no_next path (i + 1) h.rest (sym (ap (next_from path (i + 1)) rest_is) ∙ e) in
     let size = cut_size r (filter (is_of path) lines) h.line (filter (is_of path) h.rest) h.kept in
     omega (arith, size, ap length none)

@@ -133,7 +133,7 @@ pub record IsFirst (lines : List AnswerLine) (answered : ℕ) (w : Wire) (start 
   pub move : move_of lines answered w turn ≡ Some x.1
 
 first_by : (lines : List AnswerLine) (answered : ℕ) (w : Wire) (start : ℕ) (t : Turn) (turns : List Turn) (x : ℕ × Move) (o : Option Move) (other : Option (ℕ × Move)) → move_of lines answered w t ≡ o → (other ≡ Some x → IsFirst lines answered w (start + 1) turns x) → first_from o start other ≡ Some x → IsFirst lines answered w start (t ∷ turns) x
-first_by lines answered w start t turns x (Some m) other h behind e =
+first_by lines answered w start t turns x (Some m) other h afterwards e =
     let place : start ≡ x.0 = cc in
     let move : m ≡ x.1 = cc in
     let zero_is : x.0 - start ≡ 0 = omega (arith, place) in
@@ -143,8 +143,8 @@ first_by lines answered w start t turns x (Some m) other h behind e =
       there = ap (slice_get (t ∷ turns)) zero_is;
       move = h ∙ ap (λ (v : Move). Some v) move;
     }
-first_by lines answered w start t turns x None other h behind e =
-    let b = behind e in
+first_by lines answered w start t turns x None other h afterwards e =
+    let b = afterwards e in
     let from = b.from in
     let next_is : x.0 - start ≡ suc (x.0 - (start + 1)) = omega (arith, from) in
     record {

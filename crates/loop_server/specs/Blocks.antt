@@ -42,7 +42,7 @@ pushback_fields room (p ∷ parts) = fields_of room p ++ pushback_fields (room_a
 abbrev pub pushback_room : ℕ
 pushback_room = 16000
 
--- what ends a response behind these parts: trailers, or the whole response where no head is among them
+-- what ends a response after these parts: trailers, or the whole response where no head is among them
 abbrev pub status_fields : List AnswerPart → ℕ → List Field
 status_fields before code =
     (if list_any is_head before then [] else head_fields)

@@ -18,7 +18,7 @@ use Rattle.loop_server.specs.Script.{parts_at}
 use Rattle.loop_server.specs.Server.{Core, Served}
 use Rattle.loop_server.specs.Steps.{place_of_link, with_link}
 
--- what a part sends on its stream, behind the parts before it. A message is begun: it goes out as DATA as the windows
+-- what a part sends on its stream, after the parts before it. A message is begun: it goes out as DATA as the windows
 -- allow. A pushback goes into the block of the status, and a hold sends nothing
 abbrev pub part_sent : Wire → ℕ → List AnswerPart → AnswerPart → Sent
 part_sent w stream before part.Head = block_sent w stream (block_bytes head_fields) false

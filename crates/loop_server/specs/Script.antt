@@ -10,7 +10,7 @@ use Rattle.grpc_base.specs.declared.script.ServerScript.{ServerScript}
 abbrev pub unanswered : AnswerLine
 unanswered = record { path = []; n = 1; parts = part.Status 12 ∷ [] }
 
--- the answers of a script, and behind them that one
+-- the answers of a script, and after them that one
 abbrev pub all_lines : ServerScript → List AnswerLine
 all_lines script = script.answers ++ unanswered ∷ []
 

@@ -5,7 +5,7 @@ use Rattle.std.specs.Str.{bytes_eq}
 use Rattle.grpc_base.specs.Counts.{one_more}
 use Rattle.grpc_base.specs.declared.fields.Field.{Field}
 use Rattle.grpc_base.specs.declared.script.AnswerLine.{AnswerLine}
-use Rattle.h2_server.specs.Heard.{Hearing, heard}
+use Rattle.h2_server.specs.Received.{Receiving, handled}
 use Rattle.h2_server.specs.declared.news.RequestNews.{RequestNews}
 use Rattle.h2_server.specs.declared.news.RequestNews.TheVariants as news
 use Rattle.loop_server.specs.declared.answers.Cursor.{Cursor}
@@ -104,22 +104,22 @@ dropped s stream = record s {
   turns = without_at s.turns (position (is_turn stream) s.turns);
 }
 
--- what a link told
-abbrev pub told : Book → Served → Option RequestNews → Reading
-told b s None = record { book = b; session = s }
-told b s (Some (news.Fields stream fields end)) = ended_if end b (begun s stream fields) stream
-told b s (Some (news.Data stream octets end)) = ended_if end b s stream
-told b s (Some (news.Reset stream code)) = record { book = b; session = dropped s stream }
-told b s (Some (news.Fault stream code)) = record { book = b; session = dropped s stream }
-told b s (Some (news.Broken code)) = record { book = b; session = record s { open_requests = []; turns = [] } }
+-- what a link reported
+abbrev pub reported : Book → Served → Option RequestNews → Reading
+reported b s None = record { book = b; session = s }
+reported b s (Some (news.Fields stream fields end)) = ended_if end b (begun s stream fields) stream
+reported b s (Some (news.Data stream octets end)) = ended_if end b s stream
+reported b s (Some (news.Reset stream code)) = record { book = b; session = dropped s stream }
+reported b s (Some (news.Fault stream code)) = record { book = b; session = dropped s stream }
+reported b s (Some (news.Broken code)) = record { book = b; session = record s { open_requests = []; turns = [] } }
 
 -- one frame of a piece
 pub record Arriving : Type 0 where
   pub state : Reading
   pub rest : List ℕ
 
-abbrev pub told_of : Reading → Hearing → Reading
-told_of x h = told x.book (record x.session { link = h.link }) h.news
+abbrev pub reported_of : Reading → Receiving → Reading
+reported_of x h = reported x.book (record x.session { link = h.link }) h.news
 
 abbrev pub is_done : Arriving → Bool
 is_done a = is_some a.state.session.link.wire.broken || (length a.rest == 0)
@@ -128,8 +128,8 @@ abbrev pub stepped : Arriving → Arriving
 stepped a =
     if is_done a then a
     else
-    (let h = heard a.state.session.link a.rest in
-    record { state = told_of a.state h; rest = drop h.taken a.rest })
+    (let h = handled a.state.session.link a.rest in
+    record { state = reported_of a.state h; rest = drop h.taken a.rest })
 
 -- so many frames of a piece
 abbrev pub after_steps : ℕ → Arriving → Arriving

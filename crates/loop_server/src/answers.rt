@@ -18,7 +18,7 @@ pub struct Cursor {
     pub place: usize,
 }
 
-/// The answers of a script, and behind them the one that a path without an answer gets; and how far the requests of each
+/// The answers of a script, and after them the one that a path without an answer gets; and how far the requests of each
 /// path have come.
 #[derive(Debug, Drop)]
 pub(crate) struct Answers {

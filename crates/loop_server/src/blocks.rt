@@ -18,7 +18,7 @@ const PUSHBACK_ROOM: usize = 16_000;
 /// The size of a field beyond its value's: 22 bytes of its name and 32 (RFC 7541, section 4.1).
 const PUSHBACK_SIZE: usize = 54;
 
-/// The header block that begins a response: `:status: 200` by its index, and the type of gRPC behind the index of
+/// The header block that begins a response: `:status: 200` by its index, and the type of gRPC after the index of
 /// `content-type`.
 const HEAD_BLOCK: &[u8] = b"\x88\x0f\x10\x10application/grpc";
 
@@ -163,7 +163,7 @@ pub(crate) fn head_block() -> &'static [u8]
     HEAD_BLOCK
 }
 
-/// The header list that ends a response behind these parts.
+/// The header list that ends a response after these parts.
 fn status_fields(alloc: Global, before: &[AnswerPart], code: u32) -> Result<Fields, NoMemory>
     ensures fields { IfOk result (λ fields. fields ≡ status_fields before.now code) }
 {
@@ -174,7 +174,7 @@ fn status_fields(alloc: Global, before: &[AnswerPart], code: u32) -> Result<Fiel
     Ok(fields)
 }
 
-/// The header block that ends a response behind these parts: trailers, or the whole response where no head is among them.
+/// The header block that ends a response after these parts: trailers, or the whole response where no head is among them.
 pub(crate) fn status_block(
     alloc: Global,
     before: &[AnswerPart],

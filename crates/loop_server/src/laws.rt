@@ -7,7 +7,7 @@ ghost use Rattle.loop_server.specs.Steps.{Arrives, Reading};
 
 /// What a piece does on a link does not depend on how it is cut: two pieces do what they do as one.
 pub fn pieces_join()
-    ensures { (x y z : Reading) (front back : List ℕ) → Arrives x front y → Arrives y back z → Arrives x (front ++ back) z }
+    ensures { (x y z : Reading) (prefix back : List ℕ) → Arrives x prefix y → Arrives y back z → Arrives x (prefix ++ back) z }
 {}
 
 /// The requests of a path, in the order in which they end, get its answers in the order of the script, each once, and the

@@ -1,11 +1,11 @@
 // One link of the server: its requests and their answers.
 ghost use Rattle.std.specs.Prelude.{◌≡◌, ◌<◌, ◌≤◌, drop, IfOk, OnOk, IfSome, length, position, slice_get, None};
 ghost use Rattle.std.specs.List.{remove};
-ghost use Rattle.h2_server.specs.Heard.{heard};
+ghost use Rattle.h2_server.specs.Received.{handled};
 ghost use Rattle.loop_server.specs.Drains.{Drains, is_given, next_answer, first_move, next};
 ghost use Rattle.loop_server.specs.Outcomes.{Settled, WentAs, answer_at};
 ghost use Rattle.loop_server.specs.Server.{new_session};
-ghost use Rattle.loop_server.specs.Steps.{begun, dropped, ended, ended_if, found_at, is_link, is_path_field, is_request, is_turn, path_of, told, told_of, without_at, Arrives};
+ghost use Rattle.loop_server.specs.Steps.{begun, dropped, ended, ended_if, found_at, is_link, is_path_field, is_request, is_turn, path_of, reported, reported_of, without_at, Arrives};
 
 use crate::answers::Answers;
 use crate::fault::ServerFault;
@@ -85,7 +85,7 @@ impl Session {
         let mut rest = piece;
         while !rest.is_empty() && self.link.broken().is_none() {
             let taken = self.arrived_once(alloc, answers, rest)?;
-            rest = behind(rest, taken);
+            rest = afterwards(rest, taken);
         }
         Ok(())
     }
@@ -99,13 +99,13 @@ impl Session {
     ) -> Result<usize, NoMemory>
         requires some { 0 < length piece.now }
         requires whole { self.old.link.wire.broken ≡ None }
-        ensures state { OnOk result (record { book = answers.new; session = self.new } ≡ told_of (record { book = answers.old; session = self.old }) (heard self.old.link piece.now)) }
-        ensures taken { IfOk result (λ taken. taken ≡ (heard self.old.link piece.now).taken) }
+        ensures state { OnOk result (record { book = answers.new; session = self.new } ≡ reported_of (record { book = answers.old; session = self.old }) (handled self.old.link piece.now)) }
+        ensures taken { IfOk result (λ taken. taken ≡ (handled self.old.link piece.now).taken) }
         ensures within { IfOk result (λ taken. (1 ≤ taken) × (taken ≤ length piece.now)) }
     {
         match self.link.arrived(piece) {
             Ok(arrival) => {
-                self.hear(alloc, answers, arrival.news)?;
+                self.receive(alloc, answers, arrival.news)?;
                 Ok(arrival.taken)
             }
             Err(LinkFault::NoMemory) => Err(NoMemory),
@@ -113,14 +113,14 @@ impl Session {
         }
     }
 
-    /// What the link told.
-    fn hear(
+    /// What the link reported.
+    fn receive(
         &mut self,
         alloc: Global,
         answers: &mut Answers,
         news: Option<RequestNews>,
     ) -> Result<(), NoMemory>
-        ensures { OnOk result (record { book = answers.new; session = self.new } ≡ told answers.old self.old news) }
+        ensures { OnOk result (record { book = answers.new; session = self.new } ≡ reported answers.old self.old news) }
     {
         match news {
             None => Ok(()),
@@ -285,8 +285,8 @@ impl Session {
     }
 }
 
-/// The bytes behind so many.
-fn behind(bytes: &[u8], taken: usize) -> &[u8]
+/// The bytes after so many.
+fn afterwards(bytes: &[u8], taken: usize) -> &[u8]
     requires { taken ≤ length bytes.now }
     ensures { result.now ≡ drop taken bytes.now }
 {

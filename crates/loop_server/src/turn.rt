@@ -67,7 +67,7 @@ fn parts_at(lines: &[AnswerLine], place: usize) -> &[AnswerPart]
     }
 }
 
-/// Sends a part on its stream, behind the parts before it.
+/// Sends a part on its stream, after the parts before it.
 fn send_part(
     alloc: Global,
     stream: u32,
@@ -136,7 +136,7 @@ impl Turn {
         Ok(true)
     }
 
-    /// Gives the next part, which stands behind these.
+    /// Gives the next part, which stands after these.
     fn give_part(
         &mut self,
         alloc: Global,

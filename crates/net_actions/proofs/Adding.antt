@@ -9,7 +9,7 @@ use Rattle.std.specs.Prelude.{find}
 use Rattle.grpc_base.specs.declared.address.Address.{Address}
 use Rattle.net_actions.proofs.KeptBoards.{is_itself, or_left, or_right}
 use Rattle.net_actions.proofs.Noting.{with_subs}
-use Rattle.net_actions.proofs.Running.{IsQuiet, both_false, find_behind, find_none, no_more, none_behind, one_more, quiet_next, quiet_with}
+use Rattle.net_actions.proofs.Running.{IsQuiet, both_false, find_after, find_none, no_more, none_afterwards, one_more, quiet_next, quiet_with}
 use Rattle.net_actions.specs.Runs.{RunsTo}
 use Rattle.session_actions.specs.Actions.{of_policies}
 use Rattle.session_actions.specs.Policies.{is_live_sub, is_same_address, listed}
@@ -40,16 +40,16 @@ added subs (a ∷ rest) = added (grown subs a) rest
 new_is_live : (subs : List Subchannel) (a : Address) → is_live_sub a (next_sub subs a) ≡ true
 new_is_live subs a = ap (λ (x : Bool). x && true) (is_itself a)
 
-some_behind : (o : Option Subchannel) (b : Subchannel) → is_none (option_or o (Some b)) ≡ false
-some_behind None b = refl
-some_behind (Some c) b = refl
+some_after : (o : Option Subchannel) (b : Subchannel) → is_none (option_or o (Some b)) ≡ false
+some_after None b = refl
+some_after (Some c) b = refl
 
 new_not_lacking : (subs : List Subchannel) (a : Address) → is_lacking (subs ++ next_sub subs a ∷ []) a ≡ false
 new_not_lacking subs a =
     let b : Subchannel = next_sub subs a in
     ap (λ (o : Option Subchannel). is_none o) (find-append (is_live_sub a) subs (b ∷ [])
     ∙ ap (λ (x : Bool). option_or (find (is_live_sub a) subs) (cond x (Some b) None)) (new_is_live subs a))
-    ∙ some_behind (find (is_live_sub a) subs) b
+    ∙ some_after (find (is_live_sub a) subs) b
 
 grown_not_lacking : (subs : List Subchannel) (a : Address) (x : Bool) → is_lacking subs a ≡ x → is_lacking (grown_if x subs a) a ≡ false
 grown_not_lacking subs a true e = new_not_lacking subs a
@@ -83,7 +83,7 @@ is_listed s seen rest a list =
 still_listed : (s : Seen) (subs : List Subchannel) (seen rest : List Address) (a : Address) (x : Bool) → listed s ≡ seen ++ a ∷ rest
     → list_any (is_unlisted s) subs ≡ false → list_any (is_unlisted s) (grown_if x subs a) ≡ false
 still_listed s subs seen rest a true list none =
-    none_behind (is_unlisted s) subs (next_sub subs a) none (ap (λ (x : Bool). not x) (is_listed s seen rest a list))
+    none_afterwards (is_unlisted s) subs (next_sub subs a) none (ap (λ (x : Bool). not x) (is_listed s seen rest a list))
 still_listed s subs seen rest a false list none = none
 
 module _ (o : OpenEntry) (s : Seen) (q : IsQuiet o s) where
@@ -103,7 +103,7 @@ module _ (o : OpenEntry) (s : Seen) (q : IsQuiet o s) where
       = next_is subs none
       ∙ ap (λ (l : List Address). option_or (option_map (λ (c : Address). action.SubchannelAdded c) (find (is_lacking subs) l)) None) list
       ∙ ap (λ (e : Option Address). option_or (option_map (λ (c : Address). action.SubchannelAdded c) e) None)
-      (find_behind (is_lacking subs) seen rest a has here) in
+      (find_after (is_lacking subs) seen rest a has here) in
       one_more o (action.SubchannelAdded a) (with_subs subs s) t next run
 
   pub add_from : (seen rest : List Address) (subs : List Subchannel) → listed s ≡ seen ++ rest
@@ -118,6 +118,6 @@ module _ (o : OpenEntry) (s : Seen) (q : IsQuiet o s) where
       let x : Bool = is_lacking subs a in
       let longer : listed s ≡ (seen ++ a ∷ []) ++ rest = list ∙ sym (append_assoc seen (a ∷ []) rest) in
       let there : list_any (is_lacking (grown subs a)) (seen ++ a ∷ []) ≡ false
-      = none_behind (is_lacking (grown subs a)) seen a (none_lacking subs a x seen has) (grown_not_lacking subs a x refl) in
+      = none_afterwards (is_lacking (grown subs a)) seen a (none_lacking subs a x seen has) (grown_not_lacking subs a x refl) in
       add_here seen rest subs (with_subs (added (grown subs a) rest) s) a x list none has refl
       (add_from (seen ++ a ∷ []) rest (grown subs a) longer (still_listed s subs seen rest a x list none) there)

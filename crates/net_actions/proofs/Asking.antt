@@ -23,7 +23,7 @@ use Rattle.net_actions.proofs.Noting.{get_away, get_here}
 use Rattle.net_actions.proofs.OwnLinks.{unlike}
 use Rattle.net_actions.proofs.Uses.{UseAt, use_at, use_within}
 use Rattle.net_actions.specs.Laws.{AsksAreAnswered, StatesAreSame}
-use Rattle.net_actions.specs.Sees.{AreApart, AreUses, IsUse, NoneAskedBeyond, Sees}
+use Rattle.net_actions.specs.Sees.{UsesAreApart, UsesAgree, IsUse, NoneAskedBeyond, Sees}
 use Rattle.session_actions.specs.Policies.{current_policy, is_current, pending_policy, pick_requested, policy_of, policy_state, turns_of}
 use Rattle.session_actions.specs.declared.policy.PolicyUse.{PolicyUse}
 use Rattle.session_actions.specs.declared.seen.Seen.{Seen}
@@ -91,7 +91,7 @@ turned_current s a None (Some live) addresses policies is u = absurd u
 turned_current s a (Some g) None addresses policies is u = absurd u
 
 still_pending : (s : Seen) (a : Ask) (o : Option PolicyUse) (live current : Option Live) (addresses : List Address) (policies : List PolicySeen)
-    → ((c p : Live) → current ≡ Some c → live ≡ Some p → a.generation ≡ c.generation) → AreApart current live
+    → ((c p : Live) → current ≡ Some c → live ≡ Some p → a.generation ≡ c.generation) → UsesAreApart current live
     → ((p : Live) → live ≡ Some p → (c : Live) × (current ≡ Some c))
     → IsUse o (option_map (λ (g : PolicyUse). policy_of g s) o) live addresses policies
     → IsUse o (option_map (λ (g : PolicyUse). policy_of g (with_ask a s)) o) live addresses (changed_of turned current policies)
@@ -141,7 +141,7 @@ answer_is s (Some live) policies pending made (Some x) addresses g u e =
     ∙ ap (λ (y : PolicyUse). Some (asked_by y.number (pick_of (policy_of y s)))) (same_Some x g e)
 
 -- and none of those to come
-asked_beyond : (s : Seen) (a : Ask) (g : PolicyUse) → AreUses s.policies → current_policy s ≡ Some g → a.generation ≡ g.number
+asked_beyond : (s : Seen) (a : Ask) (g : PolicyUse) → UsesAgree s.policies → current_policy s ≡ Some g → a.generation ≡ g.number
     → NoneAskedBeyond (length s.policies) s.asks → NoneAskedBeyond (length s.policies) (s.asks ++ a ∷ [])
 asked_beyond s a g h is of_it none number less =
     let at : UseAt s.policies g 1 = use_at s.policies is_current 1 g h.numbers is in

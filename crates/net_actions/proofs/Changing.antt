@@ -10,8 +10,8 @@ use Rattle.lb_policy.specs.Steps.{failed_after, noted, noted_sub}
 use Rattle.lb_policy.specs.Table.{PolicySeen}
 use Rattle.policy_rack.specs.Steps.{changed_of}
 use Rattle.policy_rack.specs.declared.live.Live.{Live}
-use Rattle.channel_net.proofs.ViewLaws.{KeepsAddress, numbered-here, view-told}
-use Rattle.channel_net.specs.Askers.{told}
+use Rattle.channel_net.proofs.ViewLaws.{KeepsAddress, numbered-here, view-reported}
+use Rattle.channel_net.specs.Askers.{reported}
 use Rattle.channel_net.specs.Lists.{link_of, state_at}
 use Rattle.channel_net.specs.Lists as lists
 use Rattle.channel_net.specs.Steps.{NetSeen}
@@ -20,7 +20,7 @@ use Rattle.net_actions.proofs.KindsKept.{kinds_changed_of, plain}
 use Rattle.net_actions.proofs.Noting.{current_after, current_noted, first_true, found_passes, pending_after, pending_noted, policy_noted, still_number, uses_noted, with_noted, with_subs}
 use Rattle.net_actions.proofs.Subs.{SameBut, changed_same}
 use Rattle.net_actions.proofs.Views.{views_same}
-use Rattle.net_actions.specs.Sees.{AreApart, AreSubs, IsSound, IsSub, IsUse, NoneAskedBeyond, NoneBeyond, Sees, SeesBy}
+use Rattle.net_actions.specs.Sees.{UsesAreApart, SubchannelsAgree, IsSound, IsSub, IsUse, NoneAskedBeyond, NoneBeyond, Sees, SeesBy}
 use Rattle.session_actions.specs.Policies.{current_policy, is_current, is_live_policy, is_pending, pending_policy, policy_of, view_of}
 use Rattle.session_actions.specs.Subchannels.{noted_by_policies, noted_state, with_sub}
 use Rattle.session_actions.specs.Words.{changed_if}
@@ -78,7 +78,7 @@ pub record Change (f : Subchannel → Subchannel) (g : SubRecord → SubRecord) 
 -- the net after it
 abbrev pub net_changed : (SubRecord → SubRecord) → ℕ → List OwnLink → NetSeen → NetSeen
 net_changed g place others n = record {
-  asker = told (state_at (boards.changed_at g n.board (suc place)) (suc place)) (suc place) n.asker;
+  asker = reported (state_at (boards.changed_at g n.board (suc place)) (suc place)) (suc place) n.asker;
   board = boards.changed_at g n.board (suc place);
   current = n.current;
   pending = n.pending;
@@ -86,7 +86,7 @@ net_changed g place others n = record {
 }
 
 module _ (f : Subchannel → Subchannel) (g : SubRecord → SubRecord) (place : ℕ) (others : List OwnLink) (s : Seen) (n : NetSeen) (c : Change f g place others s n) where
-  pub subs_same : AreSubs 1 s.subs n.board n.links → AreSubs 1 (slice_set s.subs place (f c.b)) (boards.changed g n.board place) others
+  pub subs_same : SubchannelsAgree 1 s.subs n.board n.links → SubchannelsAgree 1 (slice_set s.subs place (f c.b)) (boards.changed g n.board place) others
   subs_same h =
       let number : suc place ≡ 1 + place = omega arith in
       let but : SameBut (1 + place) n.links others = subst (λ (k : ℕ). SameBut k n.links others) number c.same in
@@ -105,7 +105,7 @@ module _ (f : Subchannel → Subchannel) (g : SubRecord → SubRecord) (place : 
   there_now = numbered-here g n.board (suc place) ∙ ap (option_map g) c.there
 
   -- the view of some addresses, in the session
-  view_now : (addresses : List Address) → AreSubs 1 s.subs n.board n.links
+  view_now : (addresses : List Address) → SubchannelsAgree 1 s.subs n.board n.links
       → view_of addresses (with_subs (slice_set s.subs place (f c.b)) s) ≡ map (noted_sub (f c.b).number (f c.b).state) (view_of addresses s)
   view_now addresses h =
       let t : Seen = with_subs (slice_set s.subs place (f c.b)) s in
@@ -113,13 +113,13 @@ module _ (f : Subchannel → Subchannel) (g : SubRecord → SubRecord) (place : 
       = views_same t (boards.changed_at g n.board (suc place)) others addresses (subs_same h) in
       let before : lists.view_of n.board addresses ≡ view_of addresses s = views_same s n.board n.links addresses h in
       let step : lists.view_of (boards.changed_at g n.board (suc place)) addresses ≡ map (noted_sub (suc place) (g c.r).state) (lists.view_of n.board addresses)
-      = view-told g c.live c.address n.board (suc place) (g c.r) addresses there_now in
+      = view-reported g c.live c.address n.board (suc place) (g c.r) addresses there_now in
       sym after ∙ step ∙ ap (map (noted_sub (suc place) (g c.r).state)) before
       ∙ ap (λ (k : ℕ). map (noted_sub k (g c.r).state) (view_of addresses s)) (sym c.is.number_is)
       ∙ ap (λ (x : Conn). map (noted_sub (f c.b).number x) (view_of addresses s)) (sym c.is.state)
 
   -- a use of a policy, after it
-  used_now : (g0 : PolicyUse) (live : Live) (addresses : List Address) (before after : List PolicySeen) → AreSubs 1 s.subs n.board n.links
+  used_now : (g0 : PolicyUse) (live : Live) (addresses : List Address) (before after : List PolicySeen) → SubchannelsAgree 1 s.subs n.board n.links
       → is_live_policy g0 ≡ true
       → (g0.number ≡ live.generation) × (g0.addresses ≡ addresses) × (slice_get before live.place ≡ Some (policy_of g0 s)) × IsSound (policy_of g0 s)
       → ((p : PolicySeen) → slice_get before live.place ≡ Some p → slice_get after live.place ≡ Some (noted (suc place) (g c.r).state p))
@@ -139,8 +139,8 @@ module _ (f : Subchannel → Subchannel) (g : SubRecord → SubRecord) (place : 
       )
 
   -- the current policy and the pending one
-  current_now : (o : Option PolicyUse) (live pending : Option Live) (addresses : List Address) (policies : List PolicySeen) → AreSubs 1 s.subs n.board n.links
-      → ((x : PolicyUse) → o ≡ Some x → is_live_policy x ≡ true) → AreApart live pending
+  current_now : (o : Option PolicyUse) (live pending : Option Live) (addresses : List Address) (policies : List PolicySeen) → SubchannelsAgree 1 s.subs n.board n.links
+      → ((x : PolicyUse) → o ≡ Some x → is_live_policy x ≡ true) → UsesAreApart live pending
       → IsUse o (option_map (λ (x : PolicyUse). policy_of x s) o) live addresses policies
       → IsUse (option_map (noted_state (with_subs (slice_set s.subs place (f c.b)) s) (f c.b)) o)
       (option_map (λ (x : PolicyUse). policy_of x (with_noted (f c.b) (with_subs (slice_set s.subs place (f c.b)) s)))
@@ -153,8 +153,8 @@ module _ (f : Subchannel → Subchannel) (g : SubRecord → SubRecord) (place : 
   current_now None (Some live) pending addresses policies h is apart u = absurd u
   current_now (Some x) None pending addresses policies h is apart u = absurd u
 
-  pending_now : (o : Option PolicyUse) (live current : Option Live) (addresses : List Address) (policies : List PolicySeen) → AreSubs 1 s.subs n.board n.links
-      → ((x : PolicyUse) → o ≡ Some x → is_live_policy x ≡ true) → AreApart current live
+  pending_now : (o : Option PolicyUse) (live current : Option Live) (addresses : List Address) (policies : List PolicySeen) → SubchannelsAgree 1 s.subs n.board n.links
+      → ((x : PolicyUse) → o ≡ Some x → is_live_policy x ≡ true) → UsesAreApart current live
       → IsUse o (option_map (λ (x : PolicyUse). policy_of x s) o) live addresses policies
       → IsUse (option_map (noted_state (with_subs (slice_set s.subs place (f c.b)) s) (f c.b)) o)
       (option_map (λ (x : PolicyUse). policy_of x (with_noted (f c.b) (with_subs (slice_set s.subs place (f c.b)) s)))
@@ -168,16 +168,16 @@ module _ (f : Subchannel → Subchannel) (g : SubRecord → SubRecord) (place : 
   pending_now (Some x) None current addresses policies h is apart u = absurd u
 
   -- the net notes it
-  pub told_now : net_changed g place others n ≡ record {
-    asker = told (Some (g c.r).state) (suc place) n.asker;
+  pub reported_now : net_changed g place others n ≡ record {
+    asker = reported (Some (g c.r).state) (suc place) n.asker;
     board = boards.changed_at g n.board (suc place);
     current = n.current;
     pending = n.pending;
     links = others;
   }
-  told_now =
+  reported_now =
       ap (λ (o : Option SubRecord). record {
-        asker = told (option_map (λ (x : SubRecord). x.state) o) (suc place) n.asker;
+        asker = reported (option_map (λ (x : SubRecord). x.state) o) (suc place) n.asker;
         board = boards.changed_at g n.board (suc place);
         current = n.current;
         pending = n.pending;
@@ -189,7 +189,7 @@ module _ (f : Subchannel → Subchannel) (g : SubRecord → SubRecord) (place : 
       let t : Seen = with_subs (slice_set s.subs place (f c.b)) s in
       let u : Seen = with_noted (f c.b) t in
       let net : NetSeen = record {
-        asker = told (Some (g c.r).state) (suc place) n.asker;
+        asker = reported (Some (g c.r).state) (suc place) n.asker;
         board = boards.changed_at g n.board (suc place);
         current = n.current;
         pending = n.pending;
@@ -225,7 +225,7 @@ module _ (f : Subchannel → Subchannel) (g : SubRecord → SubRecord) (place : 
       let three : Sees u net
       = subst (λ (o : Option PolicyUse). SeesBy u.setup.policies u.asks u.policies u.subs (current_policy u) (option_map (λ (x : PolicyUse). policy_of x u) (current_policy u)) o
       (option_map (λ (x : PolicyUse). policy_of x u) o) net) (sym (pending_noted (f c.b) t)) two in
-      subst (λ (m : NetSeen). Sees u m) (sym told_now) three
+      subst (λ (m : NetSeen). Sees u m) (sym reported_now) three
 
   pub changed_sees : Sees s n → Sees (with_sub f (suc place) s) (net_changed g place others n)
   changed_sees h = subst (λ (v : Seen). Sees v (net_changed g place others n)) (sym (with_sub_is f place s c.b c.at)) (seen_now h)

@@ -7,7 +7,7 @@ use Rattle.grpc_base.specs.declared.address.Address.{Address}
 use Rattle.grpc_base.specs.declared.event.Conn.{Conn}
 use Rattle.grpc_base.specs.declared.event.Conn.TheVariants as conn
 use Rattle.channel_net.proofs.ViewLaws.{KeepsAddress}
-use Rattle.channel_net.specs.Askers.{told}
+use Rattle.channel_net.specs.Askers.{reported}
 use Rattle.channel_net.specs.Lists.{link_of, state_at, without}
 use Rattle.channel_net.specs.Steps.{NetSeen, clock_round, clocked_at}
 use Rattle.net_actions.proofs.Changing.{Change, changed_sees, net_changed}
@@ -143,7 +143,7 @@ round_is : (m place : ℕ) (n : NetSeen) (gone : List ℕ) → first_number (is_
 round_is m place n gone e =
     ap (λ (o : Option ℕ). (clocked_at m o (record { net = n; gone = gone })).net) e
     ∙ ap (λ (o : Option ℕ). record {
-      asker = told (state_at (boards.clocked_at m n.board o) (suc place)) (suc place) n.asker;
+      asker = reported (state_at (boards.clocked_at m n.board o) (suc place)) (suc place) n.asker;
       board = boards.clocked_at m n.board o;
       current = n.current;
       pending = n.pending;

@@ -7,7 +7,7 @@ use Rattle.grpc_base.specs.declared.event.Conn.{Conn}
 use Rattle.grpc_base.specs.declared.event.Conn.TheVariants as conn
 use Rattle.channel_net.proofs.ViewLaws.{KeepsAddress}
 use Rattle.channel_net.specs.Lists.{link_of, without}
-use Rattle.channel_net.specs.Steps.{NetSeen, board_told, net_dial_failed, net_down, net_lost, net_ready, owns}
+use Rattle.channel_net.specs.Steps.{NetSeen, board_reported, net_dial_failed, net_down, net_lost, net_ready, owns}
 use Rattle.channel_net.specs.declared.links.OwnLink.{OwnLink}
 use Rattle.net_actions.proofs.Changing.{Change, changed_sees}
 use Rattle.net_actions.proofs.OwnLinks.{none_left, others_left, unlike}
@@ -20,8 +20,8 @@ use Rattle.session_actions.specs.Subchannels as sub
 use Rattle.session_actions.specs.Subchannels.{dial_failed, gone_down, is_dialling, settings_arrived, with_sub, without_link}
 use Rattle.session_actions.specs.declared.seen.Seen.{Seen}
 use Rattle.session_actions.specs.declared.subchannel.Subchannel.{Subchannel}
-use Rattle.subchannel.proofs.StepLaws.{keeps_live-failed, keeps_live-greeted, keeps_live-lost}
-use Rattle.subchannel.specs.Records.{SubRecord, backing_off, failed, greeted, is_connecting, is_dialing, is_failure, is_greeting, lost}
+use Rattle.subchannel.proofs.StepLaws.{keeps_live-failed, keeps_live-prefaced, keeps_live-lost}
+use Rattle.subchannel.specs.Records.{SubRecord, backing_off, failed, prefaced, is_connecting, is_dialing, is_failure, awaits_preface, lost}
 
 pub no_link : (o : Option ℕ) → is_some o ≡ false → o ≡ None
 no_link None e = refl
@@ -51,9 +51,9 @@ kept_address false r q e = refl
 keeps_address-failed : KeepsAddress failed
 keeps_address-failed r = kept_address (is_dialing r) r (backing_off r) refl
 
-keeps_address-greeted : KeepsAddress greeted
-keeps_address-greeted r =
-    kept_address (is_greeting r) r (record r { state = conn.Ready; dials = 0; again = None; until = None }) refl
+keeps_address-prefaced : KeepsAddress prefaced
+keeps_address-prefaced r =
+    kept_address (awaits_preface r) r (record r { state = conn.Ready; dials = 0; again = None; until = None }) refl
 
 pub if_true : (x : Bool) (q r : SubRecord) → x ≡ true → (if x then q else r) ≡ q
 if_true true q r e = refl
@@ -123,10 +123,10 @@ dial_failed_sees place s n b h e dial =
     changed_sees (without_link conn.Failure) failed place n.links (wants_resolution s) n change h
 
 -- the server's SETTINGS come
-greeted_is : (b : Subchannel) (r : SubRecord) (number : ℕ) (link : Option ℕ) → is_greeting r ≡ true → IsSub b r number link
-    → IsSub (record b { state = conn.Ready; dials = 0; until = None }) (greeted r) number link
-greeted_is b r number link greets is =
-    let parts : ((is_connecting r.state && is_some r.until) ≡ true) × (r.linked ≡ true) = both_true (is_connecting r.state && is_some r.until) r.linked greets in
+prefaced_is : (b : Subchannel) (r : SubRecord) (number : ℕ) (link : Option ℕ) → awaits_preface r ≡ true → IsSub b r number link
+    → IsSub (record b { state = conn.Ready; dials = 0; until = None }) (prefaced r) number link
+prefaced_is b r number link prefaces is =
+    let parts : ((is_connecting r.state && is_some r.until) ≡ true) × (r.linked ≡ true) = both_true (is_connecting r.state && is_some r.until) r.linked prefaces in
     let there : IsSub (record b { state = conn.Ready; dials = 0; until = None }) (record r { state = conn.Ready; dials = 0; again = None; until = None }) number link = record {
       number_is = is.number_is;
       address = is.address;
@@ -139,7 +139,7 @@ greeted_is b r number link greets is =
       shape = (refl, parts.1);
     } in
     subst (λ (q : SubRecord). IsSub (record b { state = conn.Ready; dials = 0; until = None }) q number link)
-    (sym (if_true (is_greeting r) (record r { state = conn.Ready; dials = 0; again = None; until = None }) r greets)) there
+    (sym (if_true (awaits_preface r) (record r { state = conn.Ready; dials = 0; again = None; until = None }) r prefaces)) there
 
 -- a subchannel of a place, in both
 pub here : (place : ℕ) (s : Seen) (n : NetSeen) (b : Subchannel) → Sees s n → slice_get s.subs place ≡ Some b → Both b n.board place (suc place) n.links
@@ -155,14 +155,14 @@ owned links number link linked o e f = (cc)
 owns_is : (o : Option ℕ) (link : ℕ) → o ≡ Some link → (link == link) ≡ true → option_map_or (λ (own : ℕ). own == link) o false ≡ true
 owns_is o link e f = ap (λ (x : Option ℕ). option_map_or (λ (own : ℕ). own == link) x false) e ∙ f
 
-greeting_of : (c : Conn) (until : Option ℕ) (linked : Bool) → IsShaped c until linked → is_connecting c ≡ true → linked ≡ true
+awaiting_preface_of : (c : Conn) (until : Option ℕ) (linked : Bool) → IsShaped c until linked → is_connecting c ≡ true → linked ≡ true
     → ((is_connecting c && is_some until) && linked) ≡ true
-greeting_of conn.Connecting None linked shape c l = absurd (cc)
-greeting_of conn.Connecting (Some t) linked shape c l = l
-greeting_of conn.Idle until linked shape c l = absurd (cc)
-greeting_of conn.Ready until linked shape c l = absurd (cc)
-greeting_of conn.Failure until linked shape c l = absurd (cc)
-greeting_of conn.Shutdown until linked shape c l = absurd (cc)
+awaiting_preface_of conn.Connecting None linked shape c l = absurd (cc)
+awaiting_preface_of conn.Connecting (Some t) linked shape c l = l
+awaiting_preface_of conn.Idle until linked shape c l = absurd (cc)
+awaiting_preface_of conn.Ready until linked shape c l = absurd (cc)
+awaiting_preface_of conn.Failure until linked shape c l = absurd (cc)
+awaiting_preface_of conn.Shutdown until linked shape c l = absurd (cc)
 
 pub settings_arrived_sees : (place link : ℕ) (s : Seen) (n : NetSeen) (b : Subchannel) → Sees s n → slice_get s.subs place ≡ Some b
     → sub.is_connecting b.state ≡ true → b.link ≡ Some link → Sees (settings_arrived (suc place) s) (net_ready (suc place) link n)
@@ -171,21 +171,21 @@ settings_arrived_sees place link s n b h e c l =
     let own : link_of n.links (suc place) ≡ Some link = sym both.is.link_is ∙ l in
     let linked : both.r.linked ≡ true = owned n.links (suc place) link both.r.linked (link_of n.links (suc place)) own both.is.linked in
     let connecting : is_connecting both.r.state ≡ true = sym (ap is_connecting both.is.state) ∙ sym (connecting_same b.state) ∙ c in
-    let greets : is_greeting both.r ≡ true = greeting_of both.r.state both.r.until both.r.linked both.is.shape connecting linked in
-    let change : Change (λ (x : Subchannel). record x { state = conn.Ready; dials = 0; until = None }) greeted place n.links s n = record {
+    let prefaces : awaits_preface both.r ≡ true = awaiting_preface_of both.r.state both.r.until both.r.linked both.is.shape connecting linked in
+    let change : Change (λ (x : Subchannel). record x { state = conn.Ready; dials = 0; until = None }) prefaced place n.links s n = record {
       b = b;
       at = e;
       r = both.r;
       there = both.at;
-      is = greeted_is b both.r (suc place) (link_of n.links (suc place)) greets both.is;
+      is = prefaced_is b both.r (suc place) (link_of n.links (suc place)) prefaces both.is;
       same = λ k other. refl;
-      live = keeps_live-greeted;
-      address = keeps_address-greeted;
+      live = keeps_live-prefaced;
+      address = keeps_address-prefaced;
     } in
-    let after : Sees (settings_arrived (suc place) s) (board_told greeted (suc place) n)
-    = changed_sees (λ (x : Subchannel). record x { state = conn.Ready; dials = 0; until = None }) greeted place n.links s n change h in
+    let after : Sees (settings_arrived (suc place) s) (board_reported prefaced (suc place) n)
+    = changed_sees (λ (x : Subchannel). record x { state = conn.Ready; dials = 0; until = None }) prefaced place n.links s n change h in
     subst (λ (m : NetSeen). Sees (settings_arrived (suc place) s) m)
-    (sym (if_net (owns (suc place) link n) (board_told greeted (suc place) n) n (owns_is (link_of n.links (suc place)) link own (eq-eqb link link refl)))) after
+    (sym (if_net (owns (suc place) link n) (board_reported prefaced (suc place) n) n (owns_is (link_of n.links (suc place)) link own (eq-eqb link link refl)))) after
 
 -- its link goes
 lost_in : (b : Subchannel) (a : Address) (c : Conn) (dials : ℕ) (again until : Option ℕ) (linked : Bool) (number : ℕ) (link : Option ℕ) → linked ≡ true
@@ -230,7 +230,7 @@ kept_address_by false false r q p e f = refl
 
 keeps_address-lost : KeepsAddress lost
 keeps_address-lost r =
-    kept_address_by (is_greeting r) (is_ready r.state) r (backing_off r) (record r { state = conn.Idle; linked = false }) refl refl
+    kept_address_by (awaits_preface r) (is_ready r.state) r (backing_off r) (record r { state = conn.Idle; linked = false }) refl refl
 
 pub gone_down_sees : (place link : ℕ) (s : Seen) (n : NetSeen) (b : Subchannel) → Sees s n → slice_get s.subs place ≡ Some b
     → b.link ≡ Some link → Sees (with_sub gone_down (suc place) s) (net_down (suc place) link n)

@@ -19,7 +19,7 @@ use Rattle.net_actions.proofs.OwnLinks.{new_is, other_stays, unlike}
 use Rattle.net_actions.proofs.Staying.{net_still, still_sees}
 use Rattle.net_actions.proofs.Subs.{Both, SameBut, SaysSame, found_same}
 use Rattle.net_actions.proofs.Views.{Found, found_in}
-use Rattle.net_actions.specs.Laws.{AreFewDials, DialsAreLinks, DialsAreTaken, IsTaken, NoneToDial}
+use Rattle.net_actions.specs.Laws.{DialCountsFit, DialsAreLinks, DialsAreTaken, IsTaken, NoneToDial}
 use Rattle.net_actions.specs.Sees.{IsSub, Sees}
 use Rattle.session_actions.specs.Subchannels.{dial_action, dial_taken_of, is_dialling, link_up, new_link, with_dial, with_sub}
 use Rattle.session_actions.specs.Entries.{next_word, now}
@@ -204,12 +204,12 @@ taken_at s n b h place at few e first =
       sees = subst (λ (o : Option Subchannel). Sees (option_map_or (dial_taken_of again until s) o s) (net_dialed (now s) (next_word s) n)) (sym at) named;
     }
 
-few_of : (subs : List Subchannel) (place : ℕ) (b : Subchannel) → AreFewDials subs → slice_get subs place ≡ Some b → b.dials < 4294967295
+few_of : (subs : List Subchannel) (place : ℕ) (b : Subchannel) → DialCountsFit subs → slice_get subs place ≡ Some b → b.dials < 4294967295
 few_of [] place b few e = absurd (cc)
 few_of (c ∷ subs) zero b few e = let one : c ≡ b = (cc) in subst (λ (x : Subchannel). x.dials < 4294967295) one few.0
 few_of (c ∷ subs) (suc place) b few e = few_of subs place b few.1 e
 
-taken_by : (number : ℕ) (s : Seen) (n : NetSeen) (h : Sees s n) (o : Option Subchannel) → AreFewDials s.subs → first_number is_dialable n.board ≡ Some number
+taken_by : (number : ℕ) (s : Seen) (n : NetSeen) (h : Sees s n) (o : Option Subchannel) → DialCountsFit s.subs → first_number is_dialable n.board ≡ Some number
     → find sub.is_dialable s.subs ≡ o → option_map (λ (b : Subchannel). b.number) o ≡ Some number → IsTaken number s n
 taken_by number s n h None few first e same = absurd (cc)
 taken_by number s n h (Some b) few first e same =

@@ -30,7 +30,7 @@ failed_append before xs ys =
     ap (map (λ (v : SubSeen). v.sub)) (filter-append (counts_as_failed before) xs ys)
     ∙ map-append (λ (v : SubSeen). v.sub) (filter (counts_as_failed before) xs) (filter (counts_as_failed before) ys)
 
--- a search that goes past a front
+-- a search that goes past a prefix
 past_by : (x : Bool) (n : ℕ) (o e : Option ℕ) → x ≡ false → o ≡ e → cond x (Some n) o ≡ e
 past_by true n o e f same = absurd (cc)
 past_by false n o e f same = same
@@ -87,15 +87,15 @@ none_failed before k e =
 abbrev seen_of : List SubRecord → Option ℕ → Option SubSeen
 seen_of board o = option_and_then (λ (k : ℕ). option_map (seen_as k) (numbered board k)) o
 
-new_failed : (before : List ℕ) (front : List SubRecord) (news : List Address) (o : Option ℕ) (test : SubRecord → Bool) → NoneAbove (length front) before
-    → position_from test (1 + length front) (map new_sub news) ≡ o → failed_in before (option_to_list (seen_of (front ++ map new_sub news) o)) ≡ []
-new_failed before front news None test none e = refl
-new_failed before front news (Some k) test none e =
-    let found : NewAt news (1 + length front) k = new_at test news (1 + length front) k e in
-    let number : k ≡ 1 + length front + found.place = found.number_is in
-    let place : k ≡ suc (length front + found.place) = omega arith in
-    let at : numbered (front ++ map new_sub news) k ≡ Some (new_sub found.a)
-    = ap (numbered (front ++ map new_sub news)) place ∙ get_past front (map new_sub news) found.place ∙ found.at in
+new_failed : (before : List ℕ) (prefix : List SubRecord) (news : List Address) (o : Option ℕ) (test : SubRecord → Bool) → NoneAbove (length prefix) before
+    → position_from test (1 + length prefix) (map new_sub news) ≡ o → failed_in before (option_to_list (seen_of (prefix ++ map new_sub news) o)) ≡ []
+new_failed before prefix news None test none e = refl
+new_failed before prefix news (Some k) test none e =
+    let found : NewAt news (1 + length prefix) k = new_at test news (1 + length prefix) k e in
+    let number : k ≡ 1 + length prefix + found.place = found.number_is in
+    let place : k ≡ suc (length prefix + found.place) = omega arith in
+    let at : numbered (prefix ++ map new_sub news) k ≡ Some (new_sub found.a)
+    = ap (numbered (prefix ++ map new_sub news)) place ∙ get_past prefix (map new_sub news) found.place ∙ found.at in
     ap (λ (r : Option SubRecord). failed_in before (option_to_list (option_map (seen_as k) r))) at
     ∙ none_failed before k (none k (omega arith))
 
@@ -106,13 +106,13 @@ module _ (before : List ℕ) (current pending : List Address) (board : List SubR
       let same : view_of (kept current pending board) (a ∷ []) ≡ view_of board (a ∷ []) = view-kept current pending board (a ∷ []) (wanted, (there, tt)) in
       ap (failed_in before) (sym (append-nil (option_to_list (seen_at (kept current pending board) a))) ∙ same ∙ append-nil (option_to_list (seen_at board a)))
   one_by a false there wanted =
-      let front : List SubRecord = map (kept_or_shut current pending) board in
+      let prefix : List SubRecord = map (kept_or_shut current pending) board in
       let news : List Address = lacking board [] current ++ lacking board current pending in
-      let same : length front ≡ length board = length-map board (kept_or_shut current pending) in
-      let gone : has_live front a ≡ false = has_live_kept current pending a board wanted ∙ there in
-      let above : NoneAbove (length front) before = λ k less. none k (omega (arith, less)) in
-      ap (λ (o : Option ℕ). failed_in before (option_to_list (seen_of (front ++ map new_sub news) o))) (position_past (is_live_at a) 1 front (map new_sub news) gone)
-      ∙ new_failed before front news (position_from (is_live_at a) (1 + length front) (map new_sub news)) (is_live_at a) above refl
+      let same : length prefix ≡ length board = length-map board (kept_or_shut current pending) in
+      let gone : has_live prefix a ≡ false = has_live_kept current pending a board wanted ∙ there in
+      let above : NoneAbove (length prefix) before = λ k less. none k (omega (arith, less)) in
+      ap (λ (o : Option ℕ). failed_in before (option_to_list (seen_of (prefix ++ map new_sub news) o))) (position_past (is_live_at a) 1 prefix (map new_sub news) gone)
+      ∙ new_failed before prefix news (position_from (is_live_at a) (1 + length prefix) (map new_sub news)) (is_live_at a) above refl
       ∙ ap (λ (o : Option ℕ). failed_in before (option_to_list (seen_of board o))) (sym (position_none (is_live_at a) 1 board there))
 
   pub failed_kept : (addresses : List Address) → AllWanted current pending addresses

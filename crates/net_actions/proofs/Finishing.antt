@@ -16,7 +16,7 @@ use Rattle.net_actions.proofs.Quiet.{with_uses}
 use Rattle.net_actions.proofs.Running.{IsQuiet}
 use Rattle.net_actions.proofs.Views.{views_same}
 use Rattle.net_actions.specs.Runs.{Becomes, RunsTo}
-use Rattle.net_actions.specs.Sees.{AreApart, AreKinds, AreSubs, AreUses, IsUse, NoneAskedBeyond, NoneBeyond, Sees, SeesBy}
+use Rattle.net_actions.specs.Sees.{UsesAreApart, KindsAgree, SubchannelsAgree, UsesAgree, IsUse, NoneAskedBeyond, NoneBeyond, Sees, SeesBy}
 use Rattle.policy_rack.specs.Steps.{RackSeen}
 use Rattle.session_actions.specs.Policies.{current_policy, listed, pending_policy, policy_of, view_of}
 use Rattle.session_actions.specs.declared.entry.OpenEntry.{OpenEntry}
@@ -31,12 +31,12 @@ pub record UsesNow (o : OpenEntry) (s : Seen) (uses : List PolicyUse) (current p
   pub current_is : current_policy (with_uses uses s) ≡ current
   pub pending_is : pending_policy (with_uses uses s) ≡ pending
   pub quiet : IsQuiet o (with_uses uses s)
-  pub uses_are : AreUses uses
+  pub uses_are : UsesAgree uses
   pub runs : (t : Seen) → RunsTo o (with_uses uses s) t → RunsTo o s t
 
 -- a policy whose addresses all stay is as it was
 module _ (s : Seen) (uses : List PolicyUse) (subs : List Subchannel) (board : List SubRecord) (links others : List OwnLink) (current pending list : List Address)
-    (before : AreSubs 1 s.subs board links) (after : AreSubs 1 subs (kept current pending board) others) (stays : StayLive current pending board list) where
+    (before : SubchannelsAgree 1 s.subs board links) (after : SubchannelsAgree 1 subs (kept current pending board) others) (stays : StayLive current pending board list) where
   still_view : view_of list (with_subs subs (with_uses uses s)) ≡ view_of list s
   still_view =
       sym (views_same (with_subs subs (with_uses uses s)) (kept current pending board) others list after)
@@ -60,16 +60,16 @@ net_with r current pending n = record {
 -- a use agrees with the net, whatever the subchannels are by which the boards agree
 abbrev pub FitsNow : Seen → List PolicyUse → List Address → List Address → NetSeen → (Seen → Type 0) → Type 0
 FitsNow s uses current pending n P =
-    (subs : List Subchannel) → AreSubs 1 subs (kept current pending n.board) (live_links (kept current pending n.board) n.links) → P (with_subs subs (with_uses uses s))
+    (subs : List Subchannel) → SubchannelsAgree 1 subs (kept current pending n.board) (live_links (kept current pending n.board) n.links) → P (with_subs subs (with_uses uses s))
 
 abbrev pub use_in : Option PolicyUse → Seen → Option PolicySeen
 use_in c t = option_map (λ (g : PolicyUse). policy_of g t) c
 
 pub finished : (o : OpenEntry) (s : Seen) (uses : List PolicyUse) (c p : Option PolicyUse) (r : RackSeen) (current pending : List Address) (n : NetSeen)
-    → AreSubs 1 s.subs n.board n.links → NoneBeyond (length s.subs) n.links → UsesNow o s uses c p
+    → SubchannelsAgree 1 s.subs n.board n.links → NoneBeyond (length s.subs) n.links → UsesNow o s uses c p
     → flat_map (λ (g : PolicyUse). g.addresses) (option_to_list c ++ option_to_list p) ≡ current ++ pending
-    → IsWithoutRepeats current → IsWithoutRepeats pending → r.made ≡ length uses → AreKinds s.setup.policies r.policies
-    → NoneAskedBeyond (length uses) s.asks → n.asker.asks ≤ length s.asks → AreApart r.current r.pending
+    → IsWithoutRepeats current → IsWithoutRepeats pending → r.made ≡ length uses → KindsAgree s.setup.policies r.policies
+    → NoneAskedBeyond (length uses) s.asks → n.asker.asks ≤ length s.asks → UsesAreApart r.current r.pending
     → FitsNow s uses current pending n (λ t. IsUse c (use_in c t) r.current current r.policies)
     → FitsNow s uses current pending n (λ t. IsUse p (use_in p t) r.pending pending r.policies)
     → Becomes o s (net_with r current pending n)

@@ -4,8 +4,8 @@ use Rattle.std.specs.Option.{option_map, option_map_or}
 use Rattle.std.specs.Prelude.{find}
 use Rattle.net_actions.proofs.Noting.{found_map, found_passes, numbers_stay, one_as}
 use Rattle.net_actions.proofs.Quiet.{and_no, at_number, changed_number, none_after, one_of_none, retire_if, retired_number, with_uses}
-use Rattle.net_actions.proofs.Uses.{AllUses, UseAt, all_to, changed_found, get_map, is_of, map_map, map_same, map_uses, tells, use_at}
-use Rattle.net_actions.specs.Sees.{AreNumbered, AreUses}
+use Rattle.net_actions.proofs.Uses.{AllUses, UseAt, all_to, changed_found, get_map, is_of, map_map, map_same, map_uses, reports_that, use_at}
+use Rattle.net_actions.specs.Sees.{PoliciesAreNumbered, UsesAgree}
 use Rattle.session_actions.specs.Entries.{entry}
 use Rattle.session_actions.specs.Policies.{activated_in, current_policy, is_current, is_live_policy, is_pending, pending_policy, policy_retired, policy_took_over, retired_in, with_policy}
 use Rattle.session_actions.specs.Words.{changed}
@@ -23,13 +23,13 @@ over_number_by : (e : ℕ) (x y : Bool) (g : PolicyUse) → (over_if e x y g).nu
 over_number_by e true y g = retired_number e y g
 over_number_by e false y g = retired_number e y g
 
-retired_by : (s : Seen) (o : Option PolicyUse) → AreNumbered 1 s.policies → current_policy s ≡ o
+retired_by : (s : Seen) (o : Option PolicyUse) → PoliciesAreNumbered 1 s.policies → current_policy s ≡ o
     → option_map_or (λ (g : PolicyUse). policy_retired g.number s) o s
     ≡ with_uses (map (λ (g : PolicyUse). retire_if (entry s) (is_of o g) g) s.policies) s
 retired_by s None h e = ap (λ (l : List PolicyUse). with_uses l s) (sym (map_same s.policies))
 retired_by s (Some c) h e = ap (λ (l : List PolicyUse). with_uses l s) (changed_found (retired_in (entry s)) s.policies is_current c h e)
 
-retired_now : (s : Seen) → AreUses s.policies
+retired_now : (s : Seen) → UsesAgree s.policies
     → option_map_or (λ (g : PolicyUse). policy_retired g.number s) (current_policy s) s
     ≡ with_uses (map (λ (g : PolicyUse). retire_if (entry s) (is_current g) g) s.policies) s
 retired_now s h =
@@ -38,10 +38,10 @@ retired_now s h =
     ∙ ap (λ (l : List PolicyUse). with_uses l s)
     (map_uses (λ (g : PolicyUse). retire_if (entry s) (is_of o g) g) (λ (g : PolicyUse). retire_if (entry s) (is_current g) g) s.policies
     (all_to (λ (g : PolicyUse). is_of o g ≡ is_current g) (λ (g : PolicyUse). retire_if (entry s) (is_of o g) g ≡ retire_if (entry s) (is_current g) g)
-    (λ g e. ap (λ (x : Bool). retire_if (entry s) x g) e) s.policies (tells is_current s.policies o h.numbers h.one_current refl)))
+    (λ g e. ap (λ (x : Bool). retire_if (entry s) x g) e) s.policies (reports_that is_current s.policies o h.numbers h.one_current refl)))
 
 -- and the pending one is current
-pub taken_over_now : (s : Seen) (p : PolicyUse) → AreUses s.policies → pending_policy s ≡ Some p
+pub taken_over_now : (s : Seen) (p : PolicyUse) → UsesAgree s.policies → pending_policy s ≡ Some p
     → policy_took_over p.number s ≡ with_uses (map (over (entry s)) s.policies) s
 taken_over_now s p h e =
     let f : PolicyUse → PolicyUse = λ (g : PolicyUse). retire_if (entry s) (is_current g) g in
@@ -49,13 +49,13 @@ taken_over_now s p h e =
     let act : PolicyUse → PolicyUse = activated_in (entry s) in
     let at : UseAt s.policies p 1 = use_at s.policies is_pending 1 p h.numbers e in
     let number : suc at.place ≡ p.number = (let k : p.number ≡ 1 + at.place = at.number_is in omega arith) in
-    let numbers : AreNumbered 1 uses = numbers_stay f (λ g. retired_number (entry s) (is_current g) g) 1 s.policies h.numbers in
+    let numbers : PoliciesAreNumbered 1 uses = numbers_stay f (λ g. retired_number (entry s) (is_current g) g) 1 s.policies h.numbers in
     let there : changed act p.number uses ≡ map (at_number p.number act) uses
     = subst (λ (k : ℕ). changed act k uses ≡ map (at_number k act) uses) number (changed_number at.place act uses (f p) numbers (get_map f s.policies at.place p at.own)) in
     let each : AllUses (λ (g : PolicyUse). at_number p.number act (f g) ≡ over (entry s) g) s.policies
     = all_to (λ (g : PolicyUse). is_of (Some p) g ≡ is_pending g) (λ (g : PolicyUse). at_number p.number act (f g) ≡ over (entry s) g)
     (λ g d. ap (λ (k : ℕ). if k == p.number then act (f g) else f g) (retired_number (entry s) (is_current g) g) ∙ ap (λ (x : Bool). over_if (entry s) x (is_current g) g) d)
-    s.policies (tells is_pending s.policies (Some p) h.numbers h.one_pending e) in
+    s.policies (reports_that is_pending s.policies (Some p) h.numbers h.one_pending e) in
     ap (λ (t : Seen). with_policy act p.number t) (retired_now s h)
     ∙ ap (λ (l : List PolicyUse). with_uses l s)
     (there ∙ map_map (at_number p.number act) f s.policies ∙ map_uses (λ (g : PolicyUse). at_number p.number act (f g)) (over (entry s)) s.policies each)
@@ -83,7 +83,7 @@ over_current e g = (over_by e g (is_pending g) (is_current g) refl refl).0
 pub over_pending : (e : ℕ) (g : PolicyUse) → is_pending (over e g) ≡ false
 over_pending e g = (over_by e g (is_pending g) (is_current g) refl refl).1
 
-pub over_uses : (e : ℕ) (uses : List PolicyUse) → AreUses uses → AreUses (map (over e) uses)
+pub over_uses : (e : ℕ) (uses : List PolicyUse) → UsesAgree uses → UsesAgree (map (over e) uses)
 over_uses e uses h = record {
   numbers = numbers_stay (over e) (λ g. over_number_by e (is_pending g) (is_current g) g) 1 uses h.numbers;
   one_current = one_as is_current is_pending (over e) (over_current e) uses h.one_pending;

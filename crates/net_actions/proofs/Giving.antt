@@ -11,9 +11,9 @@ use Rattle.lb_policy.specs.Steps.{failed_in}
 use Rattle.net_actions.proofs.KeptBoards.{same_equal}
 use Rattle.net_actions.proofs.Quiet.{at_number, with_uses}
 use Rattle.net_actions.proofs.Running.{both_false, find_none, one_more}
-use Rattle.net_actions.proofs.Uses.{all_to, changed_found, is_of, map_same, map_uses, only_is, tells}
+use Rattle.net_actions.proofs.Uses.{all_to, changed_found, is_of, map_same, map_uses, only_is, reports_that}
 use Rattle.net_actions.specs.Runs.{NoneIsToEnd, RunsTo}
-use Rattle.net_actions.specs.Sees.{AreNumbered, AtMostOne}
+use Rattle.net_actions.specs.Sees.{PoliciesAreNumbered, AtMostOne}
 use Rattle.session_actions.specs.Actions.{first_action, of_policies}
 use Rattle.session_actions.specs.CallEnds.{is_after_event}
 use Rattle.session_actions.specs.Policies.{addresses_given, addresses_in, are_same_addresses, given_addresses, is_live_policy, is_same_address, is_same_kind, next_begun, next_given, next_retired, result_of, view_of, wanted_kind, wants_addresses, with_policy}
@@ -57,30 +57,30 @@ event_has : (x : Bool) (e : Event) (addresses : List Address) → (if x then add
 event_has true e addresses h = h
 event_has false e addresses h = absurd (cc)
 
-none_narrow : (test wide : PolicyUse → Bool) → ((h : PolicyUse) → wide h ≡ false → test h ≡ false) → (uses : List PolicyUse) → list_any wide uses ≡ false
+none_restricted : (test wide : PolicyUse → Bool) → ((h : PolicyUse) → wide h ≡ false → test h ≡ false) → (uses : List PolicyUse) → list_any wide uses ≡ false
     → list_any test uses ≡ false
-none_narrow test wide narrow [] e = refl
-none_narrow test wide narrow (g ∷ uses) e =
+none_restricted test wide restricted [] e = refl
+none_restricted test wide restricted (g ∷ uses) e =
     let parts : (wide g ≡ false) × (list_any wide uses ≡ false) = or_parts (wide g) (list_any wide uses) e in
-    both_false (test g) (list_any test uses) (narrow g parts.0) (none_narrow test wide narrow uses parts.1)
+    both_false (test g) (list_any test uses) (restricted g parts.0) (none_restricted test wide restricted uses parts.1)
 
--- a narrower test finds what the wider one does, or nothing
-narrow_by : (test wide : PolicyUse → Bool) (g : PolicyUse) (uses : List PolicyUse) (c : PolicyUse) (x : Bool) → wide g ≡ x
+-- a stronger test finds what the wider one does, or nothing
+restricted_by : (test wide : PolicyUse → Bool) (g : PolicyUse) (uses : List PolicyUse) (c : PolicyUse) (x : Bool) → wide g ≡ x
     → ((h : PolicyUse) → wide h ≡ false → test h ≡ false) → (wide g ≡ true → list_any wide uses ≡ false)
     → cond x (Some g) (find wide uses) ≡ Some c → (find wide uses ≡ Some c → find test uses ≡ cond (test c) (Some c) None)
     → cond (test g) (Some g) (find test uses) ≡ cond (test c) (Some c) None
-narrow_by test wide g uses c true here narrow only e next =
+restricted_by test wide g uses c true here restricted only e next =
     let one : g ≡ c = (cc) in
-    ap (λ (o : Option PolicyUse). cond (test g) (Some g) o) (find_none test uses (none_narrow test wide narrow uses (only here)))
+    ap (λ (o : Option PolicyUse). cond (test g) (Some g) o) (find_none test uses (none_restricted test wide restricted uses (only here)))
     ∙ ap (λ (h : PolicyUse). cond (test h) (Some h) None) one
-narrow_by test wide g uses c false here narrow only e next =
-    ap (λ (x : Bool). cond x (Some g) (find test uses)) (narrow g here) ∙ next e
+restricted_by test wide g uses c false here restricted only e next =
+    ap (λ (x : Bool). cond x (Some g) (find test uses)) (restricted g here) ∙ next e
 
-pub find_narrow : (test wide : PolicyUse → Bool) (uses : List PolicyUse) (c : PolicyUse) → ((h : PolicyUse) → wide h ≡ false → test h ≡ false)
+pub find_restricted : (test wide : PolicyUse → Bool) (uses : List PolicyUse) (c : PolicyUse) → ((h : PolicyUse) → wide h ≡ false → test h ≡ false)
     → AtMostOne wide uses → find wide uses ≡ Some c → find test uses ≡ cond (test c) (Some c) None
-find_narrow test wide [] c narrow only e = absurd (cc)
-find_narrow test wide (g ∷ uses) c narrow only e =
-    narrow_by test wide g uses c (wide g) refl narrow only.0 e (λ f. find_narrow test wide uses c narrow only.1 f)
+find_restricted test wide [] c restricted only e = absurd (cc)
+find_restricted test wide (g ∷ uses) c restricted only e =
+    restricted_by test wide g uses c (wide g) refl restricted only.0 e (λ f. find_restricted test wide uses c restricted only.1 f)
 
 module _ (o : OpenEntry) (s : Seen) (k : Kind) (addresses : List Address) (wanted : wanted_kind o s ≡ Some k) (result : result_of o ≡ Some addresses) where
   pub wants_is : (g : PolicyUse) → wants_addresses o s g ≡ (is_chosen k g && not (are_same_addresses g.addresses addresses))
@@ -88,9 +88,9 @@ module _ (o : OpenEntry) (s : Seen) (k : Kind) (addresses : List Address) (wante
       ap (λ (r : Option Kind). (is_live_policy g && holds (λ (j : Kind). is_same_kind g.generation.kind j) r) && holds (λ (l : List Address). not (are_same_addresses g.addresses l)) (result_of o)) wanted
       ∙ ap (λ (r : Option (List Address)). is_chosen k g && holds (λ (l : List Address). not (are_same_addresses g.addresses l)) r) result
 
-  narrower : (x y : Bool) → x ≡ false → (x && y) ≡ false
-  narrower true y e = absurd (cc)
-  narrower false y e = refl
+  stronger : (x y : Bool) → x ≡ false → (x && y) ≡ false
+  stronger true y e = absurd (cc)
+  stronger false y e = refl
 
   -- one that has them stays as it is
   given_stays : (c : PolicyUse) → c.failed ≡ failed_in c.failed (view_of c.addresses s) → are_same_addresses c.addresses addresses ≡ true → give addresses s c ≡ c
@@ -113,12 +113,12 @@ module _ (o : OpenEntry) (s : Seen) (k : Kind) (addresses : List Address) (wante
       ∙ map_same uses
 
   -- the others stay as they are
-  all_given : (c : PolicyUse) (uses : List PolicyUse) → AreNumbered 1 uses → AtMostOne (is_chosen k) uses → find (is_chosen k) uses ≡ Some c
+  all_given : (c : PolicyUse) (uses : List PolicyUse) → PoliciesAreNumbered 1 uses → AtMostOne (is_chosen k) uses → find (is_chosen k) uses ≡ Some c
       → map (at_number c.number (give addresses s)) uses ≡ map (give_one k addresses s) uses
   all_given c uses numbers only found =
       map_uses (at_number c.number (give addresses s)) (give_one k addresses s) uses
       (all_to (λ (g : PolicyUse). is_of (Some c) g ≡ is_chosen k g) (λ (g : PolicyUse). at_number c.number (give addresses s) g ≡ give_one k addresses s g)
-      (λ g e. ap (λ (x : Bool). give_if addresses s x g) e) uses (tells (is_chosen k) uses (Some c) numbers only found))
+      (λ g e. ap (λ (x : Bool). give_if addresses s x g) e) uses (reports_that (is_chosen k) uses (Some c) numbers only found))
 
   given_next : (c : PolicyUse) (uses : List PolicyUse) → NoneIsToEnd s → next_retired o (with_uses uses s) ≡ None → next_begun o (with_uses uses s) ≡ None
       → find (wants_addresses o s) uses ≡ Some c → of_policies o (with_uses uses s) ≡ Some (action.AddressesGiven c.number)
@@ -129,7 +129,7 @@ module _ (o : OpenEntry) (s : Seen) (k : Kind) (addresses : List Address) (wante
       ∙ ap (λ (x : Option Action). first_action (None ∷ None ∷ x ∷ next_given o t ∷ next_shut t ∷ next_added t ∷ [])) begun
       ∙ ap (λ (x : Option PolicyUse). first_action (None ∷ None ∷ None ∷ option_map (λ (g : PolicyUse). action.AddressesGiven g.number) x ∷ next_shut t ∷ next_added t ∷ [])) found
 
-  given_now : (c : PolicyUse) (uses : List PolicyUse) → AreNumbered 1 uses → AtMostOne (is_chosen k) uses → find (is_chosen k) uses ≡ Some c
+  given_now : (c : PolicyUse) (uses : List PolicyUse) → PoliciesAreNumbered 1 uses → AtMostOne (is_chosen k) uses → find (is_chosen k) uses ≡ Some c
       → addresses_given c.number o.event (with_uses uses s) ≡ with_uses (map (give_one k addresses s) uses) s
   given_now c uses numbers only found =
       ap (λ (r : Option (List Address)). option_map_or (λ (l : List Address). with_policy (given_addresses l (with_uses uses s)) c.number (with_uses uses s)) r (with_uses uses s))
@@ -137,7 +137,7 @@ module _ (o : OpenEntry) (s : Seen) (k : Kind) (addresses : List Address) (wante
       ∙ ap (λ (l : List PolicyUse). with_uses l s) (changed_found (give addresses s) uses (is_chosen k) c numbers found ∙ all_given c uses numbers only found)
 
   gives_by : (c : PolicyUse) (uses : List PolicyUse) (t : Seen) (x : Bool) → NoneIsToEnd s → next_retired o (with_uses uses s) ≡ None
-      → next_begun o (with_uses uses s) ≡ None → AreNumbered 1 uses → AtMostOne (is_chosen k) uses → find (is_chosen k) uses ≡ Some c
+      → next_begun o (with_uses uses s) ≡ None → PoliciesAreNumbered 1 uses → AtMostOne (is_chosen k) uses → find (is_chosen k) uses ≡ Some c
       → c.failed ≡ failed_in c.failed (view_of c.addresses s) → are_same_addresses c.addresses addresses ≡ x → find (wants_addresses o s) uses ≡ cond (not x) (Some c) None
       → RunsTo o (with_uses (map (give_one k addresses s) uses) s) t → RunsTo o (with_uses uses s) t
   gives_by c uses t true ended retired begun numbers only found sound same wants run =
@@ -154,11 +154,11 @@ module _ (o : OpenEntry) (s : Seen) (k : Kind) (addresses : List Address) (wante
       ∙ ap (λ (y : Bool). cond (not y) (Some c) None) same
 
   pub gives : (c : PolicyUse) (uses : List PolicyUse) (t : Seen) → NoneIsToEnd s → next_retired o (with_uses uses s) ≡ None
-      → next_begun o (with_uses uses s) ≡ None → AreNumbered 1 uses → AtMostOne (is_chosen k) uses → find (is_chosen k) uses ≡ Some c → is_chosen k c ≡ true
+      → next_begun o (with_uses uses s) ≡ None → PoliciesAreNumbered 1 uses → AtMostOne (is_chosen k) uses → find (is_chosen k) uses ≡ Some c → is_chosen k c ≡ true
       → c.failed ≡ failed_in c.failed (view_of c.addresses s)
       → RunsTo o (with_uses (map (give_one k addresses s) uses) s) t → RunsTo o (with_uses uses s) t
   gives c uses t ended retired begun numbers only found here sound run =
       let x : Bool = are_same_addresses c.addresses addresses in
-      let narrow : find (wants_addresses o s) uses ≡ cond (wants_addresses o s c) (Some c) None
-      = find_narrow (wants_addresses o s) (is_chosen k) uses c (λ h none. wants_is h ∙ narrower (is_chosen k h) (not (are_same_addresses h.addresses addresses)) none) only found in
-      gives_by c uses t x ended retired begun numbers only found sound refl (narrow ∙ chosen_by c x here refl) run
+      let restricted : find (wants_addresses o s) uses ≡ cond (wants_addresses o s c) (Some c) None
+      = find_restricted (wants_addresses o s) (is_chosen k) uses c (λ h none. wants_is h ∙ stronger (is_chosen k h) (not (are_same_addresses h.addresses addresses)) none) only found in
+      gives_by c uses t x ended retired begun numbers only found sound refl (restricted ∙ chosen_by c x here refl) run

@@ -22,13 +22,13 @@ use Rattle.net_actions.proofs.Shutting.{HaveNumbers, none_unlisted, shut_from, s
 use Rattle.net_actions.proofs.Subs.{found_same}
 use Rattle.net_actions.proofs.Views.{live_same, shut_same}
 use Rattle.net_actions.specs.Runs.{RunsTo}
-use Rattle.net_actions.specs.Sees.{AreSubs, IsSub, NoneBeyond}
+use Rattle.net_actions.specs.Sees.{SubchannelsAgree, IsSub, NoneBeyond}
 use Rattle.session_actions.specs.Policies.{is_live_sub, is_same_address, listed}
 use Rattle.session_actions.specs.Subchannels.{is_unlisted, new_sub}
 use Rattle.session_actions.specs.declared.entry.OpenEntry.{OpenEntry}
 use Rattle.session_actions.specs.declared.seen.Seen.{Seen}
 use Rattle.session_actions.specs.declared.subchannel.Subchannel.{Subchannel}
-use Rattle.subchannel.proofs.NumberLaws.{numbered-behind, one-longer, one-moved}
+use Rattle.subchannel.proofs.NumberLaws.{numbered-afterwards, one-longer, one-moved}
 use Rattle.subchannel.specs.Boards.{has_live, is_live_at, kept, kept_or_shut, lacking, passes, passes_test}
 use Rattle.subchannel.specs.Records.{SubRecord, is_live, is_shut, shut_down}
 use Rattle.subchannel.specs.Records as records
@@ -117,22 +117,22 @@ module _ (s : Seen) (current pending : List Address) (list : listed s ≡ curren
       subst (λ (y : Bool). IsSub (shut_if y b) (kept_or_shut current pending r) n (cond (is_live (kept_or_shut current pending r)) link None))
       (sym (unlisted_same s current pending list b r n link is)) (kept_by b r n link x is)
 
-  all_kept : (front more : List SubRecord) (n : ℕ) (subs : List Subchannel) (board : List SubRecord) → n ≡ length front + 1 → AreSubs n subs board links
-      → AreSubs n (map (shut_one s) subs) (map (kept_or_shut current pending) board) (live_links (front ++ (map (kept_or_shut current pending) board ++ more)) links)
-  all_kept front more n [] [] e h = tt
-  all_kept front more n [] (r ∷ board) e h = absurd h
-  all_kept front more n (b ∷ subs) [] e h = absurd h
-  all_kept front more n (b ∷ subs) (r ∷ board) e h =
+  all_kept : (prefix more : List SubRecord) (n : ℕ) (subs : List Subchannel) (board : List SubRecord) → n ≡ length prefix + 1 → SubchannelsAgree n subs board links
+      → SubchannelsAgree n (map (shut_one s) subs) (map (kept_or_shut current pending) board) (live_links (prefix ++ (map (kept_or_shut current pending) board ++ more)) links)
+  all_kept prefix more n [] [] e h = tt
+  all_kept prefix more n [] (r ∷ board) e h = absurd h
+  all_kept prefix more n (b ∷ subs) [] e h = absurd h
+  all_kept prefix more n (b ∷ subs) (r ∷ board) e h =
       let f : SubRecord → SubRecord = kept_or_shut current pending in
-      let behind : List SubRecord = map f board ++ more in
-      let all : List SubRecord = front ++ f r ∷ behind in
+      let afterwards : List SubRecord = map f board ++ more in
+      let all : List SubRecord = prefix ++ f r ∷ afterwards in
       let link : link_of (live_links all links) n ≡ cond (is_live (f r)) (link_of links n) None
       = filtered (passes is_live all) links n
-      ∙ ap (λ (o : Option SubRecord). cond (passes_test is_live o) (link_of links n) None) (numbered-behind front behind (f r) n e) in
-      let next : AreSubs (n + 1) (map (shut_one s) subs) (map f board) (live_links ((front ++ f r ∷ []) ++ behind) links)
-      = all_kept (front ++ f r ∷ []) more (n + 1) subs board (one-longer front (f r) n e) h.1 in (
+      ∙ ap (λ (o : Option SubRecord). cond (passes_test is_live o) (link_of links n) None) (numbered-afterwards prefix afterwards (f r) n e) in
+      let next : SubchannelsAgree (n + 1) (map (shut_one s) subs) (map f board) (live_links ((prefix ++ f r ∷ []) ++ afterwards) links)
+      = all_kept (prefix ++ f r ∷ []) more (n + 1) subs board (one-longer prefix (f r) n e) h.1 in (
         subst (λ (o : Option ℕ). IsSub (shut_one s b) (f r) n o) (sym link) (one_kept b r n (link_of links n) h.0),
-        subst (λ (l : List SubRecord). AreSubs (n + 1) (map (shut_one s) subs) (map f board) (live_links l links)) (one-moved front behind (f r)) next,
+        subst (λ (l : List SubRecord). SubchannelsAgree (n + 1) (map (shut_one s) subs) (map f board) (live_links l links)) (one-moved prefix afterwards (f r)) next,
       )
 
 beyond_by : (x : Bool) (o : Option ℕ) → o ≡ None → cond x o None ≡ None
@@ -143,9 +143,9 @@ beyond_kept : (board : List SubRecord) (links : List OwnLink) (made : ℕ) → N
 beyond_kept board links made h number less =
     filtered (passes is_live board) links number ∙ beyond_by (passes is_live board number) (link_of links number) (h number less)
 
--- a new one behind
+-- a new one after
 pushed : (a : Address) (k n : ℕ) (subs : List Subchannel) (board : List SubRecord) (links : List OwnLink) → k ≡ n + length subs → link_of links k ≡ None
-    → AreSubs n subs board links → AreSubs n (subs ++ new_sub a k ∷ []) (board ++ records.new_sub a ∷ []) links
+    → SubchannelsAgree n subs board links → SubchannelsAgree n (subs ++ new_sub a k ∷ []) (board ++ records.new_sub a ∷ []) links
 pushed a k n [] [] links e none h =
     let number : k ≡ n = omega arith in
     let there : link_of links n ≡ None = subst (λ (j : ℕ). link_of links j ≡ None) number none in (
@@ -184,14 +184,14 @@ some_position test n [] = refl
 some_position test n (r ∷ board) =
     some_by (test r) n (position_from test (n + 1) board) (list_any test board) (some_position test (n + 1) board)
 
-lacking_same : (a : Address) (subs : List Subchannel) (board : List SubRecord) (links : List OwnLink) → AreSubs 1 subs board links
+lacking_same : (a : Address) (subs : List Subchannel) (board : List SubRecord) (links : List OwnLink) → SubchannelsAgree 1 subs board links
     → is_lacking subs a ≡ not (has_live board a)
 lacking_same a subs board links h =
     none_as (find (is_live_sub a) subs) (position_from (is_live_at a) 1 board) (found_same (is_live_sub a) (is_live_at a) (live_same a) 1 subs board links h)
     ∙ ap (λ (x : Bool). not x) (some_position (is_live_at a) 1 board)
 
 abbrev Agree : List Subchannel → List SubRecord → List OwnLink → Type 0
-Agree subs board links = AreSubs 1 subs board links × NoneBeyond (length subs) links
+Agree subs board links = SubchannelsAgree 1 subs board links × NoneBeyond (length subs) links
 
 grown_by : (a : Address) (subs : List Subchannel) (board : List SubRecord) (links : List OwnLink) (x y : Bool) → x ≡ not y → Agree subs board links
     → Agree (grown_if x subs a) (grown_board_if y board a) links
@@ -212,7 +212,7 @@ added_agree (a ∷ rest) subs board links h =
     added_agree rest (grown_if (is_lacking subs a) subs a) (grown_board_if (has_live board a) board a) links
     (grown_by a subs board links (is_lacking subs a) (has_live board a) (lacking_same a subs board links h.0) h)
 
-have_numbers : (n : ℕ) (subs : List Subchannel) (board : List SubRecord) (links : List OwnLink) → AreSubs n subs board links → HaveNumbers n subs
+have_numbers : (n : ℕ) (subs : List Subchannel) (board : List SubRecord) (links : List OwnLink) → SubchannelsAgree n subs board links → HaveNumbers n subs
 have_numbers n [] [] links h = tt
 have_numbers n [] (r ∷ board) links h = absurd h
 have_numbers n (b ∷ subs) [] links h = absurd h
@@ -222,12 +222,12 @@ have_numbers n (b ∷ subs) (r ∷ board) links h = (h.0.number_is, have_numbers
 pub record KeptBy (o : OpenEntry) (s : Seen) (board : List SubRecord) (links : List OwnLink) : Type 0 where
   pub subs : List Subchannel
   pub runs : RunsTo o s (with_subs subs s)
-  pub are : AreSubs 1 subs board links
+  pub are : SubchannelsAgree 1 subs board links
   pub beyond : NoneBeyond (length subs) links
 
 pub keeps : (o : OpenEntry) (s : Seen) (current pending : List Address) (board : List SubRecord) (links : List OwnLink) → IsQuiet o s
     → listed s ≡ current ++ pending → IsWithoutRepeats current → IsWithoutRepeats pending
-    → AreSubs 1 s.subs board links → NoneBeyond (length s.subs) links
+    → SubchannelsAgree 1 s.subs board links → NoneBeyond (length s.subs) links
     → KeptBy o s (kept current pending board) (live_links (kept current pending board) links)
 keeps o s current pending board links q list one two h beyond =
     let f : SubRecord → SubRecord = kept_or_shut current pending in
@@ -238,7 +238,7 @@ keeps o s current pending board links q list one two h beyond =
     let adds : RunsTo o (with_subs left s) (with_subs subs s) = add_from o s q [] (listed s) left refl (none_unlisted s s.subs) refl in
     let runs : RunsTo o (with_subs s.subs s) (with_subs subs s)
     = shut_from o s q [] s.subs (with_subs subs s) refl (have_numbers 1 s.subs board links h) adds in
-    let shut : AreSubs 1 left (map f board) others
+    let shut : SubchannelsAgree 1 left (map f board) others
     = all_kept s current pending list links [] (map records.new_sub (lacking board [] current ++ lacking board current pending)) 1 s.subs board refl h in
     let same : length left ≡ length s.subs = length-map s.subs (shut_one s) in
     let none : NoneBeyond (length left) others
@@ -249,6 +249,6 @@ keeps o s current pending board links q list one two h beyond =
     record {
       subs = subs;
       runs = runs;
-      are = subst (λ (l : List SubRecord). AreSubs 1 subs l others) boards all.0;
+      are = subst (λ (l : List SubRecord). SubchannelsAgree 1 subs l others) boards all.0;
       beyond = all.1;
     }

@@ -2,7 +2,7 @@
 use Rattle.std.proofs.Common.{◌≡◌, ◌∷◌, ◌∙◌, List, [], Option, None, Some, ℕ, zero, suc, map}
 use Rattle.lb_policy.specs.Steps.{emptied}
 use Rattle.lb_policy.specs.Table.{PolicySeen}
-use Rattle.net_actions.specs.Sees.{AreKinds}
+use Rattle.net_actions.specs.Sees.{KindsAgree}
 use Rattle.policy_rack.specs.Steps.{changed, changed_of}
 use Rattle.policy_rack.specs.declared.live.Live.{Live}
 use Rattle.session_actions.specs.declared.seen.PolicyKind.{PolicyKind}
@@ -11,8 +11,8 @@ pub record KeepsKind (f : PolicySeen → PolicySeen) : Type 0 where
   pub kind : (p : PolicySeen) → p.kind ≡ (f p).kind
   pub width : (p : PolicySeen) → p.width ≡ (f p).width
 
-pub kinds_changed : (f : PolicySeen → PolicySeen) → KeepsKind f → (kinds : List PolicyKind) (policies : List PolicySeen) (place : ℕ) → AreKinds kinds policies
-    → AreKinds kinds (changed f policies place)
+pub kinds_changed : (f : PolicySeen → PolicySeen) → KeepsKind f → (kinds : List PolicyKind) (policies : List PolicySeen) (place : ℕ) → KindsAgree kinds policies
+    → KindsAgree kinds (changed f policies place)
 kinds_changed f keeps [] [] place h = tt
 kinds_changed f keeps [] (p ∷ policies) place h = absurd h
 kinds_changed f keeps (k ∷ kinds) [] place h = absurd h
@@ -20,11 +20,11 @@ kinds_changed f keeps (k ∷ kinds) (p ∷ policies) zero h = (h.0 ∙ keeps.kin
 kinds_changed f keeps (k ∷ kinds) (p ∷ policies) (suc place) h = (h.0, h.1, kinds_changed f keeps kinds policies place h.2)
 
 pub kinds_changed_of : (f : PolicySeen → PolicySeen) → KeepsKind f → (kinds : List PolicyKind) (policies : List PolicySeen) (live : Option Live)
-    → AreKinds kinds policies → AreKinds kinds (changed_of f live policies)
+    → KindsAgree kinds policies → KindsAgree kinds (changed_of f live policies)
 kinds_changed_of f keeps kinds policies None h = h
 kinds_changed_of f keeps kinds policies (Some live) h = kinds_changed f keeps kinds policies live.place h
 
-pub kinds_emptied : (kinds : List PolicyKind) (policies : List PolicySeen) → AreKinds kinds policies → AreKinds kinds (map emptied policies)
+pub kinds_emptied : (kinds : List PolicyKind) (policies : List PolicySeen) → KindsAgree kinds policies → KindsAgree kinds (map emptied policies)
 kinds_emptied [] [] h = tt
 kinds_emptied [] (p ∷ policies) h = absurd h
 kinds_emptied (k ∷ kinds) [] h = absurd h

@@ -16,7 +16,7 @@ use Rattle.session_actions.specs.Subchannels.{noted_state}
 use Rattle.session_actions.specs.declared.policy.PolicyUse.{PolicyUse}
 use Rattle.session_actions.specs.declared.seen.Seen.{Seen}
 use Rattle.session_actions.specs.declared.subchannel.Subchannel.{Subchannel}
-use Rattle.net_actions.specs.Sees.{AreApart, AreNumbered, AreUses, AtMostOne}
+use Rattle.net_actions.specs.Sees.{UsesAreApart, PoliciesAreNumbered, UsesAgree, AtMostOne}
 
 -- a change that a test does not see
 found_by : {X : Type 0} (f : X → X) (x : X) (t u : Bool) (o p : Option X) → u ≡ t → o ≡ option_map f p → cond u (Some (f x)) o ≡ option_map f (cond t (Some x) p)
@@ -59,7 +59,7 @@ pending_noted b t = found_map is_pending is_pending (noted_state t b) (is_pendin
 
 -- uses of policies whose numbers and generations stay
 pub numbers_stay : (f : PolicyUse → PolicyUse) → ((g : PolicyUse) → (f g).number ≡ g.number) → (n : ℕ) (uses : List PolicyUse)
-    → AreNumbered n uses → AreNumbered n (map f uses)
+    → PoliciesAreNumbered n uses → PoliciesAreNumbered n (map f uses)
 numbers_stay f same n [] h = tt
 numbers_stay f same n (g ∷ uses) h = (same g ∙ h.0, numbers_stay f same (n + 1) uses h.1)
 
@@ -76,7 +76,7 @@ one_as test other f same (g ∷ uses) h =
     (λ e. any_as test other f same uses ∙ h.0 (sym (same g) ∙ e), one_as test other f same uses h.1)
 
 pub uses_stay : (f : PolicyUse → PolicyUse) → ((g : PolicyUse) → (f g).number ≡ g.number) → ((g : PolicyUse) → (f g).generation ≡ g.generation)
-    → (uses : List PolicyUse) → AreUses uses → AreUses (map f uses)
+    → (uses : List PolicyUse) → UsesAgree uses → UsesAgree (map f uses)
 uses_stay f number generation uses h = record {
   numbers = numbers_stay f number 1 uses h.numbers;
   one_current = one_as is_current is_current f (λ g. ap (λ (x : Generation). is_none x.retired && is_some x.activated) (generation g)) uses h.one_current;
@@ -88,7 +88,7 @@ pub still_number : (s : Seen) (b : Subchannel) (t : Bool) (g : PolicyUse)
 still_number s b true g = refl
 still_number s b false g = refl
 
-pub uses_noted : (b : Subchannel) (s : Seen) (uses : List PolicyUse) → AreUses uses → AreUses (map (noted_state s b) uses)
+pub uses_noted : (b : Subchannel) (s : Seen) (uses : List PolicyUse) → UsesAgree uses → UsesAgree (map (noted_state s b) uses)
 uses_noted b s uses h =
     uses_stay (noted_state s b) (λ g. still_number s b (is_live_policy g) g) (λ g. stays_live s b (is_live_policy g) g refl) uses h
 
@@ -158,14 +158,14 @@ get_away f (p ∷ policies) (suc place) zero away = refl
 get_away f (p ∷ policies) (suc place) (suc other) away = get_away f policies place other (λ e. away (ap suc e))
 
 pub current_after : (f : PolicySeen → PolicySeen) (policies : List PolicySeen) (live : Live) (pending : Option Live) (p : PolicySeen)
-    → AreApart (Some live) pending → slice_get policies live.place ≡ Some p
+    → UsesAreApart (Some live) pending → slice_get policies live.place ≡ Some p
     → slice_get (changed_of f pending (changed_of f (Some live) policies)) live.place ≡ Some (f p)
 current_after f policies live None p apart e = get_here f policies live.place ∙ ap (option_map f) e
 current_after f policies live (Some other) p apart e =
     get_away f (changed f policies live.place) other.place live.place apart.0 ∙ get_here f policies live.place ∙ ap (option_map f) e
 
 pub pending_after : (f : PolicySeen → PolicySeen) (policies : List PolicySeen) (live : Live) (current : Option Live) (p : PolicySeen)
-    → AreApart current (Some live) → slice_get policies live.place ≡ Some p
+    → UsesAreApart current (Some live) → slice_get policies live.place ≡ Some p
     → slice_get (changed_of f (Some live) (changed_of f current policies)) live.place ≡ Some (f p)
 pending_after f policies live None p apart e = get_here f policies live.place ∙ ap (option_map f) e
 pending_after f policies live (Some other) p apart e =

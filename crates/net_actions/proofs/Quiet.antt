@@ -9,7 +9,7 @@ use Rattle.grpc_base.specs.declared.kind.Kind.{Kind}
 use Rattle.net_actions.proofs.OwnLinks.{unlike}
 use Rattle.net_actions.proofs.Running.{both_false, find_none}
 use Rattle.net_actions.specs.Runs.{NoneIsToEnd}
-use Rattle.net_actions.specs.Sees.{AreNumbered, AtMostOne}
+use Rattle.net_actions.specs.Sees.{PoliciesAreNumbered, AtMostOne}
 use Rattle.session_actions.specs.CallEnds.{ending_call, is_shut_down}
 use Rattle.session_actions.specs.Calls.{is_open_call}
 use Rattle.session_actions.specs.Configs.{held_config}
@@ -53,8 +53,8 @@ none_begins o s none =
 
 wants_none : (o : OpenEntry) (s : Seen) (g : PolicyUse) → result_of o ≡ None → wants_addresses o s g ≡ false
 wants_none o s g none =
-    let front : Bool = is_live_policy g && holds (λ (k : Kind). is_same_kind g.generation.kind k) (wanted_kind o s) in
-    ap (λ (r : Option (List Address)). front && holds (λ (addresses : List Address). not (are_same_addresses g.addresses addresses)) r) none ∙ and_no front
+    let prefix : Bool = is_live_policy g && holds (λ (k : Kind). is_same_kind g.generation.kind k) (wanted_kind o s) in
+    ap (λ (r : Option (List Address)). prefix && holds (λ (addresses : List Address). not (are_same_addresses g.addresses addresses)) r) none ∙ and_no prefix
 
 none_want : (o : OpenEntry) (s : Seen) (uses : List PolicyUse) → result_of o ≡ None → list_any (wants_addresses o s) uses ≡ false
 none_want o s [] none = refl
@@ -85,14 +85,14 @@ at_number k f g = if g.number == k then f g else g
 use_if : (x : Bool) (y : Bool) (f : PolicyUse → PolicyUse) (g : PolicyUse) → x ≡ y → (if x then f g else g) ≡ (if y then f g else g)
 use_if x y f g e = ap (λ (b : Bool). if b then f g else g) e
 
-none_of_number : (k n : ℕ) (f : PolicyUse → PolicyUse) (uses : List PolicyUse) → k < n → AreNumbered n uses → map (at_number k f) uses ≡ uses
+none_of_number : (k n : ℕ) (f : PolicyUse → PolicyUse) (uses : List PolicyUse) → k < n → PoliciesAreNumbered n uses → map (at_number k f) uses ≡ uses
 none_of_number k n f [] less h = refl
 none_of_number k n f (g ∷ uses) less h =
     let other : (g.number == k) ≡ false = unlike g.number k (λ e. (let number : g.number ≡ n = h.0 in omega (arith, e, number))) in
     ap (λ (x : PolicyUse). x ∷ map (at_number k f) uses) (use_if (g.number == k) false f g other)
     ∙ ap (λ (l : List PolicyUse). g ∷ l) (none_of_number k (n + 1) f uses (omega arith) h.1)
 
-set_number : (n place : ℕ) (f : PolicyUse → PolicyUse) (uses : List PolicyUse) (x : PolicyUse) → AreNumbered n uses → slice_get uses place ≡ Some x
+set_number : (n place : ℕ) (f : PolicyUse → PolicyUse) (uses : List PolicyUse) (x : PolicyUse) → PoliciesAreNumbered n uses → slice_get uses place ≡ Some x
     → slice_set uses place (f x) ≡ map (at_number (n + place) f) uses
 set_number n place f [] x h e = absurd (cc)
 set_number n zero f (g ∷ uses) x h e =
@@ -109,7 +109,7 @@ set_number n (suc place) f (g ∷ uses) x h e =
     ∙ ap (λ (j : ℕ). g ∷ map (at_number j f) uses) k
     ∙ ap (λ (y : PolicyUse). y ∷ map (at_number (n + suc place) f) uses) (sym (use_if (g.number == n + suc place) false f g other))
 
-pub changed_number : (place : ℕ) (f : PolicyUse → PolicyUse) (uses : List PolicyUse) (x : PolicyUse) → AreNumbered 1 uses → slice_get uses place ≡ Some x
+pub changed_number : (place : ℕ) (f : PolicyUse → PolicyUse) (uses : List PolicyUse) (x : PolicyUse) → PoliciesAreNumbered 1 uses → slice_get uses place ≡ Some x
     → changed f (suc place) uses ≡ map (at_number (suc place) f) uses
 changed_number place f uses x h e =
     let number : 1 + place ≡ suc place = omega arith in

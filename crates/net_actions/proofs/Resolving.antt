@@ -32,10 +32,10 @@ use Rattle.net_actions.proofs.Retiring.{retire_one}
 use Rattle.net_actions.proofs.Uses.{AllUses, all_to, none_passes, only_is}
 use Rattle.net_actions.proofs.ViewNumbers.{each_once_is}
 use Rattle.net_actions.specs.Runs.{Becomes, NoneIsToEnd, TakesResult}
-use Rattle.net_actions.specs.Sees.{AreApart, AreKinds, AreUses, IsSound, IsUse, NoneAskedBeyond, Sees}
+use Rattle.net_actions.specs.Sees.{UsesAreApart, KindsAgree, UsesAgree, IsSound, IsUse, NoneAskedBeyond, Sees}
 use Rattle.policy_rack.proofs.KindLaws.{has_place}
 use Rattle.policy_rack.specs.Kinds.{first_place, has_policy, kinds_differ, same_kind}
-use Rattle.policy_rack.specs.Runs.{AreLive, IsKept, SparesAreEmpty}
+use Rattle.policy_rack.specs.Runs.{GenerationsAreLive, IsKept, SparesAreEmpty}
 use Rattle.policy_rack.specs.Steps.{RackSeen, adopted, begun as begun_rack, changed, changed_of, is_at, renewed}
 use Rattle.policy_rack.specs.declared.live.Live.{Live}
 use Rattle.session_actions.specs.Policies.{current_policy, is_current, is_pending, pending_policy, policy_of, result_of, turns_of, view_of, wanted_kind, width_of}
@@ -71,10 +71,10 @@ taken_is k addresses n b place current once first =
     ∙ ap (λ (l : List Address). taken_by b l (first_place k n.asker.rack.policies) n) once
     ∙ ap (λ (x : Option ℕ). taken_by b addresses x n) first
 
--- the kind of a policy in use tells its place
-place_tells : (s : Seen) (k : Kind) (place : ℕ) (g : PolicyUse) (live : Live) (addresses : List Address) (ps : List PolicySeen) → kinds_differ ps ≡ true
+-- the kind of a policy in use reports its place
+place_reports : (s : Seen) (k : Kind) (place : ℕ) (g : PolicyUse) (live : Live) (addresses : List Address) (ps : List PolicySeen) → kinds_differ ps ≡ true
     → first_place k ps ≡ Some place → IsUse (Some g) (Some (policy_of g s)) (Some live) addresses ps → is_of_kind k g ≡ (live.place == place)
-place_tells s k place g live addresses ps differ first u = place-is k ps place live.place (policy_of g s) differ first u.2
+place_reports s k place g live addresses ps differ first u = place-is k ps place live.place (policy_of g s) differ first u.2
 
 -- and whether a result is for it
 for_it : (k : Kind) (g : PolicyUse) (s : Seen) (live : Live) (ps : List PolicySeen) (pl : Option Live) (made : ℕ) → slice_get ps live.place ≡ Some (policy_of g s)
@@ -94,7 +94,7 @@ record Before (o : OpenEntry) (s : Seen) (k : Kind) (addresses : List Address) (
   first : first_place k ps ≡ Some place
   differ : kinds_differ ps ≡ true
   orderly : Orderly (net_of (rack_of ps cl pl made) asks board current pending links)
-  live : AreLive cl pl made
+  live : GenerationsAreLive cl pl made
   spare : SparesAreEmpty ps cl pl
 
 given_keeps : (view : List SubSeen) → (p : PolicySeen) → (p.kind ≡ (given view p).kind) × (p.width ≡ (given view p).width)
@@ -103,8 +103,8 @@ given_keeps view p = (refl, refl)
 emptied_keeps : (p : PolicySeen) → (p.kind ≡ (emptied p).kind) × (p.width ≡ (emptied p).width)
 emptied_keeps p = (refl, refl)
 
-kinds_given : (view : List SubSeen) (kinds : List PolicyKind) (ps : List PolicySeen) (pl : Option Live) (place : ℕ) → AreKinds kinds ps
-    → AreKinds kinds (changed (given view) (changed_of emptied pl ps) place)
+kinds_given : (view : List SubSeen) (kinds : List PolicyKind) (ps : List PolicySeen) (pl : Option Live) (place : ℕ) → KindsAgree kinds ps
+    → KindsAgree kinds (changed (given view) (changed_of emptied pl ps) place)
 kinds_given view kinds ps pl place h =
     kinds_changed (given view) (plain (given view) (given_keeps view)) kinds (changed_of emptied pl ps) place
     (kinds_changed_of emptied (plain emptied emptied_keeps) kinds ps pl h)
@@ -139,7 +139,7 @@ module _ (o : OpenEntry) (s : Seen) (k : Kind) (addresses : List Address) (ps : 
       none_passes is_pending (λ (h : PolicyUse). is_of_kind k h ≡ false) s.policies (none_found is_pending s.policies e)
   pending_kind cl None b (Some p) e away = absurd (pending_use cl None b p e)
   pending_kind cl (Some live) b (Some p) e away =
-      kind_by is_pending p false (place_tells s k place p live pending ps b.differ b.first (pending_use cl (Some live) b p e) ∙ away)
+      kind_by is_pending p false (place_reports s k place p live pending ps b.differ b.first (pending_use cl (Some live) b p e) ∙ away)
       (only_is is_pending s.policies p b.sees.uses_are.one_pending e)
 
   stays_live : (cl pl : Option Live) (b : before cl pl) (list : List Address) → StayLive current list board current
@@ -147,7 +147,7 @@ module _ (o : OpenEntry) (s : Seen) (k : Kind) (addresses : List Address) (ps : 
       stay-live current list board current
       (λ a e. (or-left (has_address current a) (has_address list a) e, b.orderly.listed a ∙ ap (λ (x : Bool). if x then 1 else 0) (or-left (has_address current a) (has_address pending a) e)))
 
-  dropped_still : (cl : Live) (pl : Option Live) → AreApart (Some cl) pl → slice_get (changed_of emptied pl ps) cl.place ≡ slice_get ps cl.place
+  dropped_still : (cl : Live) (pl : Option Live) → UsesAreApart (Some cl) pl → slice_get (changed_of emptied pl ps) cl.place ≡ slice_get ps cl.place
   dropped_still cl None apart = refl
   dropped_still cl (Some p) apart = get_away emptied ps p.place cl.place apart.0
 
@@ -157,7 +157,7 @@ module _ (o : OpenEntry) (s : Seen) (k : Kind) (addresses : List Address) (ps : 
   for_current_net live pl b c e here away =
       let n : NetSeen = the_net (Some live) pl in
       let u : IsUse (Some c) (Some (policy_of c s)) (Some live) current ps = current_use (Some live) pl b c e in
-      let kind : is_of_kind k c ≡ true = place_tells s k place c live current ps b.differ b.first u ∙ here in
+      let kind : is_of_kind k c ≡ true = place_reports s k place c live current ps b.differ b.first u ∙ here in
       let view : List SubSeen = lists.view_of (kept addresses [] board) addresses in
       let r : RackSeen = renewed view place n.asker.rack in
       let is_it : is_for_current k n.asker.rack ≡ true = for_it k c s live ps pl made u.2 ∙ kind in
@@ -194,8 +194,8 @@ module _ (o : OpenEntry) (s : Seen) (k : Kind) (addresses : List Address) (ps : 
       let n : NetSeen = the_net (Some cl) (Some live) in
       let u : IsUse (Some c) (Some (policy_of c s)) (Some cl) current ps = current_use (Some cl) (Some live) b c e in
       let v : IsUse (Some p) (Some (policy_of p s)) (Some live) pending ps = pending_use (Some cl) (Some live) b p d in
-      let other : is_of_kind k c ≡ false = place_tells s k place c cl current ps b.differ b.first u ∙ away in
-      let kind : is_of_kind k p ≡ true = place_tells s k place p live pending ps b.differ b.first v ∙ here in
+      let other : is_of_kind k c ≡ false = place_reports s k place c cl current ps b.differ b.first u ∙ away in
+      let kind : is_of_kind k p ≡ true = place_reports s k place p live pending ps b.differ b.first v ∙ here in
       let view : List SubSeen = lists.view_of (kept current addresses board) addresses in
       let r : RackSeen = record n.asker.rack { policies = changed (given view) ps place } in
       let is_not : is_for_current k n.asker.rack ≡ false = for_it k c s cl ps (Some live) made u.2 ∙ other in
@@ -251,7 +251,7 @@ module _ (o : OpenEntry) (s : Seen) (k : Kind) (addresses : List Address) (ps : 
   got_new : (view : List SubSeen) (base : List PolicySeen) (p : PolicySeen) → slice_get base place ≡ Some p → slice_get (changed (given view) base place) place ≡ Some (given view p)
   got_new view base p at = get_here (given view) base place ∙ ap (option_map (given view)) at
 
-  below : (cl : Live) (pl : Option Live) → AreLive (Some cl) pl made → cl.generation ≤ made
+  below : (cl : Live) (pl : Option Live) → GenerationsAreLive (Some cl) pl made → cl.generation ≤ made
   below cl None h = h
   below cl (Some later) h = omega (arith, h.1, h.2)
 
@@ -259,13 +259,13 @@ module _ (o : OpenEntry) (s : Seen) (k : Kind) (addresses : List Address) (ps : 
       → is_at place pl ≡ false → Becomes o s (net_taken k addresses (the_net (Some cl) pl))
   for_new_net cl pl b c e away gone =
       let n : NetSeen = the_net (Some cl) pl in
-      let h : AreUses s.policies = b.sees.uses_are in
+      let h : UsesAgree s.policies = b.sees.uses_are in
       let g : PolicyUse = begun o s k addresses b.is_open b.wanted b.result b.ended h in
       let left : List PolicyUse = map (retire_one o s) s.policies in
       let all : List PolicyUse = more o s k addresses b.is_open b.wanted b.result b.ended h in
       let uses : List PolicyUse = map (give_one k addresses s) all in
       let u : IsUse (Some c) (Some (policy_of c s)) (Some cl) current ps = current_use (Some cl) pl b c e in
-      let other : is_of_kind k c ≡ false = place_tells s k place c cl current ps b.differ b.first u ∙ away in
+      let other : is_of_kind k c ≡ false = place_reports s k place c cl current ps b.differ b.first u ∙ away in
       let view : List SubSeen = lists.view_of (kept current addresses board) addresses in
       let r : RackSeen = begun_rack view place n.asker.rack in
       let is_not : is_for_current k n.asker.rack ≡ false = for_it k c s cl ps pl made u.2 ∙ other in
@@ -305,7 +305,7 @@ module _ (o : OpenEntry) (s : Seen) (k : Kind) (addresses : List Address) (ps : 
   for_first_net : (b : before None None) → current_policy s ≡ None → pending_policy s ≡ None → Becomes o s (net_taken k addresses (the_net None None))
   for_first_net b e d =
       let n : NetSeen = the_net None None in
-      let h : AreUses s.policies = b.sees.uses_are in
+      let h : UsesAgree s.policies = b.sees.uses_are in
       let g : PolicyUse = begun o s k addresses b.is_open b.wanted b.result b.ended h in
       let left : List PolicyUse = map (retire_one o s) s.policies in
       let all : List PolicyUse = more o s k addresses b.is_open b.wanted b.result b.ended h in
@@ -343,7 +343,7 @@ module _ (o : OpenEntry) (s : Seen) (k : Kind) (addresses : List Address) (ps : 
       absurd (subst (λ (x : Option PolicyUse). IsUse x (option_map (λ (g : PolicyUse). policy_of g s) x) (Some live) pending ps) d b.sees.pending_is)
   by_pending cl (Some live) b c (Some p) e d away true at = for_pending_net cl live b c p e d away at
 
-  not_both : (cl : Live) (pl : Option Live) → AreApart (Some cl) pl → (cl.place == place) ≡ true → is_at place pl ≡ false
+  not_both : (cl : Live) (pl : Option Live) → UsesAreApart (Some cl) pl → (cl.place == place) ≡ true → is_at place pl ≡ false
   not_both cl None apart here = refl
   not_both cl (Some p) apart here = if_false (p.place == place) (λ e. apart.0 (eqb-true cl.place place here ∙ sym (eqb-true p.place place e)))
 
@@ -362,9 +362,9 @@ module _ (o : OpenEntry) (s : Seen) (k : Kind) (addresses : List Address) (ps : 
       absurd (subst (λ (x : Option PolicyUse). IsUse x (option_map (λ (g : PolicyUse). policy_of g s) x) (Some cl) current ps) e b.sees.current_is)
   by_live (Some cl) pl b (Some c) p e d = by_current cl pl b c e (cl.place == place) refl
 
-and_front : (a b : Bool) → (a && b) ≡ true → a ≡ true
-and_front true b e = refl
-and_front false b e = absurd (cc)
+and_prefix : (a b : Bool) → (a && b) ≡ true → a ≡ true
+and_prefix true b e = refl
+and_prefix false b e = absurd (cc)
 
 some_of : (o : Option ℕ) → is_some o ≡ true → (place : ℕ) × (o ≡ Some place)
 some_of None e = absurd (cc)
@@ -377,7 +377,7 @@ takes_result keeps o s n k addresses h is is_open wanted result list has =
     let place : (place : ℕ) × (first_place k r.policies ≡ Some place) = some_of (first_place k r.policies) (has_place k r.policies has) in
     let kept_rack : IsKept r = subst (λ (m : NetSeen). IsKept m.asker.rack) (sym is.is) (keeps is.calls is.policies) in
     let differ : kinds_differ r.policies ≡ true
-    = subst (λ (x : RackSeen). kinds_differ x.policies ≡ true) (sym follows.rack.1) (kinds-stay follows.rack.0 is.policies (and_front (kinds_differ is.policies) (has_policy kind.PickFirst is.policies) is.ready)) in
+    = subst (λ (x : RackSeen). kinds_differ x.policies ≡ true) (sym follows.rack.1) (kinds-stay follows.rack.0 is.policies (and_prefix (kinds_differ is.policies) (has_policy kind.PickFirst is.policies) is.ready)) in
     let b : Before o s k addresses r.policies r.current r.pending r.made n.asker.asks n.board n.current n.pending n.links place.0 = record {
       sees = h;
       is_open = is_open;

@@ -24,7 +24,7 @@ use Rattle.net_actions.proofs.Noting.{with_subs}
 use Rattle.net_actions.proofs.Quiet.{with_uses}
 use Rattle.net_actions.proofs.ViewNumbers.{failed_above}
 use Rattle.net_actions.proofs.Views.{views_same}
-use Rattle.net_actions.specs.Sees.{AreKinds, AreSubs, IsSound}
+use Rattle.net_actions.specs.Sees.{KindsAgree, SubchannelsAgree, IsSound}
 use Rattle.policy_rack.specs.Kinds.{first_place, kinds_differ, same_kind}
 use Rattle.session_actions.specs.Policies.{is_same_address, is_same_kind, policy_of, view_of, width_of}
 use Rattle.session_actions.specs.declared.policy.PolicyUse.{PolicyUse}
@@ -75,7 +75,7 @@ width_step k n m (suc i) p q kinds r policies false false e w first number at ne
 width_step k n m place p q kinds r policies true false e w first number at next = absurd (cc)
 width_step k n m place p q kinds r policies false true e w first number at next = absurd (cc)
 
-width_is : (k : Kind) (n m place : ℕ) (p : PolicySeen) (kinds : List PolicyKind) (policies : List PolicySeen) → AreKinds kinds policies
+width_is : (k : Kind) (n m place : ℕ) (p : PolicySeen) (kinds : List PolicyKind) (policies : List PolicySeen) → KindsAgree kinds policies
     → position_from (of_kind k) n policies ≡ Some m → m ≡ n + place → slice_get policies place ≡ Some p
     → option_map_or (λ (z : PolicyKind). z.width) (wide k kinds) 1 ≡ p.width
 width_is k n m place p [] [] h first number at = absurd (cc)
@@ -89,7 +89,7 @@ width_is k n m place p (q ∷ kinds) (r ∷ policies) h first number at =
 abbrev policy_by : Kind → ℕ → List SubSeen → List ℕ → ℕ → PolicySeen
 policy_by k width view failed turns = record { kind = k; width = width; view = view; failed = failed; turns = turns }
 
-pub spare_is : (k : Kind) (place turns : ℕ) (q : PolicySeen) (kinds : List PolicyKind) (policies : List PolicySeen) → AreKinds kinds policies
+pub spare_is : (k : Kind) (place turns : ℕ) (q : PolicySeen) (kinds : List PolicyKind) (policies : List PolicySeen) → KindsAgree kinds policies
     → kinds_differ policies ≡ true → first_place k policies ≡ Some place → slice_get policies place ≡ Some q
     → (q.view ≡ []) × (q.failed ≡ []) × (q.turns ≡ 0) → turns ≡ 0
     → q ≡ policy_by k (width_of k kinds) [] [] turns
@@ -116,7 +116,7 @@ second_wanted current pending = all_by current pending pending (λ a e. or_right
 
 -- what the policy that gets the addresses is then, in both
 module _ (s : Seen) (uses : List PolicyUse) (subs : List Subchannel) (board : List SubRecord) (links others : List OwnLink) (current pending addresses : List Address) (g : PolicyUse)
-    (before : AreSubs 1 s.subs board links) (after : AreSubs 1 subs (kept current pending board) others) (all : AllWanted current pending addresses)
+    (before : SubchannelsAgree 1 s.subs board links) (after : SubchannelsAgree 1 subs (kept current pending board) others) (all : AllWanted current pending addresses)
     (sound : g.failed ≡ failed_in g.failed (view_of g.addresses s)) where
   failed_same : failed_in g.failed (lists.view_of (kept current pending board) addresses) ≡ failed_in g.failed (view_of addresses s)
   failed_same =

@@ -16,10 +16,10 @@ use Rattle.net_actions.proofs.Noting.{found_map, found_passes, numbers_stay, one
 use Rattle.net_actions.proofs.Quiet.{and_no, none_after, one_of_none, retire_if, retired_number, with_uses}
 use Rattle.net_actions.proofs.ResultKinds.{chosen_is, current_not_pending, current_still, first_true, is_of_kind, pending_left, retires_is}
 use Rattle.net_actions.proofs.Retiring.{retire_by, retire_from, retire_one}
-use Rattle.net_actions.proofs.Running.{IsQuiet, both_false, find_behind, find_none, none_behind, one_more}
+use Rattle.net_actions.proofs.Running.{IsQuiet, both_false, find_after, find_none, none_afterwards, one_more}
 use Rattle.net_actions.proofs.Uses.{AllUses, all_to, all_with, found_all, none_all, none_found, none_passes, one_all}
 use Rattle.net_actions.specs.Runs.{NoneIsToEnd, RunsTo}
-use Rattle.net_actions.specs.Sees.{AreNumbered, AreUses, AtMostOne}
+use Rattle.net_actions.specs.Sees.{PoliciesAreNumbered, UsesAgree, AtMostOne}
 use Rattle.session_actions.specs.Actions.{first_action, of_policies}
 use Rattle.session_actions.specs.Entries.{entry}
 use Rattle.session_actions.specs.Policies.{are_same_addresses, begin_if, begun_policy, current_policy, is_current, is_live_policy, is_other_kind, is_pending, is_to_retire, next_begun, next_given, next_retired, pending_policy, result_of, view_of, wanted_kind, wants_addresses}
@@ -53,7 +53,7 @@ module _ (k : Kind) (addresses : List Address) (s : Seen) where
   retire_same o true g = refl
   retire_same o false g = refl
 
-  pub given_uses : (uses : List PolicyUse) → AreUses uses → AreUses (map (give_one k addresses s) uses)
+  pub given_uses : (uses : List PolicyUse) → UsesAgree uses → UsesAgree (map (give_one k addresses s) uses)
   given_uses uses h = record {
     numbers = numbers_stay (give_one k addresses s) (λ g. number_by (is_chosen k g) g) 1 uses h.numbers;
     one_current = one_as is_current is_current (give_one k addresses s) (λ g. current_by (is_chosen k g) g) uses h.one_current;
@@ -85,7 +85,7 @@ module _ (k : Kind) (addresses : List Address) (s : Seen) where
   sated_by false g e = ap (λ (b : Bool). b && not (are_same_addresses g.addresses addresses)) e
 
 module _ (o : OpenEntry) (s : Seen) (k : Kind) (addresses : List Address) (is_open : s.shut ≡ false) (wanted : wanted_kind o s ≡ Some k)
-    (result : result_of o ≡ Some addresses) (ended : NoneIsToEnd s) (h : AreUses s.policies) where
+    (result : result_of o ≡ Some addresses) (ended : NoneIsToEnd s) (h : UsesAgree s.policies) where
   abbrev left : List PolicyUse
   left = map (retire_one o s) s.policies
 
@@ -131,7 +131,7 @@ module _ (o : OpenEntry) (s : Seen) (k : Kind) (addresses : List Address) (is_op
   retired_none uses none =
       ap (λ (x : Option PolicyUse). option_map (λ (g : PolicyUse). action.PolicyRetired g.number) x) (find_none (is_to_retire o s) uses none)
 
-  numbers_left : AreNumbered 1 left
+  numbers_left : PoliciesAreNumbered 1 left
   numbers_left = numbers_stay (retire_one o s) (λ g. retired_number (entry s) (is_to_retire o s g) g) 1 s.policies h.numbers
 
   one_current_left : AtMostOne is_current left
@@ -200,7 +200,7 @@ module _ (o : OpenEntry) (s : Seen) (k : Kind) (addresses : List Address) (is_op
       let live : is_chosen k c ≡ true
       = ap (λ (x : Bool). x && is_of_kind k c) (first_true (is_live_policy c) (is_some c.generation.activated) here) ∙ kind in
       let pending : find is_pending left ≡ None = find_none is_pending left (no_pending_left two) in
-      let uses : AreUses left = record { numbers = numbers_left; one_current = one_current_left; one_pending = one_of_none is_pending left (no_pending_left two) } in
+      let uses : UsesAgree left = record { numbers = numbers_left; one_current = one_current_left; one_pending = one_of_none is_pending left (no_pending_left two) } in
       let has : list_any (is_of_kind k) (option_to_list (Some c) ++ option_to_list None) ≡ true = ap (λ (x : Bool). x || false) kind in
       let current_now : find is_current (map (give_one k addresses s) left) ≡ Some (give addresses s c)
       = given_current k addresses s left (Some c) (current_left (Some c) e) ∙ ap (λ (x : Bool). Some (give_if addresses s x c)) live in
@@ -254,7 +254,7 @@ module _ (o : OpenEntry) (s : Seen) (k : Kind) (addresses : List Address) (is_op
       let unchosen : is_chosen k c ≡ false = ap (λ (x : Bool). is_live_policy c && x) other ∙ and_no (is_live_policy c) in
       let pending : find is_pending left ≡ Some p
       = found_all is_pending is_pending (retire_one o s) s.policies still ∙ ap (option_map (retire_one o s)) d ∙ same in
-      let uses : AreUses left = record {
+      let uses : UsesAgree left = record {
         numbers = numbers_left;
         one_current = one_current_left;
         one_pending = one_all is_pending is_pending (retire_one o s) s.policies still h.one_pending;
@@ -276,25 +276,25 @@ module _ (o : OpenEntry) (s : Seen) (k : Kind) (addresses : List Address) (is_op
             numbers_left only found live sound run);
       }
 
--- a use behind the others
-numbers_behind : (n : ℕ) (uses : List PolicyUse) (b : PolicyUse) → AreNumbered n uses → b.number ≡ n + length uses → AreNumbered n (uses ++ b ∷ [])
-numbers_behind n [] b h e = (let number : b.number ≡ n = omega arith in number, tt)
-numbers_behind n (g ∷ uses) b h e =
+-- a use after the others
+numbers_after : (n : ℕ) (uses : List PolicyUse) (b : PolicyUse) → PoliciesAreNumbered n uses → b.number ≡ n + length uses → PoliciesAreNumbered n (uses ++ b ∷ [])
+numbers_after n [] b h e = (let number : b.number ≡ n = omega arith in number, tt)
+numbers_after n (g ∷ uses) b h e =
     let further : b.number ≡ n + 1 + length uses = omega arith in
-    (h.0, numbers_behind (n + 1) uses b h.1 further)
+    (h.0, numbers_after (n + 1) uses b h.1 further)
 
-one_behind : (test : PolicyUse → Bool) (uses : List PolicyUse) (b : PolicyUse) → list_any test uses ≡ false → AtMostOne test (uses ++ b ∷ [])
-one_behind test [] b none = (λ e. refl, tt)
-one_behind test (g ∷ uses) b none =
+one_after : (test : PolicyUse → Bool) (uses : List PolicyUse) (b : PolicyUse) → list_any test uses ≡ false → AtMostOne test (uses ++ b ∷ [])
+one_after test [] b none = (λ e. refl, tt)
+one_after test (g ∷ uses) b none =
     let parts : (test g ≡ false) × (list_any test uses ≡ false) = or_parts (test g) (list_any test uses) none in
-    (λ e. absurd (let bad : false ≡ true = sym parts.0 ∙ e in let no_one : ⊥ = (cc) in no_one), one_behind test uses b parts.1)
+    (λ e. absurd (let bad : false ≡ true = sym parts.0 ∙ e in let no_one : ⊥ = (cc) in no_one), one_after test uses b parts.1)
 
 one_still : (test : PolicyUse → Bool) (uses : List PolicyUse) (b : PolicyUse) → AtMostOne test uses → test b ≡ false → AtMostOne test (uses ++ b ∷ [])
 one_still test [] b only none = (λ e. refl, tt)
-one_still test (g ∷ uses) b only none = (λ e. none_behind test uses b (only.0 e) none, one_still test uses b only.1 none)
+one_still test (g ∷ uses) b only none = (λ e. none_afterwards test uses b (only.0 e) none, one_still test uses b only.1 none)
 
 module _ (o : OpenEntry) (s : Seen) (k : Kind) (addresses : List Address) (is_open : s.shut ≡ false) (wanted : wanted_kind o s ≡ Some k)
-    (result : result_of o ≡ Some addresses) (ended : NoneIsToEnd s) (h : AreUses s.policies) where
+    (result : result_of o ≡ Some addresses) (ended : NoneIsToEnd s) (h : UsesAgree s.policies) where
   -- it is for a new one
   abbrev pub begun : PolicyUse
   begun = begun_policy k (with_uses (map (retire_one o s) s.policies) s)
@@ -319,14 +319,14 @@ module _ (o : OpenEntry) (s : Seen) (k : Kind) (addresses : List Address) (is_op
       (λ (g : PolicyUse). is_chosen k (retire_one o s g) ≡ false)
       (λ g d. d ∙ no_one (is_current g) (is_pending g)) s.policies (chosen_all o s k addresses is_open wanted result ended h false false one two))
 
-  numbers_more : AreNumbered 1 more
+  numbers_more : PoliciesAreNumbered 1 more
   numbers_more =
       let number : length (map (retire_one o s) s.policies) + 1 ≡ 1 + length (map (retire_one o s) s.policies) = omega arith in
-      numbers_behind 1 (map (retire_one o s) s.policies) begun (numbers_left o s k addresses is_open wanted result ended h) number
+      numbers_after 1 (map (retire_one o s) s.policies) begun (numbers_left o s k addresses is_open wanted result ended h) number
 
   none_more : list_any (is_to_retire o s) more ≡ false
   none_more =
-      none_behind (is_to_retire o s) (map (retire_one o s) s.policies) begun (none_left o s k addresses is_open wanted result ended h)
+      none_afterwards (is_to_retire o s) (map (retire_one o s) s.policies) begun (none_left o s k addresses is_open wanted result ended h)
       (retires_is o s k is_open wanted begun ∙ ap (λ (x : Bool). is_pending begun && not x) of_kind ∙ and_no (is_pending begun))
 
   -- the session begins it, and gives it the addresses
@@ -356,8 +356,8 @@ module _ (o : OpenEntry) (s : Seen) (k : Kind) (addresses : List Address) (is_op
       (begun_first c p t current pending none
       (gives o s k addresses wanted result begun more t ended (retired_none o s k addresses is_open wanted result ended h more none_more)
       (begun_none o s k addresses is_open wanted result ended h more d q current_more pending_more has)
-      numbers_more (one_behind (is_chosen k) (map (retire_one o s) s.policies) begun not_yet)
-      (find_behind (is_chosen k) (map (retire_one o s) s.policies) [] begun not_yet of_kind) of_kind refl run))
+      numbers_more (one_after (is_chosen k) (map (retire_one o s) s.policies) begun not_yet)
+      (find_after (is_chosen k) (map (retire_one o s) s.policies) [] begun not_yet of_kind) of_kind refl run))
 
   pub for_new_current : current_policy s ≡ None → PendingKind o s k addresses is_open wanted result ended h false
       → UsesNow o s (map (give_one k addresses s) more) (Some (give addresses s begun)) None
@@ -370,12 +370,12 @@ module _ (o : OpenEntry) (s : Seen) (k : Kind) (addresses : List Address) (is_op
       let here : is_current begun ≡ true = ap (λ (x : Option PolicyUse). is_some (if is_none x then Some (entry s) else None)) current in
       let not_it : is_pending begun ≡ false = ap (λ (x : Option PolicyUse). is_none (if is_none x then Some (entry s) else None)) current in
       let one : CurrentKind o s k addresses is_open wanted result ended h false = none_passes is_current (λ (g : PolicyUse). is_of_kind k g ≡ false) s.policies (none_found is_current s.policies e) in
-      let current_more : find is_current more ≡ Some begun = find_behind is_current uses [] begun no_current here in
-      let no_pending_more : list_any is_pending more ≡ false = none_behind is_pending uses begun no_pending not_it in
+      let current_more : find is_current more ≡ Some begun = find_after is_current uses [] begun no_current here in
+      let no_pending_more : list_any is_pending more ≡ false = none_afterwards is_pending uses begun no_pending not_it in
       let pending_more : find is_pending more ≡ None = find_none is_pending more no_pending_more in
-      let uses_are : AreUses more = record {
+      let uses_are : UsesAgree more = record {
         numbers = numbers_more;
-        one_current = one_behind is_current uses begun no_current;
+        one_current = one_after is_current uses begun no_current;
         one_pending = one_of_none is_pending more no_pending_more;
       } in
       let has : list_any (is_of_kind k) (begun ∷ []) ≡ true = ap (λ (x : Bool). x || false) of_kind in
@@ -403,11 +403,11 @@ module _ (o : OpenEntry) (s : Seen) (k : Kind) (addresses : List Address) (is_op
       let here : is_pending begun ≡ true = ap (λ (x : Option PolicyUse). is_none (if is_none x then Some (entry s) else None)) current in
       let current_more : find is_current more ≡ Some c
       = find-append is_current uses (begun ∷ []) ∙ ap (λ (x : Option PolicyUse). option_or x (find is_current (begun ∷ []))) current in
-      let pending_more : find is_pending more ≡ Some begun = find_behind is_pending uses [] begun no_pending here in
-      let uses_are : AreUses more = record {
+      let pending_more : find is_pending more ≡ Some begun = find_after is_pending uses [] begun no_pending here in
+      let uses_are : UsesAgree more = record {
         numbers = numbers_more;
         one_current = one_still is_current uses begun (one_current_left o s k addresses is_open wanted result ended h) not_it;
-        one_pending = one_behind is_pending uses begun no_pending;
+        one_pending = one_after is_pending uses begun no_pending;
       } in
       let unchosen_c : is_chosen k c ≡ false = ap (λ (x : Bool). is_live_policy c && x) other ∙ and_no (is_live_policy c) in
       let none : list_any (is_of_kind k) (c ∷ []) ≡ false = ap (λ (x : Bool). x || false) other in

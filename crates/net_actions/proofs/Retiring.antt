@@ -3,10 +3,10 @@ use Rattle.std.proofs.Common.{◌≡◌, ◌+◌, ◌∷◌, ◌++◌, ap, arith
 use Rattle.std.specs.List.{list_any}
 use Rattle.std.specs.Option.{option_map}
 use Rattle.net_actions.proofs.Quiet.{retire_if, with_uses}
-use Rattle.net_actions.proofs.Running.{find_behind, none_behind, one_more}
-use Rattle.net_actions.proofs.Shutting.{get_behind, longer_by_one, set_behind}
+use Rattle.net_actions.proofs.Running.{find_after, none_afterwards, one_more}
+use Rattle.net_actions.proofs.Shutting.{get_after, longer_by_one, set_after}
 use Rattle.net_actions.specs.Runs.{NoneIsToEnd, RunsTo}
-use Rattle.net_actions.specs.Sees.{AreNumbered}
+use Rattle.net_actions.specs.Sees.{PoliciesAreNumbered}
 use Rattle.session_actions.specs.Actions.{first_action, of_policies}
 use Rattle.session_actions.specs.Entries.{entry}
 use Rattle.session_actions.specs.Policies.{is_to_retire, next_begun, next_given, next_retired, policy_retired, retired_in}
@@ -26,46 +26,46 @@ pub retire_by : (o : OpenEntry) (s : Seen) (g : PolicyUse) (x : Bool) → is_to_
 retire_by o s g true e = refl
 retire_by o s g false e = e
 
-changed_behind : (f : PolicyUse → PolicyUse) (front rest : List PolicyUse) (g : PolicyUse)
-    → changed f (suc (length front)) (front ++ g ∷ rest) ≡ front ++ f g ∷ rest
-changed_behind f front rest g =
-    ap (changed_if f (suc (length front)) (front ++ g ∷ rest)) (get_behind front rest g) ∙ set_behind front rest g (f g)
+changed_after : (f : PolicyUse → PolicyUse) (prefix rest : List PolicyUse) (g : PolicyUse)
+    → changed f (suc (length prefix)) (prefix ++ g ∷ rest) ≡ prefix ++ f g ∷ rest
+changed_after f prefix rest g =
+    ap (changed_if f (suc (length prefix)) (prefix ++ g ∷ rest)) (get_after prefix rest g) ∙ set_after prefix rest g (f g)
 
 module _ (o : OpenEntry) (s : Seen) (ended : NoneIsToEnd s) where
-  retire_next : (front rest : List PolicyUse) (g : PolicyUse) → list_any (is_to_retire o s) front ≡ false → is_to_retire o s g ≡ true
-      → of_policies o (with_uses (front ++ g ∷ rest) s) ≡ Some (action.PolicyRetired g.number)
-  retire_next front rest g none here =
-      let t : Seen = with_uses (front ++ g ∷ rest) s in
+  retire_next : (prefix rest : List PolicyUse) (g : PolicyUse) → list_any (is_to_retire o s) prefix ≡ false → is_to_retire o s g ≡ true
+      → of_policies o (with_uses (prefix ++ g ∷ rest) s) ≡ Some (action.PolicyRetired g.number)
+  retire_next prefix rest g none here =
+      let t : Seen = with_uses (prefix ++ g ∷ rest) s in
       ap (λ (x : Option Action). first_action (x ∷ next_retired o t ∷ next_begun o t ∷ next_given o t ∷ next_shut t ∷ next_added t ∷ [])) ended
       ∙ ap (λ (x : Option PolicyUse). first_action (None ∷ option_map (λ (h : PolicyUse). action.PolicyRetired h.number) x ∷ next_begun o t ∷ next_given o t ∷ next_shut t ∷ next_added t ∷ []))
-      (find_behind (is_to_retire o s) front rest g none here)
+      (find_after (is_to_retire o s) prefix rest g none here)
 
-  retire_now : (front rest : List PolicyUse) (g : PolicyUse) → g.number ≡ length front + 1
-      → policy_retired g.number (with_uses (front ++ g ∷ rest) s) ≡ with_uses (front ++ retired_in (entry s) g ∷ rest) s
-  retire_now front rest g number =
-      let place : g.number ≡ suc (length front) = omega arith in
-      ap (λ (k : ℕ). policy_retired k (with_uses (front ++ g ∷ rest) s)) place
-      ∙ ap (λ (l : List PolicyUse). with_uses l s) (changed_behind (retired_in (entry s)) front rest g)
+  retire_now : (prefix rest : List PolicyUse) (g : PolicyUse) → g.number ≡ length prefix + 1
+      → policy_retired g.number (with_uses (prefix ++ g ∷ rest) s) ≡ with_uses (prefix ++ retired_in (entry s) g ∷ rest) s
+  retire_now prefix rest g number =
+      let place : g.number ≡ suc (length prefix) = omega arith in
+      ap (λ (k : ℕ). policy_retired k (with_uses (prefix ++ g ∷ rest) s)) place
+      ∙ ap (λ (l : List PolicyUse). with_uses l s) (changed_after (retired_in (entry s)) prefix rest g)
 
-  retire_here : (front rest : List PolicyUse) (t : Seen) (g : PolicyUse) (x : Bool) → list_any (is_to_retire o s) front ≡ false
-      → g.number ≡ length front + 1 → is_to_retire o s g ≡ x
-      → RunsTo o (with_uses (front ++ retire_if (entry s) x g ∷ rest) s) t → RunsTo o (with_uses (front ++ g ∷ rest) s) t
-  retire_here front rest t g false none number here run = run
-  retire_here front rest t g true none number here run =
-      one_more o (action.PolicyRetired g.number) (with_uses (front ++ g ∷ rest) s) t (retire_next front rest g none here)
-      (subst (λ (v : Seen). RunsTo o v t) (sym (retire_now front rest g number)) run)
+  retire_here : (prefix rest : List PolicyUse) (t : Seen) (g : PolicyUse) (x : Bool) → list_any (is_to_retire o s) prefix ≡ false
+      → g.number ≡ length prefix + 1 → is_to_retire o s g ≡ x
+      → RunsTo o (with_uses (prefix ++ retire_if (entry s) x g ∷ rest) s) t → RunsTo o (with_uses (prefix ++ g ∷ rest) s) t
+  retire_here prefix rest t g false none number here run = run
+  retire_here prefix rest t g true none number here run =
+      one_more o (action.PolicyRetired g.number) (with_uses (prefix ++ g ∷ rest) s) t (retire_next prefix rest g none here)
+      (subst (λ (v : Seen). RunsTo o v t) (sym (retire_now prefix rest g number)) run)
 
-  pub retire_from : (front rest : List PolicyUse) (t : Seen) → list_any (is_to_retire o s) front ≡ false → AreNumbered (length front + 1) rest
-      → RunsTo o (with_uses (front ++ map (retire_one o s) rest) s) t → RunsTo o (with_uses (front ++ rest) s) t
-  retire_from front [] t none numbers run = run
-  retire_from front (g ∷ rest) t none numbers run =
+  pub retire_from : (prefix rest : List PolicyUse) (t : Seen) → list_any (is_to_retire o s) prefix ≡ false → PoliciesAreNumbered (length prefix + 1) rest
+      → RunsTo o (with_uses (prefix ++ map (retire_one o s) rest) s) t → RunsTo o (with_uses (prefix ++ rest) s) t
+  retire_from prefix [] t none numbers run = run
+  retire_from prefix (g ∷ rest) t none numbers run =
       let h : PolicyUse = retire_one o s g in
-      let passed : list_any (is_to_retire o s) (front ++ h ∷ []) ≡ false
-      = none_behind (is_to_retire o s) front h none (retire_by o s g (is_to_retire o s g) refl) in
-      let further : AreNumbered (length (front ++ h ∷ []) + 1) rest = subst (λ (k : ℕ). AreNumbered k rest) (longer_by_one front h) numbers.1 in
-      let ahead : RunsTo o (with_uses ((front ++ h ∷ []) ++ map (retire_one o s) rest) s) t
-      = subst (λ (l : List PolicyUse). RunsTo o (with_uses l s) t) (sym (append_assoc front (h ∷ []) (map (retire_one o s) rest))) run in
-      let next : RunsTo o (with_uses ((front ++ h ∷ []) ++ rest) s) t = retire_from (front ++ h ∷ []) rest t passed further ahead in
-      let moved : RunsTo o (with_uses (front ++ h ∷ rest) s) t
-      = subst (λ (l : List PolicyUse). RunsTo o (with_uses l s) t) (append_assoc front (h ∷ []) rest) next in
-      retire_here front rest t g (is_to_retire o s g) none numbers.0 refl moved
+      let passed : list_any (is_to_retire o s) (prefix ++ h ∷ []) ≡ false
+      = none_afterwards (is_to_retire o s) prefix h none (retire_by o s g (is_to_retire o s g) refl) in
+      let further : PoliciesAreNumbered (length (prefix ++ h ∷ []) + 1) rest = subst (λ (k : ℕ). PoliciesAreNumbered k rest) (longer_by_one prefix h) numbers.1 in
+      let ahead : RunsTo o (with_uses ((prefix ++ h ∷ []) ++ map (retire_one o s) rest) s) t
+      = subst (λ (l : List PolicyUse). RunsTo o (with_uses l s) t) (sym (append_assoc prefix (h ∷ []) (map (retire_one o s) rest))) run in
+      let next : RunsTo o (with_uses ((prefix ++ h ∷ []) ++ rest) s) t = retire_from (prefix ++ h ∷ []) rest t passed further ahead in
+      let moved : RunsTo o (with_uses (prefix ++ h ∷ rest) s) t
+      = subst (λ (l : List PolicyUse). RunsTo o (with_uses l s) t) (append_assoc prefix (h ∷ []) rest) next in
+      retire_here prefix rest t g (is_to_retire o s g) none numbers.0 refl moved

@@ -39,7 +39,7 @@ quiet_next o s q =
     ∙ ap (λ (x : Option Action). first_action (None ∷ None ∷ x ∷ next_given o s ∷ next_shut s ∷ next_added s ∷ [])) q.begun
     ∙ ap (λ (x : Option Action). first_action (None ∷ None ∷ None ∷ x ∷ next_shut s ∷ next_added s ∷ [])) q.given
 
--- where none passes, none is found; and behind a front of which none passes, the first one that does
+-- where none passes, none is found; and after a prefix of which none passes, the first one that does
 find_none_by : {X : Type 0} (x : X) (t : Bool) (o : Option X) → t ≡ false → o ≡ None → cond t (Some x) o ≡ None
 find_none_by x true o e f = absurd (cc)
 find_none_by x false o e f = f
@@ -50,10 +50,10 @@ find_none test (x ∷ xs) e =
     let parts : (test x ≡ false) × (list_any test xs ≡ false) = or_parts (test x) (list_any test xs) e in
     find_none_by x (test x) (find test xs) parts.0 (find_none test xs parts.1)
 
-pub find_behind : {X : Type 0} (test : X → Bool) (front rest : List X) (x : X) → list_any test front ≡ false → test x ≡ true
-    → find test (front ++ x ∷ rest) ≡ Some x
-find_behind test front rest x none here =
-    find-append test front (x ∷ rest) ∙ ap (λ (o : Option _). option_or o (find test (x ∷ rest))) (find_none test front none)
+pub find_after : {X : Type 0} (test : X → Bool) (prefix rest : List X) (x : X) → list_any test prefix ≡ false → test x ≡ true
+    → find test (prefix ++ x ∷ rest) ≡ Some x
+find_after test prefix rest x none here =
+    find-append test prefix (x ∷ rest) ∙ ap (λ (o : Option _). option_or o (find test (x ∷ rest))) (find_none test prefix none)
     ∙ ap (λ (t : Bool). cond t (Some x) (find test rest)) here
 
 pub both_false : (x y : Bool) → x ≡ false → y ≡ false → (x || y) ≡ false
@@ -64,7 +64,7 @@ no_or : (x : Bool) → x ≡ false → (x || false) ≡ false
 no_or true e = absurd (cc)
 no_or false e = refl
 
-pub none_behind : {X : Type 0} (test : X → Bool) (front : List X) (x : X) → list_any test front ≡ false → test x ≡ false
-    → list_any test (front ++ x ∷ []) ≡ false
-none_behind test front x none here =
-    list_any-append test front (x ∷ []) ∙ both_false (list_any test front) (test x || false) none (no_or (test x) here)
+pub none_afterwards : {X : Type 0} (test : X → Bool) (prefix : List X) (x : X) → list_any test prefix ≡ false → test x ≡ false
+    → list_any test (prefix ++ x ∷ []) ≡ false
+none_afterwards test prefix x none here =
+    list_any-append test prefix (x ∷ []) ∙ both_false (list_any test prefix) (test x || false) none (no_or (test x) here)

@@ -6,7 +6,7 @@ use Rattle.std.specs.Prelude.{slice_set}
 use Rattle.grpc_base.specs.declared.event.Conn.TheVariants as conn
 use Rattle.net_actions.proofs.Changing.{with_sub_is}
 use Rattle.net_actions.proofs.Noting.{with_subs}
-use Rattle.net_actions.proofs.Running.{IsQuiet, both_false, find_behind, none_behind, one_more, quiet_next, quiet_with}
+use Rattle.net_actions.proofs.Running.{IsQuiet, both_false, find_after, none_afterwards, one_more, quiet_next, quiet_with}
 use Rattle.net_actions.proofs.Staying.{none_noted}
 use Rattle.net_actions.specs.Runs.{RunsTo}
 use Rattle.session_actions.specs.Actions.{of_policies}
@@ -16,17 +16,17 @@ use Rattle.session_actions.specs.declared.seen.Seen.{Seen}
 use Rattle.session_actions.specs.declared.subchannel.Subchannel.{Subchannel}
 use Rattle.session_actions.specs.declared.action.Action.TheVariants as action
 
--- what stands behind a front
-pub get_behind : {X : Type 0} (front rest : List X) (x : X) → slice_get (front ++ x ∷ rest) (length front) ≡ Some x
-get_behind [] rest x = refl
-get_behind (y ∷ front) rest x = get_behind front rest x
+-- what stands after a prefix
+pub get_after : {X : Type 0} (prefix rest : List X) (x : X) → slice_get (prefix ++ x ∷ rest) (length prefix) ≡ Some x
+get_after [] rest x = refl
+get_after (y ∷ prefix) rest x = get_after prefix rest x
 
-pub set_behind : {X : Type 0} (front rest : List X) (x z : X) → slice_set (front ++ x ∷ rest) (length front) z ≡ front ++ z ∷ rest
-set_behind [] rest x z = refl
-set_behind (y ∷ front) rest x z = ap (λ (l : List _). y ∷ l) (set_behind front rest x z)
+pub set_after : {X : Type 0} (prefix rest : List X) (x z : X) → slice_set (prefix ++ x ∷ rest) (length prefix) z ≡ prefix ++ z ∷ rest
+set_after [] rest x z = refl
+set_after (y ∷ prefix) rest x z = ap (λ (l : List _). y ∷ l) (set_after prefix rest x z)
 
-pub longer_by_one : {X : Type 0} (front : List X) (x : X) → length front + 1 + 1 ≡ length (front ++ x ∷ []) + 1
-longer_by_one front x = let l : length (front ++ x ∷ []) ≡ length front + length (x ∷ []) = length-append front (x ∷ []) in omega arith
+pub longer_by_one : {X : Type 0} (prefix : List X) (x : X) → length prefix + 1 + 1 ≡ length (prefix ++ x ∷ []) + 1
+longer_by_one prefix x = let l : length (prefix ++ x ∷ []) ≡ length prefix + length (x ∷ []) = length-append prefix (x ∷ []) in omega arith
 
 -- the numbers of subchannels
 abbrev pub HaveNumbers : ℕ → List Subchannel → Type 0
@@ -50,44 +50,44 @@ none_unlisted s (b ∷ subs) =
     both_false (is_unlisted s (shut_one s b)) (list_any (is_unlisted s) (map (shut_one s) subs)) (shut_by s b (is_unlisted s b) refl) (none_unlisted s subs)
 
 module _ (o : OpenEntry) (s : Seen) (q : IsQuiet o s) where
-  -- the next action, behind those that stay
-  shut_next : (front rest : List Subchannel) (b : Subchannel) → list_any (is_unlisted s) front ≡ false → is_unlisted s b ≡ true
-      → of_policies o (with_subs (front ++ b ∷ rest) s) ≡ Some (action.SubchannelShut b.number)
-  shut_next front rest b none here =
-      let t : Seen = with_subs (front ++ b ∷ rest) s in
-      quiet_next o t (quiet_with o s (front ++ b ∷ rest) q)
+  -- the next action, after those that stay
+  shut_next : (prefix rest : List Subchannel) (b : Subchannel) → list_any (is_unlisted s) prefix ≡ false → is_unlisted s b ≡ true
+      → of_policies o (with_subs (prefix ++ b ∷ rest) s) ≡ Some (action.SubchannelShut b.number)
+  shut_next prefix rest b none here =
+      let t : Seen = with_subs (prefix ++ b ∷ rest) s in
+      quiet_next o t (quiet_with o s (prefix ++ b ∷ rest) q)
       ∙ ap (λ (x : Option Subchannel). option_or (option_map (λ (c : Subchannel). action.SubchannelShut c.number) x) (option_or (next_added t) None))
-      (find_behind (is_unlisted s) front rest b none here)
+      (find_after (is_unlisted s) prefix rest b none here)
 
-  shut_now : (front rest : List Subchannel) (b : Subchannel) → b.number ≡ length front + 1
-      → with_sub (without_link conn.Shutdown) b.number (with_subs (front ++ b ∷ rest) s) ≡ with_subs (front ++ without_link conn.Shutdown b ∷ rest) s
-  shut_now front rest b number =
-      let t : Seen = with_subs (front ++ b ∷ rest) s in
+  shut_now : (prefix rest : List Subchannel) (b : Subchannel) → b.number ≡ length prefix + 1
+      → with_sub (without_link conn.Shutdown) b.number (with_subs (prefix ++ b ∷ rest) s) ≡ with_subs (prefix ++ without_link conn.Shutdown b ∷ rest) s
+  shut_now prefix rest b number =
+      let t : Seen = with_subs (prefix ++ b ∷ rest) s in
       let c : Subchannel = without_link conn.Shutdown b in
-      let place : b.number ≡ suc (length front) = omega arith in
+      let place : b.number ≡ suc (length prefix) = omega arith in
       ap (λ (k : ℕ). with_sub (without_link conn.Shutdown) k t) place
-      ∙ with_sub_is (without_link conn.Shutdown) (length front) t b (get_behind front rest b)
-      ∙ none_noted (with_subs (slice_set (front ++ b ∷ rest) (length front) c) s) c (λ k failed view. refl)
-      ∙ ap (λ (l : List Subchannel). with_subs l s) (set_behind front rest b c)
+      ∙ with_sub_is (without_link conn.Shutdown) (length prefix) t b (get_after prefix rest b)
+      ∙ none_noted (with_subs (slice_set (prefix ++ b ∷ rest) (length prefix) c) s) c (λ k failed view. refl)
+      ∙ ap (λ (l : List Subchannel). with_subs l s) (set_after prefix rest b c)
 
-  shut_here : (front rest : List Subchannel) (t : Seen) (b : Subchannel) (x : Bool) → list_any (is_unlisted s) front ≡ false → b.number ≡ length front + 1
-      → is_unlisted s b ≡ x → RunsTo o (with_subs (front ++ shut_if x b ∷ rest) s) t → RunsTo o (with_subs (front ++ b ∷ rest) s) t
-  shut_here front rest t b false none number here run = run
-  shut_here front rest t b true none number here run =
-      one_more o (action.SubchannelShut b.number) (with_subs (front ++ b ∷ rest) s) t (shut_next front rest b none here)
-      (subst (λ (v : Seen). RunsTo o v t) (sym (shut_now front rest b number)) run)
+  shut_here : (prefix rest : List Subchannel) (t : Seen) (b : Subchannel) (x : Bool) → list_any (is_unlisted s) prefix ≡ false → b.number ≡ length prefix + 1
+      → is_unlisted s b ≡ x → RunsTo o (with_subs (prefix ++ shut_if x b ∷ rest) s) t → RunsTo o (with_subs (prefix ++ b ∷ rest) s) t
+  shut_here prefix rest t b false none number here run = run
+  shut_here prefix rest t b true none number here run =
+      one_more o (action.SubchannelShut b.number) (with_subs (prefix ++ b ∷ rest) s) t (shut_next prefix rest b none here)
+      (subst (λ (v : Seen). RunsTo o v t) (sym (shut_now prefix rest b number)) run)
 
-  pub shut_from : (front rest : List Subchannel) (t : Seen) → list_any (is_unlisted s) front ≡ false → HaveNumbers (length front + 1) rest
-      → RunsTo o (with_subs (front ++ map (shut_one s) rest) s) t → RunsTo o (with_subs (front ++ rest) s) t
-  shut_from front [] t none numbers run = run
-  shut_from front (b ∷ rest) t none numbers run =
+  pub shut_from : (prefix rest : List Subchannel) (t : Seen) → list_any (is_unlisted s) prefix ≡ false → HaveNumbers (length prefix + 1) rest
+      → RunsTo o (with_subs (prefix ++ map (shut_one s) rest) s) t → RunsTo o (with_subs (prefix ++ rest) s) t
+  shut_from prefix [] t none numbers run = run
+  shut_from prefix (b ∷ rest) t none numbers run =
       let c : Subchannel = shut_one s b in
-      let passed : list_any (is_unlisted s) (front ++ c ∷ []) ≡ false = none_behind (is_unlisted s) front c none (shut_by s b (is_unlisted s b) refl) in
-      let further : HaveNumbers (length (front ++ c ∷ []) + 1) rest
-      = subst (λ (k : ℕ). HaveNumbers k rest) (longer_by_one front c) numbers.1 in
-      let ahead : RunsTo o (with_subs ((front ++ c ∷ []) ++ map (shut_one s) rest) s) t
-      = subst (λ (l : List Subchannel). RunsTo o (with_subs l s) t) (sym (append_assoc front (c ∷ []) (map (shut_one s) rest))) run in
-      let next : RunsTo o (with_subs ((front ++ c ∷ []) ++ rest) s) t = shut_from (front ++ c ∷ []) rest t passed further ahead in
-      let moved : RunsTo o (with_subs (front ++ c ∷ rest) s) t
-      = subst (λ (l : List Subchannel). RunsTo o (with_subs l s) t) (append_assoc front (c ∷ []) rest) next in
-      shut_here front rest t b (is_unlisted s b) none numbers.0 refl moved
+      let passed : list_any (is_unlisted s) (prefix ++ c ∷ []) ≡ false = none_afterwards (is_unlisted s) prefix c none (shut_by s b (is_unlisted s b) refl) in
+      let further : HaveNumbers (length (prefix ++ c ∷ []) + 1) rest
+      = subst (λ (k : ℕ). HaveNumbers k rest) (longer_by_one prefix c) numbers.1 in
+      let ahead : RunsTo o (with_subs ((prefix ++ c ∷ []) ++ map (shut_one s) rest) s) t
+      = subst (λ (l : List Subchannel). RunsTo o (with_subs l s) t) (sym (append_assoc prefix (c ∷ []) (map (shut_one s) rest))) run in
+      let next : RunsTo o (with_subs ((prefix ++ c ∷ []) ++ rest) s) t = shut_from (prefix ++ c ∷ []) rest t passed further ahead in
+      let moved : RunsTo o (with_subs (prefix ++ c ∷ rest) s) t
+      = subst (λ (l : List Subchannel). RunsTo o (with_subs l s) t) (append_assoc prefix (c ∷ []) rest) next in
+      shut_here prefix rest t b (is_unlisted s b) none numbers.0 refl moved

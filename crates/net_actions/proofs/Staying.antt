@@ -15,7 +15,7 @@ use Rattle.channel_net.specs.declared.links.OwnLink.{OwnLink}
 use Rattle.net_actions.proofs.Changing.{Change, beyond_now, subs_same, with_sub_is}
 use Rattle.net_actions.proofs.Noting.{with_noted, with_subs}
 use Rattle.net_actions.proofs.Views.{views_same}
-use Rattle.net_actions.specs.Sees.{AreSubs, IsSound, IsUse, Sees}
+use Rattle.net_actions.specs.Sees.{SubchannelsAgree, IsSound, IsUse, Sees}
 use Rattle.session_actions.specs.Policies.{current_policy, is_live_policy, pending_policy, policy_of, view_of}
 use Rattle.session_actions.specs.Subchannels.{noted_state, with_sub}
 use Rattle.session_actions.specs.declared.policy.PolicyUse.{PolicyUse}
@@ -57,7 +57,7 @@ net_still g place others n = record {
 
 module _ (f : Subchannel → Subchannel) (g : SubRecord → SubRecord) (place : ℕ) (others : List OwnLink) (s : Seen) (n : NetSeen) (c : Change f g place others s n)
     (still : (r : SubRecord) → (g r).state ≡ r.state) where
-  view_still : (addresses : List Address) → AreSubs 1 s.subs n.board n.links
+  view_still : (addresses : List Address) → SubchannelsAgree 1 s.subs n.board n.links
       → view_of addresses (with_subs (slice_set s.subs place (f c.b)) s) ≡ view_of addresses s
   view_still addresses h =
       let t : Seen = with_subs (slice_set s.subs place (f c.b)) s in
@@ -65,7 +65,7 @@ module _ (f : Subchannel → Subchannel) (g : SubRecord → SubRecord) (place : 
       ∙ view-still g c.live c.address still n.board (suc place) addresses
       ∙ views_same s n.board n.links addresses h
 
-  used_still : (o : Option PolicyUse) (live : Option Live) (addresses : List Address) (policies : List PolicySeen) → AreSubs 1 s.subs n.board n.links
+  used_still : (o : Option PolicyUse) (live : Option Live) (addresses : List Address) (policies : List PolicySeen) → SubchannelsAgree 1 s.subs n.board n.links
       → IsUse o (option_map (λ (x : PolicyUse). policy_of x s) o) live addresses policies
       → IsUse o (option_map (λ (x : PolicyUse). policy_of x (with_subs (slice_set s.subs place (f c.b)) s)) o) live addresses policies
   used_still None None addresses policies h u = u

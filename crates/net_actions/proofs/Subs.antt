@@ -8,7 +8,7 @@ use Rattle.std.specs.Option.{option_map}
 use Rattle.std.specs.Prelude.{find}
 use Rattle.channel_net.specs.Lists.{link_of}
 use Rattle.channel_net.specs.declared.links.OwnLink.{OwnLink}
-use Rattle.net_actions.specs.Sees.{AreSubs, IsSub}
+use Rattle.net_actions.specs.Sees.{SubchannelsAgree, IsSub}
 use Rattle.session_actions.specs.declared.subchannel.Subchannel.{Subchannel}
 use Rattle.subchannel.specs.Records.{SubRecord}
 
@@ -24,7 +24,7 @@ find_by true false b n o e same number rest = absurd (cc)
 find_by false true b n o e same number rest = absurd (cc)
 
 pub found_same : (p : Subchannel → Bool) (q : SubRecord → Bool) (same : SaysSame p q) (n : ℕ) (subs : List Subchannel) (board : List SubRecord)
-    (links : List OwnLink) → AreSubs n subs board links → option_map (λ (b : Subchannel). b.number) (find p subs) ≡ position_from q n board
+    (links : List OwnLink) → SubchannelsAgree n subs board links → option_map (λ (b : Subchannel). b.number) (find p subs) ≡ position_from q n board
 found_same p q same n [] [] links h = refl
 found_same p q same n (b ∷ subs) (r ∷ board) links h =
     find_by (p b) (q r) b n (find p subs) (position_from q (n + 1) board) (same b r n (link_of links n) h.0) h.0.number_is
@@ -39,7 +39,7 @@ pub record Both (b : Subchannel) (board : List SubRecord) (place number : ℕ) (
   pub is : IsSub b r number (link_of links number)
 
 pub both_at : (n : ℕ) (subs : List Subchannel) (board : List SubRecord) (links : List OwnLink) (place : ℕ) (b : Subchannel)
-    → AreSubs n subs board links → slice_get subs place ≡ Some b → Both b board place (n + place) links
+    → SubchannelsAgree n subs board links → slice_get subs place ≡ Some b → Both b board place (n + place) links
 both_at n [] board links place b h e = absurd (cc)
 both_at n (c ∷ subs) [] links place b h e = absurd h
 both_at n (c ∷ subs) (r ∷ board) links zero b h e =
@@ -55,7 +55,7 @@ both_at n (c ∷ subs) (r ∷ board) links (suc place) b h e =
     let number : n + 1 + place ≡ n + suc place = omega arith in
     record { r = next.r; at = next.at; is = subst (λ (k : ℕ). IsSub b next.r k (link_of links k)) number next.is }
 
-pub none_at : (n : ℕ) (subs : List Subchannel) (board : List SubRecord) (links : List OwnLink) (place : ℕ) → AreSubs n subs board links
+pub none_at : (n : ℕ) (subs : List Subchannel) (board : List SubRecord) (links : List OwnLink) (place : ℕ) → SubchannelsAgree n subs board links
     → slice_get subs place ≡ None → slice_get board place ≡ None
 none_at n [] [] links place h e = refl
 none_at n [] (r ∷ board) links place h e = absurd h
@@ -69,7 +69,7 @@ SameBut number links others = (k : ℕ) → (k ≡ number → ⊥) → link_of l
 
 -- (all of them, where no number is the changed one)
 pub kept_beside : (n number : ℕ) (subs : List Subchannel) (board : List SubRecord) (links others : List OwnLink) → number < n
-    → SameBut number links others → AreSubs n subs board links → AreSubs n subs board others
+    → SameBut number links others → SubchannelsAgree n subs board links → SubchannelsAgree n subs board others
 kept_beside n number [] [] links others less same h = tt
 kept_beside n number [] (r ∷ board) links others less same h = absurd h
 kept_beside n number (c ∷ subs) [] links others less same h = absurd h
@@ -79,9 +79,9 @@ kept_beside n number (c ∷ subs) (r ∷ board) links others less same h =
     (subst (λ (l : Option ℕ). IsSub c r n l) here h.0, kept_beside (n + 1) number subs board links others further same h.1)
 
 pub changed_same : (n place : ℕ) (subs : List Subchannel) (board : List SubRecord) (links others : List OwnLink) (c : Subchannel) (f : SubRecord → SubRecord)
-    → SameBut (n + place) links others → AreSubs n subs board links
+    → SameBut (n + place) links others → SubchannelsAgree n subs board links
     → ((r : SubRecord) → slice_get board place ≡ Some r → IsSub c (f r) (n + place) (link_of others (n + place)))
-    → AreSubs n (slice_set subs place c) (changed f board place) others
+    → SubchannelsAgree n (slice_set subs place c) (changed f board place) others
 changed_same n place [] [] links others c f same h is = tt
 changed_same n place [] (r ∷ board) links others c f same h is = absurd h
 changed_same n place (b ∷ subs) [] links others c f same h is = absurd h

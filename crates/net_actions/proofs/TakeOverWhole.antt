@@ -23,7 +23,7 @@ use Rattle.net_actions.proofs.Quiet.{none_after, none_begins, none_ends, none_gi
 use Rattle.net_actions.proofs.Running.{find_none}
 use Rattle.net_actions.proofs.TakingOver.{take_overs_are_same}
 use Rattle.net_actions.specs.Runs.{Becomes, NoneIsToEnd, TakesOver}
-use Rattle.net_actions.specs.Sees.{AreApart, IsSound, IsUse, NoneAskedBeyond, Sees}
+use Rattle.net_actions.specs.Sees.{UsesAreApart, IsSound, IsUse, NoneAskedBeyond, Sees}
 use Rattle.session_actions.specs.Entries.{entry}
 use Rattle.session_actions.specs.Policies as policies
 use Rattle.session_actions.specs.Policies.{activated_in, current_policy, is_live_policy, is_other_kind, is_pending, is_to_retire, listed, next_retired, next_take_over, pending_policy, policy_of, policy_took_over, result_of, view_of, wanted_kind}
@@ -80,16 +80,16 @@ retire_no true false true k e f = absurd (cc)
 retire_no false h p k e f = refl
 
 -- what the policy is in both
-apart_none : (o : Option Live) → AreApart o None
+apart_none : (o : Option Live) → UsesAreApart o None
 apart_none None = tt
 apart_none (Some live) = tt
 
-pub still_there : (current : Option Live) (live : Live) (seen : List PolicySeen) → AreApart current (Some live)
+pub still_there : (current : Option Live) (live : Live) (seen : List PolicySeen) → UsesAreApart current (Some live)
     → slice_get (changed_of emptied current seen) live.place ≡ slice_get seen live.place
 still_there None live seen apart = refl
 still_there (Some c) live seen apart = get_away emptied seen c.place live.place (λ e. apart.0 (sym e))
 
-used_over : (e : ℕ) (s t : Seen) (p : PolicyUse) (live current : Option Live) (addresses : List Address) (seen : List PolicySeen) → AreApart current live
+used_over : (e : ℕ) (s t : Seen) (p : PolicyUse) (live current : Option Live) (addresses : List Address) (seen : List PolicySeen) → UsesAreApart current live
     → policy_of p s ≡ policy_of (activated_in e p) t
     → IsUse (Some p) (Some (policy_of p s)) live addresses seen
     → IsUse (Some (activated_in e p)) (Some (policy_of (activated_in e p) t)) live addresses (changed_of emptied current seen)

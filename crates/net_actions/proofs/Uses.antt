@@ -7,7 +7,7 @@ use Rattle.std.specs.Prelude.{find}
 use Rattle.net_actions.proofs.OwnLinks.{unlike}
 use Rattle.net_actions.proofs.Quiet.{at_number, changed_number}
 use Rattle.net_actions.proofs.Running.{both_false}
-use Rattle.net_actions.specs.Sees.{AreNumbered, AtMostOne}
+use Rattle.net_actions.specs.Sees.{PoliciesAreNumbered, AtMostOne}
 use Rattle.session_actions.specs.Words.{changed, holds}
 use Rattle.session_actions.specs.declared.policy.PolicyUse.{PolicyUse}
 
@@ -28,7 +28,7 @@ use_by c uses test n g false number e next =
     let k : n + 1 + later.place ≡ n + suc later.place = omega arith in
     record { place = suc later.place; own = later.own; number_is = later.number_is ∙ k }
 
-pub use_at : (uses : List PolicyUse) (test : PolicyUse → Bool) (n : ℕ) (g : PolicyUse) → AreNumbered n uses → find test uses ≡ Some g → UseAt uses g n
+pub use_at : (uses : List PolicyUse) (test : PolicyUse → Bool) (n : ℕ) (g : PolicyUse) → PoliciesAreNumbered n uses → find test uses ≡ Some g → UseAt uses g n
 use_at [] test n g h e = absurd (cc)
 use_at (c ∷ uses) test n g h e = use_by c uses test n g (test c) h.0 e (λ f. use_at uses test (n + 1) g h.1 f)
 
@@ -54,17 +54,17 @@ all_to P Q f (g ∷ uses) h = (f g h.0, all_to P Q f uses h.1)
 abbrev pub is_of : Option PolicyUse → PolicyUse → Bool
 is_of o g = holds (λ (c : PolicyUse). g.number == c.number) o
 
-abbrev pub TellsOf : (PolicyUse → Bool) → Option PolicyUse → List PolicyUse → Type 0
-TellsOf test o uses = AllUses (λ (g : PolicyUse). is_of o g ≡ test g) uses
+abbrev pub ReportsOf : (PolicyUse → Bool) → Option PolicyUse → List PolicyUse → Type 0
+ReportsOf test o uses = AllUses (λ (g : PolicyUse). is_of o g ≡ test g) uses
 
-none_pass : (test : PolicyUse → Bool) (uses : List PolicyUse) → list_any test uses ≡ false → TellsOf test None uses
+none_pass : (test : PolicyUse → Bool) (uses : List PolicyUse) → list_any test uses ≡ false → ReportsOf test None uses
 none_pass test [] e = tt
 none_pass test (g ∷ uses) e =
     let parts : (test g ≡ false) × (list_any test uses ≡ false) = or_parts (test g) (list_any test uses) e in
     (sym parts.0, none_pass test uses parts.1)
 
-others_differ : (test : PolicyUse → Bool) (c : PolicyUse) (n : ℕ) (uses : List PolicyUse) → c.number < n → AreNumbered n uses → list_any test uses ≡ false
-    → TellsOf test (Some c) uses
+others_differ : (test : PolicyUse → Bool) (c : PolicyUse) (n : ℕ) (uses : List PolicyUse) → c.number < n → PoliciesAreNumbered n uses → list_any test uses ≡ false
+    → ReportsOf test (Some c) uses
 others_differ test c n [] less h e = tt
 others_differ test c n (g ∷ uses) less h e =
     let parts : (test g ≡ false) × (list_any test uses ≡ false) = or_parts (test g) (list_any test uses) e in
@@ -80,31 +80,31 @@ pub none_found : (test : PolicyUse → Bool) (uses : List PolicyUse) → find te
 none_found test [] e = refl
 none_found test (g ∷ uses) e = none_by test g uses (test g) refl e (none_found test uses)
 
-tells_by : (test : PolicyUse → Bool) (n : ℕ) (g : PolicyUse) (uses : List PolicyUse) (c : PolicyUse) (x : Bool) → test g ≡ x → AreNumbered n (g ∷ uses)
-    → (test g ≡ true → list_any test uses ≡ false) → cond x (Some g) (find test uses) ≡ Some c → (find test uses ≡ Some c → TellsOf test (Some c) uses)
-    → TellsOf test (Some c) (g ∷ uses)
-tells_by test n g uses c true here h only e next =
+reports_by : (test : PolicyUse → Bool) (n : ℕ) (g : PolicyUse) (uses : List PolicyUse) (c : PolicyUse) (x : Bool) → test g ≡ x → PoliciesAreNumbered n (g ∷ uses)
+    → (test g ≡ true → list_any test uses ≡ false) → cond x (Some g) (find test uses) ≡ Some c → (find test uses ≡ Some c → ReportsOf test (Some c) uses)
+    → ReportsOf test (Some c) (g ∷ uses)
+reports_by test n g uses c true here h only e next =
     let one : g ≡ c = (cc) in
     let same : (g.number == c.number) ≡ true = eq-eqb g.number c.number (ap (λ (x : PolicyUse). x.number) one) in
     let number : c.number ≡ n = sym (ap (λ (x : PolicyUse). x.number) one) ∙ h.0 in
     (same ∙ sym here, others_differ test c (n + 1) uses (omega arith) h.1 (only here))
-tells_by test n g uses c false here h only e next =
+reports_by test n g uses c false here h only e next =
     let at : UseAt uses c (n + 1) = use_at uses test (n + 1) c h.1 e in
     let later : c.number ≡ n + 1 + at.place = at.number_is in
     let number : g.number ≡ n = h.0 in
     let other : (g.number == c.number) ≡ false = unlike g.number c.number (λ d. omega (arith, d, number, later)) in
     (other ∙ sym here, next e)
 
-tells_one : (test : PolicyUse → Bool) (n : ℕ) (uses : List PolicyUse) (c : PolicyUse) → AreNumbered n uses → AtMostOne test uses → find test uses ≡ Some c
-    → TellsOf test (Some c) uses
-tells_one test n [] c h only e = absurd (cc)
-tells_one test n (g ∷ uses) c h only e =
-    tells_by test n g uses c (test g) refl h only.0 e (λ f. tells_one test (n + 1) uses c h.1 only.1 f)
+reports_one : (test : PolicyUse → Bool) (n : ℕ) (uses : List PolicyUse) (c : PolicyUse) → PoliciesAreNumbered n uses → AtMostOne test uses → find test uses ≡ Some c
+    → ReportsOf test (Some c) uses
+reports_one test n [] c h only e = absurd (cc)
+reports_one test n (g ∷ uses) c h only e =
+    reports_by test n g uses c (test g) refl h only.0 e (λ f. reports_one test (n + 1) uses c h.1 only.1 f)
 
-pub tells : (test : PolicyUse → Bool) (uses : List PolicyUse) (o : Option PolicyUse) → AreNumbered 1 uses → AtMostOne test uses → find test uses ≡ o
-    → TellsOf test o uses
-tells test uses None h only e = none_pass test uses (none_found test uses e)
-tells test uses (Some c) h only e = tells_one test 1 uses c h only e
+pub reports_that : (test : PolicyUse → Bool) (uses : List PolicyUse) (o : Option PolicyUse) → PoliciesAreNumbered 1 uses → AtMostOne test uses → find test uses ≡ o
+    → ReportsOf test o uses
+reports_that test uses None h only e = none_pass test uses (none_found test uses e)
+reports_that test uses (Some c) h only e = reports_one test 1 uses c h only e
 
 pub map_same : (uses : List PolicyUse) → map (λ (g : PolicyUse). g) uses ≡ uses
 map_same [] = refl
@@ -120,14 +120,14 @@ get_map f (x ∷ uses) zero g e = let one : x ≡ g = (cc) in ap (λ (y : Policy
 get_map f (x ∷ uses) (suc place) g e = get_map f uses place g e
 
 -- (one found by its number is the one at that place)
-pub changed_found : (f : PolicyUse → PolicyUse) (uses : List PolicyUse) (test : PolicyUse → Bool) (c : PolicyUse) → AreNumbered 1 uses → find test uses ≡ Some c
+pub changed_found : (f : PolicyUse → PolicyUse) (uses : List PolicyUse) (test : PolicyUse → Bool) (c : PolicyUse) → PoliciesAreNumbered 1 uses → find test uses ≡ Some c
     → changed f c.number uses ≡ map (at_number c.number f) uses
 changed_found f uses test c h e =
     let at : UseAt uses c 1 = use_at uses test 1 c h e in
     let number : suc at.place ≡ c.number = (let k : c.number ≡ 1 + at.place = at.number_is in omega arith) in
     subst (λ (k : ℕ). changed f k uses ≡ map (at_number k f) uses) number (changed_number at.place f uses c h at.own)
 
--- where one passes at most, all that pass are the one that is found; and a narrower test finds it or nothing
+-- where one passes at most, all that pass are the one that is found; and a stronger test finds it or nothing
 pub none_passes : (test : PolicyUse → Bool) (P : PolicyUse → Type 0) (uses : List PolicyUse) → list_any test uses ≡ false
     → AllUses (λ (h : PolicyUse). test h ≡ true → P h) uses
 none_passes test P [] e = tt

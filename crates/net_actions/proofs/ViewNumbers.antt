@@ -73,23 +73,23 @@ failed_above board addresses failed e n less =
 
 -- each address once
 abbrev AllAbsent : List Address → List Address → Type 0
-AllAbsent front [] = Unit {0}
-AllAbsent front (a ∷ rest) = (has_address front a ≡ false) × AllAbsent front rest
+AllAbsent prefix [] = Unit {0}
+AllAbsent prefix (a ∷ rest) = (has_address prefix a ≡ false) × AllAbsent prefix rest
 
-absent_more : (front : List Address) (a : Address) (rest : List Address) → has_address rest a ≡ false → AllAbsent front rest → AllAbsent (front ++ a ∷ []) rest
-absent_more front a [] none h = tt
-absent_more front a (c ∷ rest) none h =
+absent_more : (prefix : List Address) (a : Address) (rest : List Address) → has_address rest a ≡ false → AllAbsent prefix rest → AllAbsent (prefix ++ a ∷ []) rest
+absent_more prefix a [] none h = tt
+absent_more prefix a (c ∷ rest) none h =
     let parts : (is_same_address c a ≡ false) × (has_address rest a ≡ false) = or_parts (is_same_address c a) (has_address rest a) none in
-    let here : has_address (front ++ a ∷ []) c ≡ has_address front c
-    = list_any-append (λ (b : Address). is_same_address b c) front (a ∷ []) ∙ or_false (has_address front c) (is_same_address a c) (same_turned a c ∙ parts.0) in
-    (here ∙ h.0, absent_more front a rest parts.1 h.1)
+    let here : has_address (prefix ++ a ∷ []) c ≡ has_address prefix c
+    = list_any-append (λ (b : Address). is_same_address b c) prefix (a ∷ []) ∙ or_false (has_address prefix c) (is_same_address a c) (same_turned a c ∙ parts.0) in
+    (here ∙ h.0, absent_more prefix a rest parts.1 h.1)
 
-once_from : (front rest : List Address) → IsWithoutRepeats rest → AllAbsent front rest → with_addresses front rest ≡ front ++ rest
-once_from front [] once h = sym (append-nil front)
-once_from front (a ∷ rest) once h =
-    ap (λ (b : Bool). with_addresses (if b then front else front ++ a ∷ []) rest) h.0
-    ∙ once_from (front ++ a ∷ []) rest once.1 (absent_more front a rest (absent rest a once.0) h.1)
-    ∙ append_assoc front (a ∷ []) rest
+once_from : (prefix rest : List Address) → IsWithoutRepeats rest → AllAbsent prefix rest → with_addresses prefix rest ≡ prefix ++ rest
+once_from prefix [] once h = sym (append-nil prefix)
+once_from prefix (a ∷ rest) once h =
+    ap (λ (b : Bool). with_addresses (if b then prefix else prefix ++ a ∷ []) rest) h.0
+    ∙ once_from (prefix ++ a ∷ []) rest once.1 (absent_more prefix a rest (absent rest a once.0) h.1)
+    ∙ append_assoc prefix (a ∷ []) rest
 
 all_absent : (rest : List Address) → AllAbsent [] rest
 all_absent [] = tt

@@ -10,7 +10,7 @@ use Rattle.channel_net.specs.Lists.{link_of, seen_as, seen_at}
 use Rattle.channel_net.specs.Lists as lists
 use Rattle.channel_net.specs.declared.links.OwnLink.{OwnLink}
 use Rattle.net_actions.proofs.Subs.{SaysSame, found_same}
-use Rattle.net_actions.specs.Sees.{AreSubs, IsSub}
+use Rattle.net_actions.specs.Sees.{SubchannelsAgree, IsSub}
 use Rattle.session_actions.specs.Policies.{is_live_sub, is_shutdown, live_sub, view_of}
 use Rattle.session_actions.specs.declared.seen.Seen.{Seen}
 use Rattle.session_actions.specs.declared.subchannel.Subchannel.{Subchannel}
@@ -56,7 +56,7 @@ found_by p q n c subs r board links true false b same test is e next = absurd (c
 found_by p q n c subs r board links false true b same test is e next = absurd (cc)
 
 pub found_in : (p : Subchannel → Bool) (q : SubRecord → Bool) (same : SaysSame p q) (n : ℕ) (subs : List Subchannel) (board : List SubRecord)
-    (links : List OwnLink) (b : Subchannel) → AreSubs n subs board links → find p subs ≡ Some b → Found b q n subs board links
+    (links : List OwnLink) (b : Subchannel) → SubchannelsAgree n subs board links → find p subs ≡ Some b → Found b q n subs board links
 found_in p q same n [] board links b h e = absurd (cc)
 found_in p q same n (c ∷ subs) [] links b h e = absurd h
 found_in p q same n (c ∷ subs) (r ∷ board) links b h e =
@@ -106,12 +106,12 @@ seen_some s board links a b f =
     ∙ ap (λ (k : ℕ). Some (seen_as k f.r)) sub
     ∙ ap (λ (c : Conn). Some (record { sub = b.number; state = c })) (sym f.is.state)
 
-seen_by : (s : Seen) (board : List SubRecord) (links : List OwnLink) (a : Address) (o : Option Subchannel) → AreSubs 1 s.subs board links
+seen_by : (s : Seen) (board : List SubRecord) (links : List OwnLink) (a : Address) (o : Option Subchannel) → SubchannelsAgree 1 s.subs board links
     → live_sub s a ≡ o → option_map (λ (b : Subchannel). b.number) o ≡ first_number (is_live_at a) board → seen_at board a ≡ option_map seen_of o
 seen_by s board links a None h e none = ap (option_and_then (λ (k : ℕ). option_map (seen_as k) (numbered board k))) (sym none)
 seen_by s board links a (Some b) h e some = seen_some s board links a b (found_in (is_live_sub a) (is_live_at a) (live_same a) 1 s.subs board links b h e)
 
-pub seen_same : (s : Seen) (board : List SubRecord) (links : List OwnLink) (a : Address) → AreSubs 1 s.subs board links
+pub seen_same : (s : Seen) (board : List SubRecord) (links : List OwnLink) (a : Address) → SubchannelsAgree 1 s.subs board links
     → seen_at board a ≡ option_map seen_of (live_sub s a)
 seen_same s board links a h =
     seen_by s board links a (live_sub s a) h refl (found_same (is_live_sub a) (is_live_at a) (live_same a) 1 s.subs board links h)
@@ -127,7 +127,7 @@ filtered : (s : Seen) (a : Address) (rest : List Address) (o : Option Subchannel
 filtered s a rest None e = (cc)
 filtered s a rest (Some b) e = (cc)
 
-pub views_same : (s : Seen) (board : List SubRecord) (links : List OwnLink) (addresses : List Address) → AreSubs 1 s.subs board links
+pub views_same : (s : Seen) (board : List SubRecord) (links : List OwnLink) (addresses : List Address) → SubchannelsAgree 1 s.subs board links
     → lists.view_of board addresses ≡ view_of addresses s
 views_same s board links [] h = refl
 views_same s board links (a ∷ rest) h =

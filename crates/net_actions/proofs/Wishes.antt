@@ -12,17 +12,17 @@ use Rattle.policy_rack.specs.Steps.{wishes}
 use Rattle.policy_rack.specs.Steps as rack
 use Rattle.policy_rack.specs.declared.live.Live.{Live}
 use Rattle.channel_net.proofs.ViewLaws.{KeepsAddress}
-use Rattle.channel_net.specs.Askers.{told}
+use Rattle.channel_net.specs.Askers.{reported}
 use Rattle.channel_net.specs.Lists.{link_of}
 use Rattle.channel_net.specs.Steps.{NetSeen, connect_round, connected_at, first_wished, idle_and_wished}
 use Rattle.channel_net.specs.Steps as steps
 use Rattle.channel_net.specs.declared.links.OwnLink.{OwnLink}
-use Rattle.net_actions.proofs.Changing.{Change, changed_sees, net_changed, told_now}
+use Rattle.net_actions.proofs.Changing.{Change, changed_sees, net_changed, reported_now}
 use Rattle.net_actions.proofs.Dialling.{here}
 use Rattle.net_actions.proofs.Noting.{found_passes}
 use Rattle.net_actions.proofs.Subs.{Both}
 use Rattle.net_actions.specs.Laws.{Connects, NoneConnects, WishesConnect}
-use Rattle.net_actions.specs.Sees.{AreSubs, IsShaped, IsSub, IsUse, Sees}
+use Rattle.net_actions.specs.Sees.{SubchannelsAgree, IsShaped, IsSub, IsUse, Sees}
 use Rattle.session_actions.specs.Policies.{current_policy, live_policies, pending_policy, policy_of}
 use Rattle.session_actions.specs.Subchannels as sub
 use Rattle.session_actions.specs.Subchannels.{in_state, is_wished, next_connected, with_sub}
@@ -30,7 +30,7 @@ use Rattle.session_actions.specs.declared.policy.PolicyUse.{PolicyUse}
 use Rattle.session_actions.specs.declared.seen.Seen.{Seen}
 use Rattle.session_actions.specs.declared.subchannel.Subchannel.{Subchannel}
 use Rattle.session_actions.specs.declared.action.Action.TheVariants as action
-use Rattle.subchannel.proofs.NumberLaws.{live_numbers-live, live_numbers-shut, numbered-behind, one-longer, one-moved}
+use Rattle.subchannel.proofs.NumberLaws.{live_numbers-live, live_numbers-shut, numbered-afterwards, one-longer, one-moved}
 use Rattle.subchannel.proofs.StepLaws.{keeps_live-wished}
 use Rattle.subchannel.specs.Boards.{changed_at, numbered, passes, passes_test}
 use Rattle.subchannel.specs.Insides.{live_numbers}
@@ -81,17 +81,17 @@ first_by w board rest b subs r n links false is_it at is next =
     ap (λ (x : Bool). option_map (λ (y : Subchannel). y.number) (cond x (Some b) (find (idle_one w) subs))) not_it
     ∙ next ∙ ap (find (idle_in board w)) (sym (live_numbers-shut r rest n is_it))
 
-first_idle : (w : ℕ → Bool) (front rest : List SubRecord) (n : ℕ) (subs : List Subchannel) (links : List OwnLink) → n ≡ length front + 1 → AreSubs n subs rest links
-    → option_map (λ (x : Subchannel). x.number) (find (idle_one w) subs) ≡ find (idle_in (front ++ rest) w) (live_numbers n rest)
-first_idle w front [] n [] links e h = refl
-first_idle w front [] n (b ∷ subs) links e h = absurd h
-first_idle w front (r ∷ rest) n [] links e h = absurd h
-first_idle w front (r ∷ rest) n (b ∷ subs) links e h =
-    let next : option_map (λ (x : Subchannel). x.number) (find (idle_one w) subs) ≡ find (idle_in ((front ++ r ∷ []) ++ rest) w) (live_numbers (n + 1) rest)
-    = first_idle w (front ++ r ∷ []) rest (n + 1) subs links (one-longer front r n e) h.1 in
-    let moved : option_map (λ (x : Subchannel). x.number) (find (idle_one w) subs) ≡ find (idle_in (front ++ r ∷ rest) w) (live_numbers (n + 1) rest)
-    = subst (λ (l : List SubRecord). option_map (λ (x : Subchannel). x.number) (find (idle_one w) subs) ≡ find (idle_in l w) (live_numbers (n + 1) rest)) (one-moved front rest r) next in
-    first_by w (front ++ r ∷ rest) rest b subs r n links (is_live r) refl (numbered-behind front rest r n e) h.0 moved
+first_idle : (w : ℕ → Bool) (prefix rest : List SubRecord) (n : ℕ) (subs : List Subchannel) (links : List OwnLink) → n ≡ length prefix + 1 → SubchannelsAgree n subs rest links
+    → option_map (λ (x : Subchannel). x.number) (find (idle_one w) subs) ≡ find (idle_in (prefix ++ rest) w) (live_numbers n rest)
+first_idle w prefix [] n [] links e h = refl
+first_idle w prefix [] n (b ∷ subs) links e h = absurd h
+first_idle w prefix (r ∷ rest) n [] links e h = absurd h
+first_idle w prefix (r ∷ rest) n (b ∷ subs) links e h =
+    let next : option_map (λ (x : Subchannel). x.number) (find (idle_one w) subs) ≡ find (idle_in ((prefix ++ r ∷ []) ++ rest) w) (live_numbers (n + 1) rest)
+    = first_idle w (prefix ++ r ∷ []) rest (n + 1) subs links (one-longer prefix r n e) h.1 in
+    let moved : option_map (λ (x : Subchannel). x.number) (find (idle_one w) subs) ≡ find (idle_in (prefix ++ r ∷ rest) w) (live_numbers (n + 1) rest)
+    = subst (λ (l : List SubRecord). option_map (λ (x : Subchannel). x.number) (find (idle_one w) subs) ≡ find (idle_in l w) (live_numbers (n + 1) rest)) (one-moved prefix rest r) next in
+    first_by w (prefix ++ r ∷ rest) rest b subs r n links (is_live r) refl (numbered-afterwards prefix rest r n e) h.0 moved
 
 one_only : (x : Bool) → (x || false) ≡ x
 one_only true = refl
@@ -198,8 +198,8 @@ connects_at s n h place b at idle first =
     let after : Sees (with_sub (in_state conn.Connecting) (suc place) s) (net_changed wished place n.links n)
     = changed_sees (in_state conn.Connecting) wished place n.links s n change h in
     let net : net_changed wished place n.links n ≡ connected_at (Some (suc place)) n
-    = told_now (in_state conn.Connecting) wished place n.links s n change
-    ∙ ap (λ (c : Conn). record n { asker = told (Some c) (suc place) n.asker; board = changed_at wished n.board (suc place) }) one.1 in
+    = reported_now (in_state conn.Connecting) wished place n.links s n change
+    ∙ ap (λ (c : Conn). record n { asker = reported (Some c) (suc place) n.asker; board = changed_at wished n.board (suc place) }) one.1 in
     subst (λ (o : Option ℕ). Sees (with_sub (in_state conn.Connecting) (suc place) s) (connected_at o n)) (sym first)
     (subst (λ (m : NetSeen). Sees (with_sub (in_state conn.Connecting) (suc place) s) m) net after)
 
@@ -221,7 +221,7 @@ place_by c subs p n board links b false number e next =
     record { place = suc later.place; own = later.own; number_is = later.number_is ∙ k }
 
 numbered_place : (subs : List Subchannel) (p : Subchannel → Bool) (n : ℕ) (board : List SubRecord) (links : List OwnLink) (b : Subchannel)
-    → AreSubs n subs board links → find p subs ≡ Some b → PlaceOf subs b n
+    → SubchannelsAgree n subs board links → find p subs ≡ Some b → PlaceOf subs b n
 numbered_place [] p n board links b h e = absurd (cc)
 numbered_place (c ∷ subs) p n [] links b h e = absurd h
 numbered_place (c ∷ subs) p n (r ∷ board) links b h e = place_by c subs p n board links b (p c) h.0.number_is e (λ f. numbered_place subs p (n + 1) board links b h.1 f)

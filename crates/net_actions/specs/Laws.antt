@@ -10,7 +10,7 @@ use Rattle.lb_policy.specs.Table.{PolicySeen, pick_of}
 use Rattle.policy_rack.specs.Steps.{may_take_over}
 use Rattle.session_actions.specs.Sessions.{new_session}
 use Rattle.session_actions.specs.declared.seen.Setup.{Setup}
-use Rattle.net_actions.specs.Sees.{AreKinds, Sees}
+use Rattle.net_actions.specs.Sees.{KindsAgree, Sees}
 use Rattle.policy_rack.specs.declared.live.Live.{Live}
 use Rattle.session_actions.specs.declared.policy.PolicyUse.{PolicyUse}
 use Rattle.session_actions.specs.Entries.{next_word, now}
@@ -27,9 +27,9 @@ use Rattle.session_actions.specs.declared.action.Action.TheVariants as action
 
 -- a dial is taken: of the first subchannel that is to be dialled, with the moments that its wait gives; where there is none, there is nothing to dial.
 -- (The count of dials stands still at the end of its type, which no session reaches.)
-abbrev pub AreFewDials : List Subchannel → Type 0
-AreFewDials [] = Unit {0}
-AreFewDials (b ∷ subs) = (b.dials < 4294967295) × AreFewDials subs
+abbrev pub DialCountsFit : List Subchannel → Type 0
+DialCountsFit [] = Unit {0}
+DialCountsFit (b ∷ subs) = (b.dials < 4294967295) × DialCountsFit subs
 
 pub record IsTaken (sub : ℕ) (s : Seen) (n : NetSeen) : Type 0 where
   pub again : ℕ
@@ -39,7 +39,7 @@ pub record IsTaken (sub : ℕ) (s : Seen) (n : NetSeen) : Type 0 where
 
 abbrev pub DialsAreTaken : Type 0
 DialsAreTaken =
-    (sub : ℕ) (s : Seen) (n : NetSeen) → Sees s n → AreFewDials s.subs → first_number is_dialable n.board ≡ Some sub → IsTaken sub s n
+    (sub : ℕ) (s : Seen) (n : NetSeen) → Sees s n → DialCountsFit s.subs → first_number is_dialable n.board ≡ Some sub → IsTaken sub s n
 
 abbrev pub NoneToDial : Type 0
 NoneToDial = (s : Seen) (n : NetSeen) → Sees s n → first_number is_dialable n.board ≡ None → take_dial s ≡ action.EventAnswered reply.NotYet
@@ -116,7 +116,7 @@ AsksAreAnswered =
 
 -- a new net of the policies that the channel was made with is what a new session has done
 abbrev pub NewOnesAgree : Type 0
-NewOnesAgree = (setup : Setup) (policies : List PolicySeen) → AreKinds setup.policies policies → Sees (new_session setup) (new_net policies)
+NewOnesAgree = (setup : Setup) (policies : List PolicySeen) → KindsAgree setup.policies policies → Sees (new_session setup) (new_net policies)
 
 -- a pending policy takes over exactly where the net's does, and is the one of its number
 abbrev pub TakeOversAreSame : Type 0

@@ -44,26 +44,26 @@ pub record IsSub (b : Subchannel) (r : SubRecord) (number : ℕ) (link : Option 
   pub shape : IsShaped r.state r.until r.linked
 
 -- all of them, from a number on
-abbrev pub AreSubs : ℕ → List Subchannel → List SubRecord → List OwnLink → Type 0
-AreSubs n [] [] links = Unit {0}
-AreSubs n (b ∷ subs) (r ∷ board) links = IsSub b r n (link_of links n) × AreSubs (n + 1) subs board links
-AreSubs n _ _ links = ⊥
+abbrev pub SubchannelsAgree : ℕ → List Subchannel → List SubRecord → List OwnLink → Type 0
+SubchannelsAgree n [] [] links = Unit {0}
+SubchannelsAgree n (b ∷ subs) (r ∷ board) links = IsSub b r n (link_of links n) × SubchannelsAgree (n + 1) subs board links
+SubchannelsAgree n _ _ links = ⊥
 
 -- and no link is of a number beyond them
 abbrev pub NoneBeyond : ℕ → List OwnLink → Type 0
 NoneBeyond made links = (number : ℕ) → made < number → link_of links number ≡ None
 
 -- all uses of policies: each is numbered by its place, and at most one is current and at most one pending
-abbrev pub AreNumbered : ℕ → List PolicyUse → Type 0
-AreNumbered n [] = Unit {0}
-AreNumbered n (g ∷ uses) = (g.number ≡ n) × AreNumbered (n + 1) uses
+abbrev pub PoliciesAreNumbered : ℕ → List PolicyUse → Type 0
+PoliciesAreNumbered n [] = Unit {0}
+PoliciesAreNumbered n (g ∷ uses) = (g.number ≡ n) × PoliciesAreNumbered (n + 1) uses
 
 abbrev pub AtMostOne : (PolicyUse → Bool) → List PolicyUse → Type 0
 AtMostOne test [] = Unit {0}
 AtMostOne test (g ∷ uses) = (test g ≡ true → list_any test uses ≡ false) × AtMostOne test uses
 
-pub record AreUses (uses : List PolicyUse) : Type 0 where
-  pub numbers : AreNumbered 1 uses
+pub record UsesAgree (uses : List PolicyUse) : Type 0 where
+  pub numbers : PoliciesAreNumbered 1 uses
   pub one_current : AtMostOne is_current uses
   pub one_pending : AtMostOne is_pending uses
 
@@ -72,10 +72,10 @@ abbrev pub NoneAskedBeyond : ℕ → List Ask → Type 0
 NoneAskedBeyond made asks = (number : ℕ) → made < number → count_by (λ a. a.generation == number) asks ≡ 0
 
 -- the policies that the channel was made with are those of the net, by kind and width
-abbrev pub AreKinds : List PolicyKind → List PolicySeen → Type 0
-AreKinds [] [] = Unit {0}
-AreKinds (k ∷ kinds) (p ∷ policies) = (k.kind ≡ p.kind) × (k.width ≡ p.width) × AreKinds kinds policies
-AreKinds _ _ = ⊥
+abbrev pub KindsAgree : List PolicyKind → List PolicySeen → Type 0
+KindsAgree [] [] = Unit {0}
+KindsAgree (k ∷ kinds) (p ∷ policies) = (k.kind ≡ p.kind) × (k.width ≡ p.width) × KindsAgree kinds policies
+KindsAgree _ _ = ⊥
 
 -- a policy in use: its number, its addresses, and what the table sees of it: a view without repeats, and of it those that failed
 abbrev pub IsSound : PolicySeen → Type 0
@@ -88,22 +88,22 @@ IsUse (Some g) (Some p) (Some live) addresses policies =
 IsUse g p live addresses policies = ⊥
 
 -- two uses are of two policies, and have two numbers
-abbrev pub AreApart : Option Live → Option Live → Type 0
-AreApart (Some live) (Some other) = (live.place ≡ other.place → ⊥) × (live.generation ≡ other.generation → ⊥)
-AreApart _ _ = Unit {0}
+abbrev pub UsesAreApart : Option Live → Option Live → Type 0
+UsesAreApart (Some live) (Some other) = (live.place ≡ other.place → ⊥) × (live.generation ≡ other.generation → ⊥)
+UsesAreApart _ _ = Unit {0}
 
 pub record SeesBy (kinds : List PolicyKind) (asks : List Ask) (uses : List PolicyUse) (subs : List Subchannel) (current : Option PolicyUse) (p : Option PolicySeen) (pending : Option PolicyUse) (q : Option PolicySeen) (n : NetSeen) : Type 0 where
-  pub subs_are : AreSubs 1 subs n.board n.links
+  pub subs_are : SubchannelsAgree 1 subs n.board n.links
   pub beyond : NoneBeyond (length subs) n.links
-  pub uses_are : AreUses uses
+  pub uses_are : UsesAgree uses
   pub made : n.asker.rack.made ≡ length uses
-  pub kinds_are : AreKinds kinds n.asker.rack.policies
+  pub kinds_are : KindsAgree kinds n.asker.rack.policies
   pub unasked : NoneAskedBeyond (length uses) asks
   -- (the net counts no more pick requests than were made)
   pub counted : n.asker.asks ≤ length asks
   pub current_is : IsUse current p n.asker.rack.current n.current n.asker.rack.policies
   pub pending_is : IsUse pending q n.asker.rack.pending n.pending n.asker.rack.policies
-  pub apart : AreApart n.asker.rack.current n.asker.rack.pending
+  pub apart : UsesAreApart n.asker.rack.current n.asker.rack.pending
 
 abbrev pub Sees : Seen → NetSeen → Type 0
 Sees s n =

@@ -13,7 +13,7 @@ pub and_is_cond : (b x : Bool) → cond b false x ≡ not b && x
 and_is_cond true x = refl
 and_is_cond false x = refl
 
--- the first that passes stands in front of those that pass
+-- the first that passes stands before those that pass
 pub found_first : {X : Type 0} (p : X → Bool) (xs : List X) → find p xs ≡ slice_get (filter (λ x. p x && not false) xs) 0
 found_first p [] = refl
 found_first p (x ∷ xs) =
@@ -21,7 +21,7 @@ found_first p (x ∷ xs) =
     [ true ↦ refl | false ↦ found_first p xs ]
 
 pub some_found : {X : Type 0} (p : X → Bool) (xs ys rest : List X) (y : X) → ys ≡ filter (λ x. p x && not false) xs → ys ≡ y ∷ rest → Some y ≡ find p xs
-some_found p xs ys rest y all front = ap (λ zs. slice_get zs 0) (sym front ∙ all) ∙ sym (found_first p xs)
+some_found p xs ys rest y all prefix = ap (λ zs. slice_get zs 0) (sym prefix ∙ all) ∙ sym (found_first p xs)
 
 pub none_found : {X : Type 0} (p : X → Bool) (xs ys : List X) → ys ≡ filter (λ x. p x && not false) xs → ys ≡ [] → None ≡ find p xs
 none_found p xs ys all empty = ap (λ zs. slice_get zs 0) (sym empty ∙ all) ∙ sym (found_first p xs)

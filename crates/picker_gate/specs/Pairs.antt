@@ -12,17 +12,17 @@ pair_cmp p q = ordering_then (nat_cmp p.0 q.0) (nat_cmp p.1 q.1)
 abbrev pub is_same : ℕ × ℕ → ℕ × ℕ → Bool
 is_same p q = is_eq (pair_cmp p q)
 
--- whether the second stands behind the first
-abbrev pub is_behind : ℕ × ℕ → ℕ × ℕ → Bool
-is_behind p q = is_lt (pair_cmp p q)
+-- whether the second stands after the first
+abbrev pub comes_after : ℕ × ℕ → ℕ × ℕ → Bool
+comes_after p q = is_lt (pair_cmp p q)
 
 -- whether the pair is one of them
 abbrev pub has : List (ℕ × ℕ) → ℕ × ℕ → Bool
 has pairs p = list_any (is_same p) pairs
 
--- the first of them behind this pair
-abbrev pub next_behind : List (ℕ × ℕ) → ℕ × ℕ → Option (ℕ × ℕ)
-next_behind pairs p = find (is_behind p) pairs
+-- the first of them after this pair
+abbrev pub next_after : List (ℕ × ℕ) → ℕ × ℕ → Option (ℕ × ℕ)
+next_after pairs p = find (comes_after p) pairs
 
 -- of timers, each a moment and a key: the first one, if its moment is at or before this one
 abbrev pub first_due : List (ℕ × ℕ) → ℕ → Option (ℕ × ℕ)

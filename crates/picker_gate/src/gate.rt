@@ -4,7 +4,7 @@ ghost use Rattle.std.specs.List.Sorted.{IsStrictlySortedBy};
 ghost use Rattle.std.specs.BTreeSet.{insert_key};
 ghost use Rattle.std.specs.Set.{remove_key};
 ghost use Rattle.std.specs.BTreeMap.Range.{IsLtBy, IsLeBy};
-ghost use Rattle.picker_gate.specs.Pairs.{has, is_same, next_behind, pair_cmp};
+ghost use Rattle.picker_gate.specs.Pairs.{has, is_same, next_after, pair_cmp};
 
 use grpc_base::NoMemory;
 use std::alloc::Global;
@@ -62,11 +62,11 @@ impl Gate {
         self.pairs.remove(&(call, row))
     }
 
-    /// The first attempt behind this one, which need not wait itself; None exactly where none stands behind it.
+    /// The first attempt after this one, which need not wait itself; None exactly where none stands after it.
     pub fn first_after(&self, call: u32, row: u64) -> Option<(u32, u64)>
-        ensures first { result ≡ next_behind self.now (call, row) }
+        ensures first { result ≡ next_after self.now (call, row) }
         ensures there { IfSome result (λ p. IsTrue (has self.now p)) }
-        ensures behind { IfSome result (λ p. IsLtBy pair_cmp (call, row) p) }
+        ensures afterwards { IfSome result (λ p. IsLtBy pair_cmp (call, row) p) }
         ensures least { IfSome result (λ p. (q : ℕ × ℕ) → IsLtBy pair_cmp (call, row) q → IsTrue (has self.now q) → IsLeBy pair_cmp p q) }
         ensures none { IfNone result ((q : ℕ × ℕ) → IsLtBy pair_cmp (call, row) q → has self.now q ≡ false) }
         ensures ordered { IsStrictlySortedBy pair_cmp self.now }

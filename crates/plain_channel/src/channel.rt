@@ -18,7 +18,7 @@ pub const AUTHORITY: &[u8] = b"127.0.0.1:50051";
 pub enum Unmade {
     /// The text is no authority.
     NoAuthority,
-    /// The policies may not be handed to a channel.
+    /// The policies may not be passed to a channel.
     NoPolicies,
     /// Out of memory.
     NoMemory,

@@ -11,7 +11,7 @@ use Rattle.lb_policy.specs.Steps.{emptied, given, noted, turned}
 use Rattle.policy_rack.specs.declared.live.Live.{Live}
 use Rattle.policy_rack.specs.Kinds.{same_kind, has_policy, kinds_differ}
 use Rattle.policy_rack.specs.Steps.{RackSeen, new_rack, changed, changed_of, renewed, begun, may_take_over, taken_over, is_at}
-use Rattle.policy_rack.specs.Runs.{RackCall, Adopt, Note, TakeOver, Ask, RetireAll, after_call, after_calls, AreLive, IsKept, KindsOfLiveDiffer, LiveKindsDiffer}
+use Rattle.policy_rack.specs.Runs.{RackCall, Adopt, Note, TakeOver, Ask, RetireAll, after_call, after_calls, GenerationsAreLive, IsKept, KindsOfLiveDiffer, LiveKindsDiffer}
 use Rattle.policy_rack.proofs.RunLaws.{rack-keeps}
 
 -- no step changes a kind
@@ -115,7 +115,7 @@ apart (x ∷ ps) (suc i) zero p q d out ep eq s =
 apart (x ∷ ps) (suc i) (suc j) p q d out ep eq s =
     apart ps i j p q (and-right (not (has_policy x.kind ps)) (kinds_differ ps) d) (λ e. out (ap suc e)) ep eq s
 
-places-differ : (c n : Option Live) (made : ℕ) (live later : Live) → AreLive c n made → c ≡ Some live → n ≡ Some later → live.place ≡ later.place → ⊥
+places-differ : (c n : Option Live) (made : ℕ) (live later : Live) → GenerationsAreLive c n made → c ≡ Some live → n ≡ Some later → live.place ≡ later.place → ⊥
 places-differ None None made live later h e f = absurd (none-some live e)
 places-differ None (Some b) made live later h e f = absurd h
 places-differ (Some a) None made live later h e f = absurd (none-some later f)

@@ -8,7 +8,7 @@ use Rattle.lb_policy.specs.Table.{PolicySeen}
 use Rattle.lb_policy.specs.Steps.{emptied, given, noted, turned}
 use Rattle.policy_rack.specs.declared.live.Live.{Live}
 use Rattle.policy_rack.specs.Steps.{RackSeen, new_rack, changed, changed_of, renewed, begun, noted_by_live, may_take_over, taken_over, asked, all_retired, is_at}
-use Rattle.policy_rack.specs.Runs.{RackCall, Adopt, Note, TakeOver, Ask, RetireAll, after_call, after_calls, AreLive, SparesAreEmpty, IsKept, RackKeeps}
+use Rattle.policy_rack.specs.Runs.{RackCall, Adopt, Note, TakeOver, Ask, RetireAll, after_call, after_calls, GenerationsAreLive, SparesAreEmpty, IsKept, RackKeeps}
 
 -- the policies after one of them changed
 other-place : (f : PolicySeen → PolicySeen) (ps : List PolicySeen) (j i : ℕ) → (j ≡ i → ⊥) → slice_get (changed f ps j) i ≡ slice_get ps i
@@ -48,13 +48,13 @@ swapped : (ps : List PolicySeen) (c n : Option Live) → SparesAreEmpty ps c n �
 swapped ps c n spare = λ i p e hn hc. spare i p e hc hn
 
 -- each call
-live-alone : (c n : Option Live) (made : ℕ) → AreLive c n made → AreLive c None made
+live-alone : (c n : Option Live) (made : ℕ) → GenerationsAreLive c n made → GenerationsAreLive c None made
 live-alone None None made h = tt
 live-alone None (Some b) made h = tt
 live-alone (Some a) None made h = h
 live-alone (Some a) (Some b) made h = let later : a.generation < b.generation = h.1 in let within : b.generation ≤ made = h.2 in omega arith
 
-live-moved : (c n : Option Live) (made : ℕ) → AreLive c n made → AreLive n None made
+live-moved : (c n : Option Live) (made : ℕ) → GenerationsAreLive c n made → GenerationsAreLive n None made
 live-moved None None made h = tt
 live-moved None (Some b) made h = absurd h
 live-moved (Some a) None made h = tt
@@ -100,7 +100,7 @@ more-live ps c n spare = λ i p e hc hn. spare i p e hc refl
 self-at : (place made : ℕ) → is_at place (Some (record { generation = made; place = place })) ≡ true
 self-at place made = eq-eqb place place refl
 
-begun-live : (place : ℕ) (c n : Option Live) (made : ℕ) → is_at place c ≡ false → AreLive c n made → AreLive (if is_some c then c else Some (record { generation = made + 1; place = place })) (if is_some c then Some (record { generation = made + 1; place = place }) else None) (made + 1)
+begun-live : (place : ℕ) (c n : Option Live) (made : ℕ) → is_at place c ≡ false → GenerationsAreLive c n made → GenerationsAreLive (if is_some c then c else Some (record { generation = made + 1; place = place })) (if is_some c then Some (record { generation = made + 1; place = place }) else None) (made + 1)
 begun-live place None None made out h = omega arith
 begun-live place None (Some b) made out h = omega arith
 begun-live place (Some a) None made out h = let within : a.generation ≤ made = h in (eqb-false a.place place out, omega arith, omega arith)

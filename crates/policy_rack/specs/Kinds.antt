@@ -27,6 +27,6 @@ abbrev pub kinds_differ : List PolicySeen → Bool
 kinds_differ [] = true
 kinds_differ (p ∷ policies) = not (has_policy p.kind policies) && kinds_differ policies
 
--- what a channel may be handed: no two of one kind, and pick_first among them
+-- what a channel may be passed: no two of one kind, and pick_first among them
 abbrev pub are_ready : List PolicySeen → Bool
 are_ready policies = kinds_differ policies && has_policy kind.PickFirst policies

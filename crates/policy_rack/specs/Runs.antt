@@ -28,11 +28,11 @@ after_calls [] r = r
 after_calls (call ∷ calls) r = after_calls calls (after_call call r)
 
 -- the live generations: a pending one only beside a current one, of another policy and made later, none above the count
-abbrev pub AreLive : Option Live → Option Live → ℕ → Type 0
-AreLive None None made = Unit {0}
-AreLive None (Some later) made = ⊥
-AreLive (Some live) None made = live.generation ≤ made
-AreLive (Some live) (Some later) made = ((live.place ≡ later.place) → ⊥) × (live.generation < later.generation) × (later.generation ≤ made)
+abbrev pub GenerationsAreLive : Option Live → Option Live → ℕ → Type 0
+GenerationsAreLive None None made = Unit {0}
+GenerationsAreLive None (Some later) made = ⊥
+GenerationsAreLive (Some live) None made = live.generation ≤ made
+GenerationsAreLive (Some live) (Some later) made = ((live.place ≡ later.place) → ⊥) × (live.generation < later.generation) × (later.generation ≤ made)
 
 -- a policy that no live generation uses has the empty view, none that failed and no turn
 abbrev pub SparesAreEmpty : List PolicySeen → Option Live → Option Live → Type 0
@@ -40,7 +40,7 @@ SparesAreEmpty policies current pending =
     (place : ℕ) (p : PolicySeen) → slice_get policies place ≡ Some p → is_at place current ≡ false → is_at place pending ≡ false → (p.view ≡ []) × (p.failed ≡ []) × (p.turns ≡ 0)
 
 pub record IsKept (r : RackSeen) : Type 0 where
-  pub live : AreLive r.current r.pending r.made
+  pub live : GenerationsAreLive r.current r.pending r.made
   pub spare : SparesAreEmpty r.policies r.current r.pending
 
 -- the kinds of the two live generations
@@ -52,7 +52,7 @@ KindsOfLiveDiffer r =
 abbrev pub RackKeeps : Type 0
 RackKeeps = (calls : List RackCall) (policies : List PolicySeen) → IsKept (after_calls calls (new_rack policies))
 
--- of policies that a channel may be handed, the two live generations are never of one kind
+-- of policies that a channel may be passed, the two live generations are never of one kind
 abbrev pub LiveKindsDiffer : Type 0
 LiveKindsDiffer =
     (calls : List RackCall) (policies : List PolicySeen) → are_ready policies ≡ true → KindsOfLiveDiffer (after_calls calls (new_rack policies))

@@ -89,7 +89,7 @@ abbrev pub adopted_number : Option ℕ → RackSeen → ℕ
 adopted_number None r = 0
 adopted_number (Some place) r = number_at place r.current (number_at place r.pending (r.made + 1))
 
--- the live policies are told the state of a subchannel
+-- the live policies are given the state of a subchannel
 abbrev pub noted_by_live : ℕ → Conn → RackSeen → RackSeen
 noted_by_live sub state r = record r { policies = changed_of (noted sub state) r.pending (changed_of (noted sub state) r.current r.policies) }
 

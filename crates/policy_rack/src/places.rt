@@ -47,7 +47,7 @@ pub fn give_at<P: Balancer>(policies: &mut Vec<P>, place: usize, subs: &[SubSeen
     }
 }
 
-/// Tells the policy of a generation the state of a subchannel.
+/// reports to the policy of a generation the state of a subchannel.
 pub fn note_of<P: Balancer>(policies: &mut Vec<P>, live: Option<Live>, sub: u32, state: Conn)
     ensures { map P.seen policies.new.items ≡ changed_of (noted sub state) live (map P.seen policies.old.items) }
 {

@@ -10,7 +10,7 @@ use grpc_base::{Conn, Kind, KindSet, Pick};
 use lb_policy::{Balancer, SubSeen};
 use std::marker::Model;
 
-/// The policies that a channel was handed, one of each kind, and the generations that use them.
+/// The policies that a channel was given, one of each kind, and the generations that use them.
 ///
 /// Pick requests go to the current generation alone. A pending one takes its place when it may; a generation that
 /// is retired leaves a policy that is reset, and so has the empty view, none that failed and no turn. No call takes memory.
@@ -54,7 +54,7 @@ impl<P: Balancer> Rack<P> {
         kinds::set_of(self.policies.as_slice())
     }
 
-    /// Takes a result of the resolver for the policy of a kind, and tells the generation that it goes to: the
+    /// Takes a result of the resolver for the policy of a kind, and reports to the generation that it goes to: the
     /// current or the pending one of that kind, or a new one.
     #[tactic(auto, using(crate::proofs::KindLaws::has_place))]
     pub fn adopt(&mut self, kind: Kind, subs: &[SubSeen]) -> u32
@@ -125,7 +125,7 @@ impl<P: Balancer> Rack<P> {
         places::named(self.policies.as_slice(), self.pending)
     }
 
-    /// Tells the live policies the state of a subchannel.
+    /// reports to the live policies the state of a subchannel.
     pub fn note(&mut self, sub: u32, state: Conn)
         ensures { self.new ≡ noted_by_live sub state self.old }
     {
@@ -133,7 +133,7 @@ impl<P: Balancer> Rack<P> {
         places::note_of(&mut self.policies, self.pending, sub, state);
     }
 
-    /// Lets a pending generation take over if it may, and tells whether it did.
+    /// Lets a pending generation take over if it may, and reports whether it did.
     pub fn take_over(&mut self) -> bool
         ensures result { result ≡ may_take_over self.old }
         ensures after { self.new ≡ (if may_take_over self.old then taken_over self.old else self.old) }
@@ -173,7 +173,7 @@ impl<P: Balancer> Rack<P> {
         places::state_of(self.policies.as_slice(), self.current)
     }
 
-    /// Asks the current policy, which is one turn of it, and tells the generation that answered.
+    /// Asks the current policy, which is one turn of it, and reports to the generation that answered.
     pub fn ask(&mut self) -> (u32, Pick)
         requires { IsSomeAnd (policy_of self.old.policies self.old.current) (λ p. p.turns < 18446744073709551615) }
         ensures after { self.new ≡ asked self.old }

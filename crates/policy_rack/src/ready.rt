@@ -1,4 +1,4 @@
-// Which policies a channel may be handed.
+// Which policies a channel may be passed.
 ghost use Rattle.std.specs.Prelude.{◌≡◌, map};
 ghost use Rattle.policy_rack.specs.Kinds.{kinds_differ, are_ready};
 

@@ -119,7 +119,7 @@ fn round_wish(digits: [u32; 4]) -> u32 {
 }
 
 /// What a policy answers where it was given so many subchannels in these states.
-fn told<P: Policy>(policy: &mut P, digits: [u32; 4], count: u32) -> (u32, (Conn, Pick)) {
+fn reported<P: Policy>(policy: &mut P, digits: [u32; 4], count: u32) -> (u32, (Conn, Pick)) {
     policy.reset();
     let [first, second, third, fourth] = digits;
     let states = [
@@ -142,14 +142,14 @@ fn answers_each_combination_of_states(rt: HostRuntime) {
     for (count, combinations) in COMBINATIONS {
         for number in 0..combinations {
             let digits = digits_of(number, count);
-            let told_first = told(&mut first, digits, count);
-            let told_round = told(&mut round, digits, count);
+            let reported_first = reported(&mut first, digits, count);
+            let reported_round = reported(&mut round, digits, count);
             assert!(rt;
-                told_first == (first_wish(digits), wanted(digits)),
+                reported_first == (first_wish(digits), wanted(digits)),
                 "at {count} {number}"
             );
             assert!(rt;
-                told_round == (round_wish(digits), wanted(digits)),
+                reported_round == (round_wish(digits), wanted(digits)),
                 "at {count} {number}"
             );
         }

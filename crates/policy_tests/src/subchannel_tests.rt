@@ -165,7 +165,7 @@ fn list(hosts: &[u32]) -> AddressList {
     list
 }
 
-/// Keeps two lists, and tells whether there was memory.
+/// Keeps two lists, and reports whether there was memory.
 fn kept(board: &mut Board, current: &[u32], pending: &[u32]) -> bool {
     if board.made() >= 4_000_000_000 {
         return false;

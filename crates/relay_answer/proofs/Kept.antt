@@ -36,7 +36,7 @@ none_left : (t : List ℕ) → (length t == 0) ≡ true → t ≡ []
 none_left [] e = refl
 none_left (b ∷ t) e = absurd (grind arith)
 
--- the next frame takes what it has off the front
+-- the next frame takes what it has off the prefix
 part_moves : (w : Wire) (stream : ℕ) (headed : Bool) (text : List ℕ) (p : Part) (parts : List Part) (b : Bool) → (length p.text == 0) ≡ b
     → left_of (record { headed = headed; parts = p ∷ parts; text = text })
     ≡ (if b then Block p.block p.ends ∷ [] else map Byte (take (taken (share_of w stream (length p.text) false)) p.text))
@@ -67,7 +67,7 @@ headed_by : (w : Wire) (stream : ℕ) (headed : Bool) (text : List ℕ) (parts :
 headed_by w stream headed text [] = refl
 headed_by w stream headed text (p ∷ parts) = headed_part w stream headed text p parts (length p.text == 0)
 
--- an item goes behind all that is left
+-- an item goes after all that is left
 given_left : (stream : ℕ) (a : Answering) (item : Item) (items : List Item) → left_of (item_given a item) ++ down (item_given a item).headed items ≡ left_of a ++ down a.headed (item ∷ items)
 given_left stream a (Head meta) items =
     ap (λ (l : List Piece). l ++ down true items) (block_left (record a { headed = true }) (head_block meta) false)

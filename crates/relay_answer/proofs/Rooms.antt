@@ -1,4 +1,4 @@
--- The room of the next frame of a stream, and how much is left behind it.
+-- The room of the next frame of a stream, and how much is left over it.
 use Rattle.std.proofs.Common.{◌≡◌, ℕ, ◌<◌, ◌≤◌, ◌+◌, Bool, true, false, List, [], ◌∷◌, length, drop, refl, ap, Some, None, arith}
 use Rattle.std.specs.Prelude.{Option, max, nat_lt, ◌==◌, ◌||◌, if◌then◌else◌}
 use Rattle.std.proofs.lemmas.List.{length-drop, length-take}

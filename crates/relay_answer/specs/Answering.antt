@@ -16,13 +16,13 @@ pub record Answering : Type 0 where
   pub headed : Bool
   -- header blocks, each with the bytes of messages that go before it
   pub parts : List Part
-  -- the bytes of messages behind them
+  -- the bytes of messages after them
   pub text : List ℕ
 
 abbrev pub fresh : Answering
 fresh = record { headed = false; parts = []; text = [] }
 
--- a header block goes behind all that waits
+-- a header block goes after all that waits
 abbrev pub with_block : Answering → List ℕ → Bool → Answering
 with_block a block ends =
     record a { parts = a.parts ++ record { text = a.text; block = block; ends = ends } ∷ []; text = [] }

@@ -11,7 +11,7 @@ pub record Move : Type 0 where
   pub answer : Answering
   pub octets : List ℕ
 
--- as many bytes behind all blocks as one frame may have
+-- as many bytes after all blocks as one frame may have
 abbrev pub tail_moved : Wire → ℕ → Answering → Move
 tail_moved w stream a =
     let s = data_sent w stream a.text false in record {

@@ -27,7 +27,7 @@ pub struct AnsweringStream {
     /// Whether a head was given.
     headed: bool,
     parts: Parts,
-    /// The bytes behind all parts.
+    /// The bytes after all parts.
     text: WaitingText,
 }
 
@@ -56,7 +56,7 @@ fn block_room(block: &Block) -> u64
     (HEADER_ROOM + 1 + block.len() as u64).max(CONTROL_ROOM)
 }
 
-/// The room for which the first frame of these parts, or of the bytes behind them, is tested.
+/// The room for which the first frame of these parts, or of the bytes after them, is tested.
 fn room_by(stream: u32, parts: &[Part], text: &[u8], link: &ServerLink) -> Option<u64>
     ensures { result ≡ room_by link.now.wire stream text.now parts.now }
 {
@@ -82,7 +82,7 @@ impl AnsweringStream {
         }
     }
 
-    /// A header block is given, behind all that waits.
+    /// A header block is given, after all that waits.
     fn push_block(&mut self, block: Block, ends: bool) -> Result<(), NoMemory>
         ensures { OnOk result (self.new ≡ with_block self.old block ends) }
     {

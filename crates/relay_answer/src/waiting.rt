@@ -14,7 +14,7 @@ use std::marker::Model;
 /// How many bytes stand before a message: its flag and its length.
 const PREFIX_SIZE: usize = 5;
 
-/// Framed messages, one behind the other, or what is left of them.
+/// Framed messages, one after the other, or what is left of them.
 #[derive(Debug, Drop)]
 pub struct WaitingText {
     bytes: BytesMut,

@@ -10,7 +10,7 @@ use Rattle.grpc_frame.specs.Reader.{Given, ReaderSeen, given, given_by, reader_o
 use Rattle.grpc_frame.proofs.MessageLaws.{pieces_fault, pieces_messages, pieces_reader}
 use Rattle.relay_asks.specs.declared.ask.RelayAsk.{RelayAsk}
 use Rattle.relay_asks.specs.declared.ask.RelayAsk.TheVariants as ask
-use Rattle.relay_asks.specs.Asking.{Asking, Told, code_of, judged, opened, sent}
+use Rattle.relay_asks.specs.Asking.{Asking, Report, code_of, judged, opened, sent}
 use Rattle.relay_asks.specs.Laws.{Moment, Came, Ended, Answered, Broke, asked_of, asks_from, before_answer, breaks_off, ends, messages_in, statuses_from, text_in}
 
 abbrev whole_of : ℕ → List ℕ → List (List ℕ)
@@ -34,7 +34,7 @@ closed limit n o t u ended broke =
     map (sent n) (whole_of limit t) ++ finish n (ended && is_none (fault_in limit t)) ++ cancel n (o && (broke || is_some (fault_in limit u)))
 
 -- what DATA makes of a stream that asks
-abbrev fed_by : ℕ → Bool → ReaderSeen → List (List ℕ) → Option MessageFault → Told
+abbrev fed_by : ℕ → Bool → ReaderSeen → List (List ℕ) → Option MessageFault → Report
 fed_by n o r messages f =
     let j = judged (stream_at n true o r) f in
     record j { asks = map (sent n) messages ++ j.asks }
@@ -76,14 +76,14 @@ quiet n o r (Ended ∷ ms) = quiet n o r ms
 quiet n o r (Answered ∷ ms) = quiet n false r ms
 quiet n o r (Broke ∷ ms) = quiet n false r ms
 
-pub nothing_told : (n : ℕ) (r : ReaderSeen) (ms : List Moment) → statuses_from (record { number = n; asking = false; is_open = false; reader = r }) ms ≡ []
-nothing_told n r ms = quiet n false r ms
+pub nothing_reported : (n : ℕ) (r : ReaderSeen) (ms : List Moment) → statuses_from (record { number = n; asking = false; is_open = false; reader = r }) ms ≡ []
+nothing_reported n r ms = quiet n false r ms
 
 broke_off : (n : ℕ) (o : Bool) (r : ReaderSeen) (ms : List Moment) → cancel n o ++ asks_from (stream_at n false false r) ms ≡ cancel n (o && true)
 broke_off n o r ms =
     ap (λ (l : List RelayAsk). cancel n o ++ l) (nothing_asked n r ms) ∙ (append-nil (cancel n o) ∙ cancel_all n o)
 
--- behind the end of its request a stream may be given up
+-- after the end of its request a stream may be given up
 after_end : (n : ℕ) (o : Bool) (r : ReaderSeen) (ms : List Moment) → asks_from (stream_at n false o r) ms ≡ cancel n (o && breaks_off (before_answer ms))
 after_end n o r [] = sym (cancel_none n o)
 after_end n o r (Came t ∷ ms) = after_end n o r ms
@@ -128,9 +128,9 @@ faulted n o ended broke w m v v2 rest g h f e same eg eh none =
 came_by : (limit n : ℕ) (o : Bool) (ms : List Moment) (t p : List ℕ) (m : List (List ℕ)) (f : Option MessageFault) → fault_in limit (t ++ p) ≡ f → whole_of limit (t ++ p) ≡ whole_of limit t ++ m
     → (fault_in limit (t ++ p) ≡ None → map (sent n) (whole_of limit (t ++ p)) ++ asks_from (stream_at n true o (reader_of limit (t ++ p))) ms ≡ closed limit n o ((t ++ p) ++ text_in ms) ((t ++ p) ++ text_in (before_answer ms)) (ends ms) (breaks_off (before_answer ms)))
     → map (sent n) (whole_of limit t) ++ ((fed_by n o (reader_of limit (t ++ p)) m f).asks ++ asks_from (fed_by n o (reader_of limit (t ++ p)) m f).stream ms) ≡ closed limit n o ((t ++ p) ++ text_in ms) ((t ++ p) ++ text_in (before_answer ms)) (ends ms) (breaks_off (before_answer ms))
-came_by limit n o ms t p m None e w behind =
-    more n (whole_of limit t) m (whole_of limit (t ++ p)) (asks_from (stream_at n true o (reader_of limit (t ++ p))) ms) w ∙ behind e
-came_by limit n o ms t p m (Some f) e w behind =
+came_by limit n o ms t p m None e w afterwards =
+    more n (whole_of limit t) m (whole_of limit (t ++ p)) (asks_from (stream_at n true o (reader_of limit (t ++ p))) ms) w ∙ afterwards e
+came_by limit n o ms t p m (Some f) e w afterwards =
     let s = stays limit (t ++ p) (text_in ms) f e in
     let u = stays limit (t ++ p) (text_in (before_answer ms)) f e in
     faulted n o (ends ms) (breaks_off (before_answer ms)) (whole_of limit t) m (whole_of limit (t ++ p)) (whole_of limit ((t ++ p) ++ text_in ms)) (asks_from (stream_at n false false (reader_of limit (t ++ p))) ms) (fault_in limit ((t ++ p) ++ text_in ms)) (fault_in limit ((t ++ p) ++ text_in (before_answer ms))) f w s.whole s.fault u.fault (nothing_asked n (reader_of limit (t ++ p)) ms)
@@ -138,10 +138,10 @@ came_by limit n o ms t p m (Some f) e w behind =
 came : (limit n : ℕ) (o : Bool) (ms : List Moment) (t p : List ℕ)
     → (fault_in limit (t ++ p) ≡ None → map (sent n) (whole_of limit (t ++ p)) ++ asks_from (stream_at n true o (reader_of limit (t ++ p))) ms ≡ closed limit n o ((t ++ p) ++ text_in ms) ((t ++ p) ++ text_in (before_answer ms)) (ends ms) (breaks_off (before_answer ms)))
     → map (sent n) (whole_of limit t) ++ asks_from (stream_at n true o (reader_of limit t)) (Came p ∷ ms) ≡ closed limit n o (t ++ (p ++ text_in ms)) (t ++ (p ++ text_in (before_answer ms))) (ends ms) (breaks_off (before_answer ms))
-came limit n o ms t p behind =
+came limit n o ms t p afterwards =
     let g = given (reader_of limit t) p in
     ap₂ (λ (r : ReaderSeen) (f : Option MessageFault). map (sent n) (whole_of limit t) ++ ((fed_by n o r g.messages f).asks ++ asks_from (fed_by n o r g.messages f).stream ms)) (sym (pieces_reader limit t p)) (sym (pieces_fault limit t p))
-    ∙ (came_by limit n o ms t p g.messages (fault_in limit (t ++ p)) refl (pieces_messages limit t p) behind
+    ∙ (came_by limit n o ms t p g.messages (fault_in limit (t ++ p)) refl (pieces_messages limit t p) afterwards
     ∙ ap₂ (λ (x y : List ℕ). closed limit n o x y (ends ms) (breaks_off (before_answer ms))) (append_assoc t p (text_in ms)) (append_assoc t p (text_in (before_answer ms))))
 
 -- nothing more comes, or its end, or it breaks off
@@ -196,30 +196,30 @@ answered n r (Ended ∷ ms) = quiet n false r ms
 answered n r (Answered ∷ ms) = answered n r ms
 answered n r (Broke ∷ ms) = quiet n false r ms
 
-none_told : (limit : ℕ) (t : List ℕ) → fault_in limit t ≡ None → [] ≡ map code_of (option_to_list (fault_in limit (t ++ [])))
-none_told limit t e =
+none_reported : (limit : ℕ) (t : List ℕ) → fault_in limit t ≡ None → [] ≡ map code_of (option_to_list (fault_in limit (t ++ [])))
+none_reported limit t e =
     ap (λ (f : Option MessageFault). map code_of (option_to_list f)) (sym (ap (fault_in limit) (append-nil t) ∙ e))
 
-told_by : (limit n : ℕ) (ms : List Moment) (t p : List ℕ) (m : List (List ℕ)) (f : Option MessageFault) → fault_in limit (t ++ p) ≡ f
+reported_by : (limit n : ℕ) (ms : List Moment) (t p : List ℕ) (m : List (List ℕ)) (f : Option MessageFault) → fault_in limit (t ++ p) ≡ f
     → (fault_in limit (t ++ p) ≡ None → statuses_from (stream_at n true true (reader_of limit (t ++ p))) ms ≡ map code_of (option_to_list (fault_in limit ((t ++ p) ++ text_in (before_answer ms)))))
     → option_to_list (fed_by n true (reader_of limit (t ++ p)) m f).status ++ statuses_from (fed_by n true (reader_of limit (t ++ p)) m f).stream ms ≡ map code_of (option_to_list (fault_in limit ((t ++ p) ++ text_in (before_answer ms))))
-told_by limit n ms t p m None e behind = behind e
-told_by limit n ms t p m (Some f) e behind =
+reported_by limit n ms t p m None e afterwards = afterwards e
+reported_by limit n ms t p m (Some f) e afterwards =
     let s = stays limit (t ++ p) (text_in (before_answer ms)) f e in
     ap (λ (l : List Code). code_of f ∷ l) (quiet n false (reader_of limit (t ++ p)) ms)
     ∙ ap (λ (o : Option MessageFault). map code_of (option_to_list o)) (sym s.fault)
 
-going_told : (limit n : ℕ) (ms : List Moment) (t : List ℕ) → fault_in limit t ≡ None → statuses_from (stream_at n true true (reader_of limit t)) ms ≡ map code_of (option_to_list (fault_in limit (t ++ text_in (before_answer ms))))
-going_told limit n [] t e = none_told limit t e
-going_told limit n (Came p ∷ ms) t e =
+going_reported : (limit n : ℕ) (ms : List Moment) (t : List ℕ) → fault_in limit t ≡ None → statuses_from (stream_at n true true (reader_of limit t)) ms ≡ map code_of (option_to_list (fault_in limit (t ++ text_in (before_answer ms))))
+going_reported limit n [] t e = none_reported limit t e
+going_reported limit n (Came p ∷ ms) t e =
     let g = given (reader_of limit t) p in
     ap₂ (λ (r : ReaderSeen) (f : Option MessageFault). option_to_list (fed_by n true r g.messages f).status ++ statuses_from (fed_by n true r g.messages f).stream ms) (sym (pieces_reader limit t p)) (sym (pieces_fault limit t p))
-    ∙ (told_by limit n ms t p g.messages (fault_in limit (t ++ p)) refl (λ f. going_told limit n ms (t ++ p) f)
+    ∙ (reported_by limit n ms t p g.messages (fault_in limit (t ++ p)) refl (λ f. going_reported limit n ms (t ++ p) f)
     ∙ ap (λ (x : List ℕ). map code_of (option_to_list (fault_in limit x))) (append_assoc t p (text_in (before_answer ms))))
-going_told limit n (Ended ∷ ms) t e = quiet n true (reader_of limit t) ms ∙ none_told limit t e
-going_told limit n (Answered ∷ ms) t e = answered n (reader_of limit t) ms ∙ none_told limit t e
-going_told limit n (Broke ∷ ms) t e = quiet n false (reader_of limit t) ms ∙ none_told limit t e
+going_reported limit n (Ended ∷ ms) t e = quiet n true (reader_of limit t) ms ∙ none_reported limit t e
+going_reported limit n (Answered ∷ ms) t e = answered n (reader_of limit t) ms ∙ none_reported limit t e
+going_reported limit n (Broke ∷ ms) t e = quiet n false (reader_of limit t) ms ∙ none_reported limit t e
 
 -- a stream gets a status by itself where its messages show a fault before the end of the call is given
-pub told : (stream : ℕ) (ms : List Moment) → statuses_from (opened stream true) ms ≡ map code_of (option_to_list (messages_in (before_answer ms)).fault)
-told stream ms = going_told message_limit stream ms [] refl
+pub reported : (stream : ℕ) (ms : List Moment) → statuses_from (opened stream true) ms ≡ map code_of (option_to_list (messages_in (before_answer ms)).fault)
+reported stream ms = going_reported message_limit stream ms [] refl

@@ -31,12 +31,12 @@ pub record Asking : Type 0 where
   pub reader : ReaderSeen
 
 -- a stream after something, what it asks for that, and the status that its response gets by itself
-pub record Told : Type 0 where
+pub record Report : Type 0 where
   pub stream : Asking
   pub asks : List RelayAsk
   pub status : Option Code
 
-abbrev pub unchanged : Asking → Told
+abbrev pub unchanged : Asking → Report
 unchanged a = record { stream = a; asks = []; status = None }
 
 -- a stream whose request begins a call, or begins none
@@ -44,20 +44,20 @@ abbrev pub opened : ℕ → Bool → Asking
 opened number begins =
     record { number = number; asking = begins; is_open = begins; reader = reader_of message_limit [] }
 
-abbrev pub begun_by : ℕ → Incoming → Told
+abbrev pub begun_by : ℕ → Incoming → Report
 begun_by number (Begins request) =
     record { stream = opened number true; asks = ask.Begin number request ∷ []; status = None }
 begun_by number (Refused code) = record { stream = opened number false; asks = []; status = Some code }
 
 -- a stream that begins with this header list
-abbrev pub begun : ℕ → List Field → Told
+abbrev pub begun : ℕ → List Field → Report
 begun number fields = begun_by number (incoming fields)
 
 abbrev pub sent : ℕ → List ℕ → RelayAsk
 sent number message = ask.Send number message
 
 -- a stream that is given up asks a Cancel where its call is open, and nothing more
-abbrev pub given_up : Asking → Told
+abbrev pub given_up : Asking → Report
 given_up a = record {
   stream = record a { asking = false; is_open = false };
   asks = if a.is_open then ask.Cancel a.number ∷ [] else [];
@@ -73,23 +73,23 @@ abbrev pub status_of : Bool → MessageFault → Option Code
 status_of is_open f = if is_open then Some (code_of f) else None
 
 -- a fault of the messages gives the stream up, with a status where its call is open
-abbrev pub judged : Asking → Option MessageFault → Told
+abbrev pub judged : Asking → Option MessageFault → Report
 judged a None = unchanged a
 judged a (Some f) = record (given_up a) { status = status_of a.is_open f }
 
 -- the messages that some bytes complete, and the fault that they show
-abbrev pub fed : Asking → Given → Told
+abbrev pub fed : Asking → Given → Report
 fed a g =
     let j = judged (record a { reader = g.reader }) g.fault in
     record j { asks = map (sent a.number) g.messages ++ j.asks }
 
 -- the bytes of DATA
-abbrev pub data_told : Asking → List ℕ → Told
-data_told a octets = if a.asking then fed a (given a.reader octets) else unchanged a
+abbrev pub data_reported : Asking → List ℕ → Report
+data_reported a octets = if a.asking then fed a (given a.reader octets) else unchanged a
 
 -- END_STREAM
-abbrev pub end_told : Asking → Told
-end_told a = record {
+abbrev pub end_reported : Asking → Report
+end_reported a = record {
   stream = record a { asking = false };
   asks = if a.asking then ask.Finish a.number ∷ [] else [];
   status = None;

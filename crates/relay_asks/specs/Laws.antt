@@ -3,11 +3,11 @@ use Rattle.std.specs.Prelude.{ℕ, Bool, true, false, ◌&&◌, ◌||◌, if◌t
 use Rattle.grpc_base.specs.Limits.{message_limit}
 use Rattle.grpc_base.specs.declared.code.Code.{Code}
 use Rattle.grpc_frame.specs.Messages.{Messages, messages_of}
-use Rattle.relay_asks.specs.Asking.{Asking, Told, answered, data_told, end_told, given_up, sent, unchanged}
+use Rattle.relay_asks.specs.Asking.{Asking, Report, answered, data_reported, end_reported, given_up, sent, unchanged}
 use Rattle.relay_asks.specs.declared.ask.RelayAsk.{RelayAsk}
 use Rattle.relay_asks.specs.declared.ask.RelayAsk.TheVariants as ask
 
--- what happens to a stream behind its header list: bytes of DATA come, or END_STREAM; the end of its call is given; it breaks off,
+-- what happens to a stream after its header list: bytes of DATA come, or END_STREAM; the end of its call is given; it breaks off,
 -- by a reset, a stream error or with its link
 pub data Moment : Type 0 where
   Came : List ℕ → Moment
@@ -15,9 +15,9 @@ pub data Moment : Type 0 where
   Answered : Moment
   Broke : Moment
 
-abbrev pub step : Asking → Moment → Told
-step a (Came octets) = data_told a octets
-step a Ended = end_told a
+abbrev pub step : Asking → Moment → Report
+step a (Came octets) = data_reported a octets
+step a Ended = end_reported a
 step a Answered = unchanged (answered a)
 step a Broke = given_up a
 

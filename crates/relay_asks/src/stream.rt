@@ -1,6 +1,6 @@
 // What one stream asks, as its request comes.
 ghost use Rattle.std.specs.Prelude.{◌≡◌, ◌++◌, ◌∷◌, [], if◌then◌else◌, map, IfOk, OnOk, Some, None};
-ghost use Rattle.relay_asks.specs.Asking.{answered, begun, begun_by, data_told, end_told, given_up, judged, opened, sent, status_of};
+ghost use Rattle.relay_asks.specs.Asking.{answered, begun, begun_by, data_reported, end_reported, given_up, judged, opened, sent, status_of};
 
 use crate::ask::RelayAsk;
 use grpc_base::limits::MESSAGE_BYTES;
@@ -137,14 +137,14 @@ impl AskingStream {
 
     /// Takes the bytes of DATA: asks a Send for each message that they complete, and a Cancel where they show a message that is
     /// compressed or longer than 4,194,304 bytes. Answers the status that the response gets by itself then.
-    pub fn hear_data(
+    pub fn receive_data(
         &mut self,
         octets: &Octets,
         asks: &mut Vec<RelayAsk>,
     ) -> Result<Option<Code>, NoMemory>
-        ensures stream { OnOk result (self.new ≡ (data_told self.old octets.now).stream) }
-        ensures status { IfOk result (λ s. s ≡ (data_told self.old octets.now).status) }
-        ensures asks { OnOk result (asks.new.items ≡ asks.old.items ++ (data_told self.old octets.now).asks) }
+        ensures stream { OnOk result (self.new ≡ (data_reported self.old octets.now).stream) }
+        ensures status { IfOk result (λ s. s ≡ (data_reported self.old octets.now).status) }
+        ensures asks { OnOk result (asks.new.items ≡ asks.old.items ++ (data_reported self.old octets.now).asks) }
     {
         if !self.asking {
             return Ok(None);
@@ -174,8 +174,8 @@ impl AskingStream {
 
     /// The request ends: asks a Finish. A message that is cut off is dropped.
     pub fn end(&mut self, asks: &mut Vec<RelayAsk>) -> Result<(), NoMemory>
-        ensures stream { OnOk result (self.new ≡ (end_told self.old).stream) }
-        ensures asks { OnOk result (asks.new.items ≡ asks.old.items ++ (end_told self.old).asks) }
+        ensures stream { OnOk result (self.new ≡ (end_reported self.old).stream) }
+        ensures asks { OnOk result (asks.new.items ≡ asks.old.items ++ (end_reported self.old).asks) }
     {
         let asking = self.asking;
         let stream = self.number;

@@ -1,2 +1,2 @@
 pub mod PostLaws
-pub mod TellLaws
+pub mod ReportLaws

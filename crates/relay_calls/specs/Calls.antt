@@ -67,7 +67,7 @@ abbrev pub begun : Calls → ℕ → ℕ → Calls
 begun c stream number =
     record c { calls = c.calls ++ record { stream = stream; call = number; asking = true; is_open = true } ∷ [] }
 
--- an ask waits behind those that wait
+-- an ask waits after those that wait
 abbrev pub held : Calls → RelayAsk → Calls
 held c a = record c { waiting = c.waiting ++ a ∷ [] }
 

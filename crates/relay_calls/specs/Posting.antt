@@ -66,7 +66,7 @@ PostsAs eyes e c a before after_calls after result =
 abbrev pub Wants : {P : Type 0} → Eyes P → P → P → Result Unit CallsFault → Type 0
 Wants eyes before after result = (eyes.handle after ≡ eyes.handle before) × (result ≡ Err fault.NoMemory)
 
--- an ask waits, behind those that wait
+-- an ask waits, after those that wait
 abbrev pub Waits : {P : Type 0} → Eyes P → Calls → RelayAsk → P → Calls → P → Result Unit CallsFault → Type 0
 Waits eyes c a before after_calls after result = (eyes.handle after ≡ eyes.handle before) × Becomes c (Ok (held c a)) after_calls result
 
@@ -132,8 +132,8 @@ PostsTurn eyes c before asks after_calls after result =
 
 -- Failed is answered only with the error of the last post, which failed; Gone only with the number of a channel that was shut down; and
 -- without Failed no post failed
-abbrev pub Tells : HandleSeen → HandleSeen → Result Unit CallsFault → Type 0
-Tells before after (Ok done) = after.errors ≡ before.errors
-Tells before after (Err (fault.Failed error)) = (after.errors ≡ one_more before.errors) × (after.last ≡ Some error)
-Tells before after (Err (fault.Gone refusal)) = (after.errors ≡ before.errors) × (refusal ≡ 9)
-Tells before after (Err fault.NoMemory) = after.errors ≡ before.errors
+abbrev pub ReportsThat : HandleSeen → HandleSeen → Result Unit CallsFault → Type 0
+ReportsThat before after (Ok done) = after.errors ≡ before.errors
+ReportsThat before after (Err (fault.Failed error)) = (after.errors ≡ one_more before.errors) × (after.last ≡ Some error)
+ReportsThat before after (Err (fault.Gone refusal)) = (after.errors ≡ before.errors) × (refusal ≡ 9)
+ReportsThat before after (Err fault.NoMemory) = after.errors ≡ before.errors

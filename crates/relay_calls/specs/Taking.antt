@@ -81,6 +81,6 @@ GivesUpAll {P} eyes c before after_calls after (Err error) =
     (place : ℕ) × (place < length c.calls) × (next : Calls) × (post : P) × GivesUpTo eyes place c before next post × GivesUpAt eyes place next post after_calls after (Err error)
 
 -- an error is answered only where the last post failed with it; and without one no post failed
-abbrev pub TellsError : {T : Type 0} → HandleSeen → HandleSeen → Result T PostError → Type 0
-TellsError before after (Ok done) = after.errors ≡ before.errors
-TellsError before after (Err error) = (after.errors ≡ one_more before.errors) × (after.last ≡ Some error)
+abbrev pub ReportsError : {T : Type 0} → HandleSeen → HandleSeen → Result T PostError → Type 0
+ReportsError before after (Ok done) = after.errors ≡ before.errors
+ReportsError before after (Err error) = (after.errors ≡ one_more before.errors) × (after.last ≡ Some error)

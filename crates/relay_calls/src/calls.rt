@@ -7,8 +7,8 @@ ghost use Rattle.live_pump.specs.Pumps.{HandleSeen};
 ghost use Rattle.relay_asks.specs.Asking.{stream_of};
 ghost use Rattle.relay_asks.specs.declared.ask.RelayAsk.TheVariants as ask;
 ghost use Rattle.relay_calls.specs.Calls.{begun, closed, dropped, held, is_live, no_calls, settled, silenced, waits};
-ghost use Rattle.relay_calls.specs.Taking.{GivesUpAll, GivesUpAt, TakesAt, TellsError};
-ghost use Rattle.relay_calls.specs.Posting.{Becomes, Eyes, PostsAll, PostsAs, PostsAsk, PostsNow, PostsTurn, Sends, SendsIf, Tells, came_of, eyes_of, is_held, length_of};
+ghost use Rattle.relay_calls.specs.Taking.{GivesUpAll, GivesUpAt, TakesAt, ReportsError};
+ghost use Rattle.relay_calls.specs.Posting.{Becomes, Eyes, PostsAll, PostsAs, PostsAsk, PostsNow, PostsTurn, Sends, SendsIf, ReportsThat, came_of, eyes_of, is_held, length_of};
 
 use crate::call::{RelayCall, number_of, place_of};
 use crate::fault::CallsFault;
@@ -165,7 +165,7 @@ impl RelayCalls {
         request: Request,
     ) -> Result<(), CallsFault>
         ensures posted { let eyes : Eyes P = eyes_of P.made P.errors P.last_error P.looks P.last_look in PostsAs eyes (event.Begin request) self.old (ask.Begin stream request) post.old self.new post.new result }
-        ensures tells { let before : HandleSeen = record { made = P.made post.old; errors = P.errors post.old; last = P.last_error post.old } in let after : HandleSeen = record { made = P.made post.new; errors = P.errors post.new; last = P.last_error post.new } in Tells before after result }
+        ensures reports_that { let before : HandleSeen = record { made = P.made post.old; errors = P.errors post.old; last = P.last_error post.old } in let after : HandleSeen = record { made = P.made post.new; errors = P.errors post.new; last = P.last_error post.new } in ReportsThat before after result }
         ensures share { P.share post.new ≡ P.share post.old }
     {
         let came = post.post(Event::Begin { request });
@@ -194,7 +194,7 @@ impl RelayCalls {
         message: Octets,
     ) -> Result<(), CallsFault>
         ensures posted { let eyes : Eyes P = eyes_of P.made P.errors P.last_error P.looks P.last_look in SendsIf eyes true call message self.old (ask.Send stream message) post.old self.new post.new result }
-        ensures tells { let before : HandleSeen = record { made = P.made post.old; errors = P.errors post.old; last = P.last_error post.old } in let after : HandleSeen = record { made = P.made post.new; errors = P.errors post.new; last = P.last_error post.new } in Tells before after result }
+        ensures reports_that { let before : HandleSeen = record { made = P.made post.old; errors = P.errors post.old; last = P.last_error post.old } in let after : HandleSeen = record { made = P.made post.new; errors = P.errors post.new; last = P.last_error post.new } in ReportsThat before after result }
         ensures share { P.share post.new ≡ P.share post.old }
     {
         let posted = message.share()?;
@@ -229,7 +229,7 @@ impl RelayCalls {
         message: Octets,
     ) -> Result<(), CallsFault>
         ensures posted { let eyes : Eyes P = eyes_of P.made P.errors P.last_error P.looks P.last_look in Sends eyes call message self.old (ask.Send stream message) post.old self.new post.new result }
-        ensures tells { let before : HandleSeen = record { made = P.made post.old; errors = P.errors post.old; last = P.last_error post.old } in let after : HandleSeen = record { made = P.made post.new; errors = P.errors post.new; last = P.last_error post.new } in Tells before after result }
+        ensures reports_that { let before : HandleSeen = record { made = P.made post.old; errors = P.errors post.old; last = P.last_error post.old } in let after : HandleSeen = record { made = P.made post.new; errors = P.errors post.new; last = P.last_error post.new } in ReportsThat before after result }
         ensures share { P.share post.new ≡ P.share post.old }
     {
         if post.can_send(call, length_of(&message)) {
@@ -241,7 +241,7 @@ impl RelayCalls {
     /// Says that a stream has no further message. A refusal is passed over.
     fn finish<P: Post>(&mut self, post: &mut P, stream: u32, call: u32) -> Result<(), CallsFault>
         ensures posted { let eyes : Eyes P = eyes_of P.made P.errors P.last_error P.looks P.last_look in PostsAs eyes (event.Finish call) self.old (ask.Finish stream) post.old self.new post.new result }
-        ensures tells { let before : HandleSeen = record { made = P.made post.old; errors = P.errors post.old; last = P.last_error post.old } in let after : HandleSeen = record { made = P.made post.new; errors = P.errors post.new; last = P.last_error post.new } in Tells before after result }
+        ensures reports_that { let before : HandleSeen = record { made = P.made post.old; errors = P.errors post.old; last = P.last_error post.old } in let after : HandleSeen = record { made = P.made post.new; errors = P.errors post.new; last = P.last_error post.new } in ReportsThat before after result }
         ensures share { P.share post.new ≡ P.share post.old }
     {
         let came = post.post(Event::Finish { call });
@@ -264,7 +264,7 @@ impl RelayCalls {
     /// Gives a call up. A refusal is passed over.
     fn cancel<P: Post>(&mut self, post: &mut P, stream: u32, call: u32) -> Result<(), CallsFault>
         ensures posted { let eyes : Eyes P = eyes_of P.made P.errors P.last_error P.looks P.last_look in PostsAs eyes (event.Cancel call) self.old (ask.Cancel stream) post.old self.new post.new result }
-        ensures tells { let before : HandleSeen = record { made = P.made post.old; errors = P.errors post.old; last = P.last_error post.old } in let after : HandleSeen = record { made = P.made post.new; errors = P.errors post.new; last = P.last_error post.new } in Tells before after result }
+        ensures reports_that { let before : HandleSeen = record { made = P.made post.old; errors = P.errors post.old; last = P.last_error post.old } in let after : HandleSeen = record { made = P.made post.new; errors = P.errors post.new; last = P.last_error post.new } in ReportsThat before after result }
         ensures share { P.share post.new ≡ P.share post.old }
     {
         let came = post.post(Event::Cancel { call });
@@ -287,7 +287,7 @@ impl RelayCalls {
     /// Posts an ask whose stream does not wait, or a Cancel.
     fn post_now<P: Post + Glance>(&mut self, post: &mut P, ask: RelayAsk) -> Result<(), CallsFault>
         ensures posted { let eyes : Eyes P = eyes_of P.made P.errors P.last_error P.looks P.last_look in PostsNow eyes self.old ask post.old self.new post.new result }
-        ensures tells { let before : HandleSeen = record { made = P.made post.old; errors = P.errors post.old; last = P.last_error post.old } in let after : HandleSeen = record { made = P.made post.new; errors = P.errors post.new; last = P.last_error post.new } in Tells before after result }
+        ensures reports_that { let before : HandleSeen = record { made = P.made post.old; errors = P.errors post.old; last = P.last_error post.old } in let after : HandleSeen = record { made = P.made post.new; errors = P.errors post.new; last = P.last_error post.new } in ReportsThat before after result }
         ensures share { P.share post.new ≡ P.share post.old }
     {
         match ask {
@@ -313,7 +313,7 @@ impl RelayCalls {
     /// Posts an ask, or keeps it waiting.
     fn post_ask<P: Post + Glance>(&mut self, post: &mut P, ask: RelayAsk) -> Result<(), CallsFault>
         ensures posted { let eyes : Eyes P = eyes_of P.made P.errors P.last_error P.looks P.last_look in PostsAsk eyes self.old ask post.old self.new post.new result }
-        ensures tells { let before : HandleSeen = record { made = P.made post.old; errors = P.errors post.old; last = P.last_error post.old } in let after : HandleSeen = record { made = P.made post.new; errors = P.errors post.new; last = P.last_error post.new } in Tells before after result }
+        ensures reports_that { let before : HandleSeen = record { made = P.made post.old; errors = P.errors post.old; last = P.last_error post.old } in let after : HandleSeen = record { made = P.made post.new; errors = P.errors post.new; last = P.last_error post.new } in ReportsThat before after result }
         ensures share { P.share post.new ≡ P.share post.old }
     {
         if self.is_held(&ask) {
@@ -329,7 +329,7 @@ impl RelayCalls {
         asks: Vec<RelayAsk>,
     ) -> Result<(), CallsFault>
         ensures posted { let eyes : Eyes P = eyes_of P.made P.errors P.last_error P.looks P.last_look in PostsAll eyes self.old post.old asks.items self.new post.new result }
-        ensures tells { let before : HandleSeen = record { made = P.made post.old; errors = P.errors post.old; last = P.last_error post.old } in let after : HandleSeen = record { made = P.made post.new; errors = P.errors post.new; last = P.last_error post.new } in Tells before after result }
+        ensures reports_that { let before : HandleSeen = record { made = P.made post.old; errors = P.errors post.old; last = P.last_error post.old } in let after : HandleSeen = record { made = P.made post.new; errors = P.errors post.new; last = P.last_error post.new } in ReportsThat before after result }
         ensures share { P.share post.new ≡ P.share post.old }
     {
         let mut rest = asks.into_iter();
@@ -351,7 +351,7 @@ impl RelayCalls {
         asks: Vec<RelayAsk>,
     ) -> Result<(), CallsFault>
         ensures posted { let eyes : Eyes P = eyes_of P.made P.errors P.last_error P.looks P.last_look in PostsTurn eyes self.old post.old asks.items self.new post.new result }
-        ensures tells { let before : HandleSeen = record { made = P.made post.old; errors = P.errors post.old; last = P.last_error post.old } in let after : HandleSeen = record { made = P.made post.new; errors = P.errors post.new; last = P.last_error post.new } in Tells before after result }
+        ensures reports_that { let before : HandleSeen = record { made = P.made post.old; errors = P.errors post.old; last = P.last_error post.old } in let after : HandleSeen = record { made = P.made post.new; errors = P.errors post.new; last = P.last_error post.new } in ReportsThat before after result }
         ensures share { P.share post.new ≡ P.share post.old }
     {
         let waited = self.take_waiting();
@@ -377,7 +377,7 @@ impl RelayCalls {
         requires { place < length self.old.calls }
         ensures taken { let eyes : Eyes P = eyes_of P.made P.errors P.last_error P.looks P.last_look in TakesAt eyes place self.old post.old self.new post.new result }
         ensures many { length self.new.calls ≡ length self.old.calls }
-        ensures tells { let before : HandleSeen = record { made = P.made post.old; errors = P.errors post.old; last = P.last_error post.old } in let after : HandleSeen = record { made = P.made post.new; errors = P.errors post.new; last = P.last_error post.new } in TellsError before after result }
+        ensures reports_that { let before : HandleSeen = record { made = P.made post.old; errors = P.errors post.old; last = P.last_error post.old } in let after : HandleSeen = record { made = P.made post.new; errors = P.errors post.new; last = P.last_error post.new } in ReportsError before after result }
         ensures share { P.share post.new ≡ P.share post.old }
     {
         take_one(post, &mut self.calls[place])
@@ -388,7 +388,7 @@ impl RelayCalls {
         requires { place < length self.old.calls }
         ensures given_up { let eyes : Eyes P = eyes_of P.made P.errors P.last_error P.looks P.last_look in GivesUpAt eyes place self.old post.old self.new post.new result }
         ensures many { length self.new.calls ≡ length self.old.calls }
-        ensures tells { let before : HandleSeen = record { made = P.made post.old; errors = P.errors post.old; last = P.last_error post.old } in let after : HandleSeen = record { made = P.made post.new; errors = P.errors post.new; last = P.last_error post.new } in TellsError before after result }
+        ensures reports_that { let before : HandleSeen = record { made = P.made post.old; errors = P.errors post.old; last = P.last_error post.old } in let after : HandleSeen = record { made = P.made post.new; errors = P.errors post.new; last = P.last_error post.new } in ReportsError before after result }
         ensures share { P.share post.new ≡ P.share post.old }
     {
         give_up(post, &mut self.calls[place])
@@ -397,7 +397,7 @@ impl RelayCalls {
     /// Posts a Cancel for each call that is open, in the order of their Begins, and drops the asks that wait. A refusal is passed over.
     pub fn give_up_all<P: Post>(&mut self, post: &mut P) -> Result<(), PostError>
         ensures given_up { let eyes : Eyes P = eyes_of P.made P.errors P.last_error P.looks P.last_look in GivesUpAll eyes (record self.old { waiting = [] }) post.old self.new post.new result }
-        ensures tells { let before : HandleSeen = record { made = P.made post.old; errors = P.errors post.old; last = P.last_error post.old } in let after : HandleSeen = record { made = P.made post.new; errors = P.errors post.new; last = P.last_error post.new } in TellsError before after result }
+        ensures reports_that { let before : HandleSeen = record { made = P.made post.old; errors = P.errors post.old; last = P.last_error post.old } in let after : HandleSeen = record { made = P.made post.new; errors = P.errors post.new; last = P.last_error post.new } in ReportsError before after result }
         ensures share { P.share post.new ≡ P.share post.old }
     {
         self.waiting.clear();

@@ -2,7 +2,7 @@
 ghost use Rattle.std.specs.Prelude.{◌≡◌, Ok, true};
 ghost use Rattle.live_pump.specs.Pumps.{HandleSeen};
 ghost use Rattle.relay_calls.specs.Posting.{Eyes, eyes_of};
-ghost use Rattle.relay_calls.specs.Taking.{GaveUp, Gives, GivesUp, TakesIf, TakesOne, TellsError, item_of, taken};
+ghost use Rattle.relay_calls.specs.Taking.{GaveUp, Gives, GivesUp, TakesIf, TakesOne, ReportsError, item_of, taken};
 
 use crate::call::RelayCall;
 use grpc_base::{Event, Glance, Post, PostError, Reply};
@@ -30,7 +30,7 @@ fn note(call: &mut RelayCall, reply: &Reply)
 fn take_now<P: Post>(post: &mut P, call: &mut RelayCall) -> Result<Option<Reply>, PostError>
     ensures taken { let eyes : Eyes P = eyes_of P.made P.errors P.last_error P.looks P.last_look in TakesIf eyes true call.old post.old call.new post.new result }
     ensures looks { (P.looks post.new ≡ P.looks post.old) × (P.last_look post.new ≡ P.last_look post.old) }
-    ensures tells { let before : HandleSeen = record { made = P.made post.old; errors = P.errors post.old; last = P.last_error post.old } in let after : HandleSeen = record { made = P.made post.new; errors = P.errors post.new; last = P.last_error post.new } in TellsError before after result }
+    ensures reports_that { let before : HandleSeen = record { made = P.made post.old; errors = P.errors post.old; last = P.last_error post.old } in let after : HandleSeen = record { made = P.made post.new; errors = P.errors post.new; last = P.last_error post.new } in ReportsError before after result }
     ensures share { P.share post.new ≡ P.share post.old }
 {
     let number = call.call;
@@ -56,7 +56,7 @@ pub(crate) fn take_one<P: Post + Glance>(
     call: &mut RelayCall,
 ) -> Result<Option<Reply>, PostError>
     ensures taken { let eyes : Eyes P = eyes_of P.made P.errors P.last_error P.looks P.last_look in TakesOne eyes call.old post.old call.new post.new result }
-    ensures tells { let before : HandleSeen = record { made = P.made post.old; errors = P.errors post.old; last = P.last_error post.old } in let after : HandleSeen = record { made = P.made post.new; errors = P.errors post.new; last = P.last_error post.new } in TellsError before after result }
+    ensures reports_that { let before : HandleSeen = record { made = P.made post.old; errors = P.errors post.old; last = P.last_error post.old } in let after : HandleSeen = record { made = P.made post.new; errors = P.errors post.new; last = P.last_error post.new } in ReportsError before after result }
     ensures share { P.share post.new ≡ P.share post.old }
 {
     if !call.is_open {
@@ -71,7 +71,7 @@ pub(crate) fn take_one<P: Post + Glance>(
 /// Gives a call that is open up. A refusal is passed over.
 pub(crate) fn give_up<P: Post>(post: &mut P, call: &mut RelayCall) -> Result<(), PostError>
     ensures given_up { let eyes : Eyes P = eyes_of P.made P.errors P.last_error P.looks P.last_look in GivesUp eyes call.old post.old call.new post.new result }
-    ensures tells { let before : HandleSeen = record { made = P.made post.old; errors = P.errors post.old; last = P.last_error post.old } in let after : HandleSeen = record { made = P.made post.new; errors = P.errors post.new; last = P.last_error post.new } in TellsError before after result }
+    ensures reports_that { let before : HandleSeen = record { made = P.made post.old; errors = P.errors post.old; last = P.last_error post.old } in let after : HandleSeen = record { made = P.made post.new; errors = P.errors post.new; last = P.last_error post.new } in ReportsError before after result }
     ensures share { P.share post.new ≡ P.share post.old }
 {
     if !call.is_open {

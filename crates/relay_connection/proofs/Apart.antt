@@ -6,7 +6,7 @@ use Rattle.std.proofs.lemmas.List.Elements.{filter-append}
 use Rattle.grpc_base.specs.declared.event.Reply.{Reply}
 use Rattle.grpc_base.specs.declared.event.Reply.TheVariants as reply
 use Rattle.grpc_base.specs.declared.fields.Field.{Field}
-use Rattle.h2_server.specs.Heard.{Hearing}
+use Rattle.h2_server.specs.Received.{Receiving}
 use Rattle.h2_server.specs.Sends as sends
 use Rattle.h2_server.specs.Sends.{next_control}
 use Rattle.h2_server.specs.Wire.{Seen}
@@ -22,11 +22,11 @@ use Rattle.relay_connection.specs.declared.stream.RelayStream.{RelayStream}
 use Rattle.relay_connection.specs.declared.stream.StreamNews.{StreamNews}
 use Rattle.relay_connection.specs.declared.stream.StreamNews.TheVariants as stream
 use Rattle.relay_connection.specs.Draining.{next_by, step_as, step_at, stream_step}
-use Rattle.relay_connection.specs.Laws.{Event, Hears, Gives, Sends, after, asks_for, asks_from, ended_by, event_for, happened, if_own, item_moments, moments_for, news_for, Rises, stepped_relay}
+use Rattle.relay_connection.specs.Laws.{Event, Receives, Gives, Sends, after, asks_for, asks_from, ended_by, event_for, happened, if_own, item_moments, moments_for, news_for, Rises, stepped_relay}
 use Rattle.relay_asks.specs.Asking.{stream_of}
-use Rattle.relay_connection.specs.Relay.{Relay, Told, fresh_relay, given, given_at, given_by, on_stream, silent, stream_opened, told, told_at, told_by}
-use Rattle.relay_connection.specs.Streams.{cancels, is_over, item_given, may_send, put, sent, stream_begun, stream_told}
-use Rattle.relay_connection.proofs.Asks.{AreFor, for_other, for_own, moments_of, opened_for, opened_known, opened_number, over_asks, told_for, told_known, told_number}
+use Rattle.relay_connection.specs.Relay.{Relay, Report, fresh_relay, given, given_at, given_by, on_stream, silent, stream_opened, reported, reported_at, reported_by}
+use Rattle.relay_connection.specs.Streams.{cancels, is_over, item_given, may_send, put, sent, stream_begun, stream_reported}
+use Rattle.relay_connection.proofs.Asks.{AreFor, for_other, for_own, moments_of, opened_for, opened_known, opened_number, over_asks, reported_for, reported_known, reported_number}
 use Rattle.relay_connection.proofs.Rising.{is_at, is_nowhere, none_above, number_of, own, own_at, push_other, push_own, put_other, put_own, rises_most, rises_push, rises_put, rises_written, written_other, written_own}
 
 -- what is asked of the moments of a stream that is there
@@ -39,7 +39,7 @@ over_known u ms true e = sym (over_asks u ms e)
 over_known u ms false e = refl
 
 -- what something does, for the stream of a number
-record Keeps (n : ℕ) (r : Relay) (t : Told) (ms : List Moment) : Type 0 where
+record Keeps (n : ℕ) (r : Relay) (t : Report) (ms : List Moment) : Type 0 where
   rises : Rises 0 t.relay.streams t.relay.last
   last : r.last ≤ t.relay.last
   asks : (rest : List Moment) → asks_for n t.asks ++ known (own n t.relay.streams) rest ≡ known (own n r.streams) (ms ++ rest)
@@ -83,13 +83,13 @@ missing n m r l ms h none =
 
 stream_by : (n m : ℕ) (r : Relay) (l : Seen) (nw : StreamNews) (o : Option RelayStream) → own m r.streams ≡ o → Rises 0 r.streams r.last → Keeps n r (on_stream (record r { link = l }) m nw) (if_own n m (moments_of nw))
 stream_by n m r l nw None e h =
-    subst (λ (v : Told). Keeps n r v (if_own n m (moments_of nw))) (sym (ap (told_by (record r { link = l }) nw) (is_nowhere m r.streams e))) (missing n m r l (moments_of nw) h e)
+    subst (λ (v : Report). Keeps n r v (if_own n m (moments_of nw))) (sym (ap (reported_by (record r { link = l }) nw) (is_nowhere m r.streams e))) (missing n m r l (moments_of nw) h e)
 stream_by n m r l nw (Some s) e h =
     let p = is_at m r.streams s e in
-    let whole : on_stream (record r { link = l }) m nw ≡ told_at (record r { link = l }) p.place nw (Some s) =
-    ap (told_by (record r { link = l }) nw) p.position_is ∙ ap (told_at (record r { link = l }) p.place nw) p.there in
-    subst (λ (v : Told). Keeps n r v (if_own n m (moments_of nw))) (sym whole)
-    (changed n m r l p.place s (stream_told s nw).stream (stream_told s nw).asks (moments_of nw) h p.there p.number_is (told_number s nw) (subst (λ (k : ℕ). AreFor k (stream_told s nw).asks) p.number_is (told_for s nw)) (told_known s nw))
+    let whole : on_stream (record r { link = l }) m nw ≡ reported_at (record r { link = l }) p.place nw (Some s) =
+    ap (reported_by (record r { link = l }) nw) p.position_is ∙ ap (reported_at (record r { link = l }) p.place nw) p.there in
+    subst (λ (v : Report). Keeps n r v (if_own n m (moments_of nw))) (sym whole)
+    (changed n m r l p.place s (stream_reported s nw).stream (stream_reported s nw).asks (moments_of nw) h p.there p.number_is (reported_number s nw) (subst (λ (k : ℕ). AreFor k (stream_reported s nw).asks) p.number_is (reported_for s nw)) (reported_known s nw))
 
 stream_keeps : (n m : ℕ) (r : Relay) (l : Seen) (nw : StreamNews) → Rises 0 r.streams r.last → Keeps n r (on_stream (record r { link = l }) m nw) (if_own n m (moments_of nw))
 stream_keeps n m r l nw h = stream_by n m r l nw (own m r.streams) refl h
@@ -117,17 +117,17 @@ fields_by n m r l fields end false t h le = stream_keeps n m r l (stream.Trailer
 
 -- the link is broken
 cancels_by : (n : ℕ) (x : RelayStream) (xs : List RelayStream) (high : ℕ) (rest : List Moment) (b : Bool) → (number_of x == n) ≡ b → Rises (number_of x) xs high → asks_for n (cancels xs) ≡ known (own n xs) (Broke ∷ rest) → asks_for n (given_up x.asking).asks ++ asks_for n (cancels xs) ≡ known (if b then Some x else own n xs) (Broke ∷ rest)
-cancels_by n x xs high rest true t h behind =
+cancels_by n x xs high rest true t h afterwards =
     let own_is : number_of x ≡ n = eqb-true (number_of x) n t in
     let all : asks_for n (given_up x.asking).asks ≡ (given_up x.asking).asks =
-    for_own n (given_up x.asking).asks (subst (λ (k : ℕ). AreFor k (given_up x.asking).asks) own_is (told_for x stream.Breaks)) in
+    for_own n (given_up x.asking).asks (subst (λ (k : ℕ). AreFor k (given_up x.asking).asks) own_is (reported_for x stream.Breaks)) in
     let none : own n xs ≡ None = none_above n (number_of x) high xs h (omega (arith, own_is)) in
-    let others : asks_for n (cancels xs) ≡ [] = behind ∙ ap (λ (o : Option RelayStream). known o (Broke ∷ rest)) none in
+    let others : asks_for n (cancels xs) ≡ [] = afterwards ∙ ap (λ (o : Option RelayStream). known o (Broke ∷ rest)) none in
     ap₂ (λ (v w : List RelayAsk). v ++ w) all others
     ∙ ap (λ (w : List RelayAsk). (given_up x.asking).asks ++ w) (sym (nothing_asked x.asking.number x.asking.reader rest))
-cancels_by n x xs high rest false t h behind =
-    let none : asks_for n (given_up x.asking).asks ≡ [] = for_other n (number_of x) (given_up x.asking).asks (told_for x stream.Breaks) t in
-    ap (λ (v : List RelayAsk). v ++ asks_for n (cancels xs)) none ∙ behind
+cancels_by n x xs high rest false t h afterwards =
+    let none : asks_for n (given_up x.asking).asks ≡ [] = for_other n (number_of x) (given_up x.asking).asks (reported_for x stream.Breaks) t in
+    ap (λ (v : List RelayAsk). v ++ asks_for n (cancels xs)) none ∙ afterwards
 
 cancels_known : (n low high : ℕ) (xs : List RelayStream) (rest : List Moment) → Rises low xs high → asks_for n (cancels xs) ≡ known (own n xs) (Broke ∷ rest)
 cancels_known n low high [] rest h = refl
@@ -142,13 +142,13 @@ broken_keeps n r l h = record {
   asks = λ (rest : List Moment). append-nil (asks_for n (cancels r.streams)) ∙ cancels_known n 0 r.last r.streams rest h;
 }
 
-heard_keeps : (n : ℕ) (r : Relay) (l : Seen) (o : Option RequestNews) → Rises 0 r.streams r.last → n ≤ r.last → Keeps n r (told (record r { link = l }) o) (news_for n o)
-heard_keeps n r l None h le = keeps_still n r l h
-heard_keeps n r l (Some (news.Fields m fields end)) h le = fields_by n m r l fields end (nat_lt r.last m) refl h le
-heard_keeps n r l (Some (news.Data m octets end)) h le = stream_keeps n m r l (stream.Data octets end) h
-heard_keeps n r l (Some (news.Reset m code)) h le = stream_keeps n m r l stream.Breaks h
-heard_keeps n r l (Some (news.Fault m code)) h le = stream_keeps n m r l stream.Breaks h
-heard_keeps n r l (Some (news.Broken code)) h le = broken_keeps n r l h
+received_keeps : (n : ℕ) (r : Relay) (l : Seen) (o : Option RequestNews) → Rises 0 r.streams r.last → n ≤ r.last → Keeps n r (reported (record r { link = l }) o) (news_for n o)
+received_keeps n r l None h le = keeps_still n r l h
+received_keeps n r l (Some (news.Fields m fields end)) h le = fields_by n m r l fields end (nat_lt r.last m) refl h le
+received_keeps n r l (Some (news.Data m octets end)) h le = stream_keeps n m r l (stream.Data octets end) h
+received_keeps n r l (Some (news.Reset m code)) h le = stream_keeps n m r l stream.Breaks h
+received_keeps n r l (Some (news.Fault m code)) h le = stream_keeps n m r l stream.Breaks h
+received_keeps n r l (Some (news.Broken code)) h le = broken_keeps n r l h
 
 -- an item is given
 item_number : (s : RelayStream) (item : Reply) → number_of (item_given s item) ≡ number_of s
@@ -232,7 +232,7 @@ sent_next n r None h = sent_stream n r (position (may_send r.link.wire) r.stream
 sent_next n r (Some s) h = keeps_still n r (record r.link { wire = s.wire }) h
 
 event_keeps : (n : ℕ) (r : Relay) (e : Event) → Rises 0 r.streams r.last → n ≤ r.last → Keeps n r (happened r e) (event_for n e)
-event_keeps n r (Hears h) rises le = heard_keeps n r h.link h.news rises le
+event_keeps n r (Receives h) rises le = received_keeps n r h.link h.news rises le
 event_keeps n r (Gives m item) rises le = given_as n m r item (own m r.streams) refl rises
 event_keeps n r Sends rises le = sent_next n r (next_control r.link.wire) rises
 
@@ -266,7 +266,7 @@ pub rising : (before : List Event) → Rises 0 (after fresh_relay before).stream
 rising before = all_rises before fresh_relay (omega arith)
 
 -- of a stream that begins
-pub apart : (before events : List Event) (h : Hearing) (n : ℕ) (fields : List Field) (end : Bool) → (after fresh_relay before).last < n → h.news ≡ Some (news.Fields n fields end) → asks_for n (asks_from (after fresh_relay before) (Hears h ∷ events)) ≡ (begun n fields).asks ++ asking.asks_from (begun n fields).stream (ended_by end ++ moments_for n events)
+pub apart : (before events : List Event) (h : Receiving) (n : ℕ) (fields : List Field) (end : Bool) → (after fresh_relay before).last < n → h.news ≡ Some (news.Fields n fields end) → asks_for n (asks_from (after fresh_relay before) (Receives h ∷ events)) ≡ (begun n fields).asks ++ asking.asks_from (begun n fields).stream (ended_by end ++ moments_for n events)
 apart before events h n fields end lt e =
     let r = after fresh_relay before in
     let rises = rising before in
@@ -274,13 +274,13 @@ apart before events h n fields end lt e =
     let b = stream_begun n fields end in
     let t = stream_opened q n fields end in
     let test : nat_lt r.last n ≡ true = lt-ltb r.last n lt in
-    let whole : told q h.news ≡ t = ap (told q) e ∙ ap (λ (v : Bool). if v then t else on_stream q n (stream.Trailers end)) test in
+    let whole : reported q h.news ≡ t = ap (reported q) e ∙ ap (λ (v : Bool). if v then t else on_stream q n (stream.Trailers end)) test in
     let number = opened_number n fields end in
     let none : own n r.streams ≡ None = none_in n 0 r.last r.streams rises lt in
     let own_is : own n t.relay.streams ≡ Some b.stream = push_own n r.streams b.stream none number in
     let rest = all_known n events t.relay (rises_push 0 r.last n r.streams b.stream rises lt number) (omega arith) in
     let all : asks_for n b.asks ≡ b.asks = for_own n b.asks (opened_for n fields end) in
-    ap (λ (v : Told). asks_for n (v.asks ++ asks_from v.relay events)) whole
+    ap (λ (v : Report). asks_for n (v.asks ++ asks_from v.relay events)) whole
     ∙ (filter-append (λ a. stream_of a == n) b.asks (asks_from t.relay events)
     ∙ (ap₂ (λ (x y : List RelayAsk). x ++ y) all (rest ∙ ap (λ (o : Option RelayStream). known o (moments_for n events)) own_is)
     ∙ opened_known n fields end (moments_for n events)))

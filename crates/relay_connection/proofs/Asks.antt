@@ -7,7 +7,7 @@ use Rattle.grpc_frame.specs.declared.next.MessageFault.{MessageFault}
 use Rattle.grpc_frame.specs.Reader.{ReaderSeen, given}
 use Rattle.relay_asks.specs.declared.ask.RelayAsk.{RelayAsk}
 use Rattle.relay_asks.specs.declared.ask.RelayAsk.TheVariants as ask
-use Rattle.relay_asks.specs.Asking.{Asking, begun, begun_by, data_told, fed, judged, sent, unchanged}
+use Rattle.relay_asks.specs.Asking.{Asking, begun, begun_by, data_reported, fed, judged, sent, unchanged}
 use Rattle.relay_asks.specs.Laws.{Moment, Came, Ended, Answered, Broke}
 use Rattle.relay_asks.specs.Laws as asking
 use Rattle.relay_asks.proofs.Asked.{nothing_asked}
@@ -20,7 +20,7 @@ use Rattle.relay_connection.specs.declared.stream.StreamNews.{StreamNews}
 use Rattle.relay_connection.specs.declared.stream.StreamNews.TheVariants as news
 use Rattle.relay_connection.specs.Laws.{asks_for, ended_by}
 use Rattle.relay_asks.specs.Asking.{stream_of}
-use Rattle.relay_connection.specs.Streams.{begun_as, ended_if, is_over, stream_begun, stream_told, with_status}
+use Rattle.relay_connection.specs.Streams.{begun_as, ended_if, is_over, stream_begun, stream_reported, with_status}
 use Rattle.relay_connection.proofs.Rising.{number_of}
 
 -- all of them are of this stream
@@ -83,29 +83,29 @@ are_end : (end : Bool) (s : RelayStream) → AreFor (number_of s) (ended_if end 
 are_end true s = are_finish (number_of s) s.asking.asking
 are_end false s = tt
 
--- a stream behind DATA, and one behind its header list
+-- a stream after DATA, and one after its header list
 abbrev data_stream : RelayStream → List ℕ → RelayStream
 data_stream s octets =
-    record { asking = (data_told s.asking octets).stream; answer = with_status s.answer (data_told s.asking octets).status }
+    record { asking = (data_reported s.asking octets).stream; answer = with_status s.answer (data_reported s.asking octets).status }
 
 abbrev begun_stream : ℕ → List Field → RelayStream
 begun_stream n fields = record { asking = (begun n fields).stream; answer = with_status fresh (begun n fields).status }
 
 -- what news make a stream ask is its own
-pub told_number : (s : RelayStream) (n : StreamNews) → number_of (stream_told s n).stream ≡ number_of s
-told_number s (news.Data octets end) =
+pub reported_number : (s : RelayStream) (n : StreamNews) → number_of (stream_reported s n).stream ≡ number_of s
+reported_number s (news.Data octets end) =
     end_number end (data_stream s octets) ∙ data_number s.asking octets s.asking.asking
-told_number s (news.Trailers end) = end_number end s
-told_number s news.Breaks = refl
+reported_number s (news.Trailers end) = end_number end s
+reported_number s news.Breaks = refl
 
-pub told_for : (s : RelayStream) (n : StreamNews) → AreFor (number_of s) (stream_told s n).asks
-told_for s (news.Data octets end) =
+pub reported_for : (s : RelayStream) (n : StreamNews) → AreFor (number_of s) (stream_reported s n).asks
+reported_for s (news.Data octets end) =
     let t = data_stream s octets in
     let own : AreFor (number_of s) (ended_if end t).asks =
     subst (λ (k : ℕ). AreFor k (ended_if end t).asks) (data_number s.asking octets s.asking.asking) (are_end end t) in
-    are_both (number_of s) (data_told s.asking octets).asks (ended_if end t).asks (are_data s.asking octets s.asking.asking) own
-told_for s (news.Trailers end) = are_end end s
-told_for s news.Breaks = are_cancel (number_of s) s.asking.is_open
+    are_both (number_of s) (data_reported s.asking octets).asks (ended_if end t).asks (are_data s.asking octets s.asking.asking) own
+reported_for s (news.Trailers end) = are_end end s
+reported_for s news.Breaks = are_cancel (number_of s) s.asking.is_open
 
 -- and the same as the moments that they are for it
 abbrev pub moments_of : StreamNews → List Moment
@@ -117,14 +117,14 @@ end_known : (end : Bool) (s : RelayStream) (ms : List Moment) → (ended_if end 
 end_known true s ms = refl
 end_known false s ms = refl
 
-pub told_known : (s : RelayStream) (n : StreamNews) (ms : List Moment) → (stream_told s n).asks ++ asking.asks_from (stream_told s n).stream.asking ms ≡ asking.asks_from s.asking (moments_of n ++ ms)
-told_known s (news.Data octets end) ms =
-    let d = data_told s.asking octets in
+pub reported_known : (s : RelayStream) (n : StreamNews) (ms : List Moment) → (stream_reported s n).asks ++ asking.asks_from (stream_reported s n).stream.asking ms ≡ asking.asks_from s.asking (moments_of n ++ ms)
+reported_known s (news.Data octets end) ms =
+    let d = data_reported s.asking octets in
     let t = data_stream s octets in
     append_assoc d.asks (ended_if end t).asks (asking.asks_from (ended_if end t).stream.asking ms)
     ∙ ap (λ (l : List RelayAsk). d.asks ++ l) (end_known end t ms)
-told_known s (news.Trailers end) ms = end_known end s ms
-told_known s news.Breaks ms = refl
+reported_known s (news.Trailers end) ms = end_known end s ms
+reported_known s news.Breaks ms = refl
 
 -- a stream that is over asks nothing more
 over_by : (n : ℕ) (a o sent : Bool) (r : ReaderSeen) (ms : List Moment) → (not a && not o && sent) ≡ true → asking.asks_from (record { number = n; asking = a; is_open = o; reader = r }) ms ≡ []

@@ -3,12 +3,12 @@ use Rattle.std.proofs.Common.{◌≡◌, ◌≢◌, ℕ, zero, suc, ◌<◌, ◌
 use Rattle.std.specs.Prelude.{Option, is_some, ◌==◌, ◌||◌}
 use Rattle.std.proofs.Math.Seq.{drop-append-add}
 use Rattle.std.proofs.lemmas.List.{drop-append-le, drop_all}
-use Rattle.h2_server.specs.Heard.{heard, heard_with, heard_behind, front_of}
-use Rattle.h2_server.specs.Wire.{Seen, Told}
-use Rattle.h2_server.proofs.Cuts.{heard_stays, heard_goes_on}
-use Rattle.h2_server.proofs.Fronts.{within}
+use Rattle.h2_server.specs.Received.{handled, received_with, received_after, prefix_of}
+use Rattle.h2_server.specs.Wire.{Seen, Report}
+use Rattle.h2_server.proofs.Cuts.{received_stays, received_goes_on}
+use Rattle.h2_server.proofs.Prefixes.{within}
 use Rattle.relay_asks.specs.declared.ask.RelayAsk.{RelayAsk}
-use Rattle.relay_connection.specs.Arriving.{Arrives, Arriving, after_steps, is_done, stepped, told_of}
+use Rattle.relay_connection.specs.Arriving.{Arrives, Arriving, after_steps, is_done, stepped, reported_of}
 use Rattle.relay_connection.specs.Relay as relay
 
 -- the first step first
@@ -23,7 +23,7 @@ done_steps : (n : ℕ) (a : Arriving) → is_done a ≡ true → after_steps n a
 done_steps zero a d = refl
 done_steps (suc n) a d = ap stepped (done_steps n a d) ∙ done_stays a d
 
-open_step : (a : Arriving) → is_done a ≡ false → stepped a ≡ record { state = told_of a.state (heard a.state.relay.link a.rest); rest = drop (heard a.state.relay.link a.rest).taken a.rest }
+open_step : (a : Arriving) → is_done a ≡ false → stepped a ≡ record { state = reported_of a.state (handled a.state.relay.link a.rest); rest = drop (handled a.state.relay.link a.rest).taken a.rest }
 open_step a d = rw d refl
 
 -- a link that is not broken, with bytes that are left
@@ -47,7 +47,7 @@ not_done a o =
     let zero_not : (length a.rest == 0) ≡ false = grind arith in
     rw o.whole zero_not
 
--- behind more bytes
+-- after more bytes
 abbrev more : Arriving → List ℕ → Arriving
 more a q = record { state = a.state; rest = a.rest ++ q }
 
@@ -57,21 +57,21 @@ open_more a q d =
     not_done (more a q) (record { whole = o.whole; some = omega (arith, o.some, length-append a.rest q) })
 
 -- what a link shows of some bytes, it takes of them
-taken_within : (l : Seen) (p : List ℕ) (v : ℕ × Told) → front_of l.greeted l.wire (l.rest ++ p) ≡ Some v → (heard l p).taken ≤ length p
+taken_within : (l : Seen) (p : List ℕ) (v : ℕ × Report) → prefix_of l.prefaced l.wire (l.rest ++ p) ≡ Some v → (handled l p).taken ≤ length p
 taken_within l p v e =
-    let taken : (heard l p).taken ≡ v.0 - length l.rest = ap (λ (o : Option (ℕ × Told)). (heard_with l p o).taken) e in
-    let le = within l.greeted l.wire (l.rest ++ p) v e in
+    let taken : (handled l p).taken ≡ v.0 - length l.rest = ap (λ (o : Option (ℕ × Report)). (received_with l p o).taken) e in
+    let le = within l.prefaced l.wire (l.rest ++ p) v e in
     omega (arith, taken, le, length-append l.rest p)
 
-shown_more : (a : Arriving) (q : List ℕ) (v : ℕ × Told) → is_done a ≡ false → front_of a.state.relay.link.greeted a.state.relay.link.wire (a.state.relay.link.rest ++ a.rest) ≡ Some v → stepped (more a q) ≡ more (stepped a) q
+shown_more : (a : Arriving) (q : List ℕ) (v : ℕ × Report) → is_done a ≡ false → prefix_of a.state.relay.link.prefaced a.state.relay.link.wire (a.state.relay.link.rest ++ a.rest) ≡ Some v → stepped (more a q) ≡ more (stepped a) q
 shown_more a q v d e =
     let l = a.state.relay.link in
-    let some : front_of l.greeted l.wire (l.rest ++ a.rest) ≢ None = λ n. absurd (cc) in
-    let stays : heard l (a.rest ++ q) ≡ heard l a.rest = heard_stays l a.rest q some in
-    let rest : drop (heard l a.rest).taken (a.rest ++ q) ≡ drop (heard l a.rest).taken a.rest ++ q = drop-append-le (heard l a.rest).taken a.rest q (taken_within l a.rest v e) in
+    let some : prefix_of l.prefaced l.wire (l.rest ++ a.rest) ≢ None = λ n. absurd (cc) in
+    let stays : handled l (a.rest ++ q) ≡ handled l a.rest = received_stays l a.rest q some in
+    let rest : drop (handled l a.rest).taken (a.rest ++ q) ≡ drop (handled l a.rest).taken a.rest ++ q = drop-append-le (handled l a.rest).taken a.rest q (taken_within l a.rest v e) in
     open_step (more a q) (open_more a q d)
-    ∙ (ap (λ h. record { state = told_of a.state h; rest = drop h.taken (a.rest ++ q) }) stays
-    ∙ (ap (λ (t : List ℕ). record { state = told_of a.state (heard l a.rest); rest = t }) rest
+    ∙ (ap (λ h. record { state = reported_of a.state h; rest = drop h.taken (a.rest ++ q) }) stays
+    ∙ (ap (λ (t : List ℕ). record { state = reported_of a.state (handled l a.rest); rest = t }) rest
     ∙ sym (ap (λ (b : Arriving). more b q) (open_step a d))))
 
 -- what it does not show yet, it keeps
@@ -81,42 +81,42 @@ kept a = record {
   rest = [];
 }
 
-hidden_is : (a : Arriving) → is_done a ≡ false → front_of a.state.relay.link.greeted a.state.relay.link.wire (a.state.relay.link.rest ++ a.rest) ≡ None → stepped a ≡ kept a
+hidden_is : (a : Arriving) → is_done a ≡ false → prefix_of a.state.relay.link.prefaced a.state.relay.link.wire (a.state.relay.link.rest ++ a.rest) ≡ None → stepped a ≡ kept a
 hidden_is a d e =
     let l = a.state.relay.link in
-    let h : heard l a.rest ≡ heard_with l a.rest None = ap (heard_with l a.rest) e in
+    let h : handled l a.rest ≡ received_with l a.rest None = ap (received_with l a.rest) e in
     open_step a d
-    ∙ (ap (λ v. record { state = told_of a.state v; rest = drop v.taken a.rest }) h
-    ∙ (ap (λ (t : List ℕ). record { state = told_of a.state (heard_with l a.rest None); rest = t }) (drop_all (length a.rest) a.rest (omega arith))
+    ∙ (ap (λ v. record { state = reported_of a.state v; rest = drop v.taken a.rest }) h
+    ∙ (ap (λ (t : List ℕ). record { state = reported_of a.state (received_with l a.rest None); rest = t }) (drop_all (length a.rest) a.rest (omega arith))
     ∙ ap (λ (asks : List RelayAsk). record { state = record (kept a).state { asks = asks }; rest = [] }) (append-nil a.state.asks)))
 
-hidden_more : (a : Arriving) (q : List ℕ) → is_done a ≡ false → 0 < length q → front_of a.state.relay.link.greeted a.state.relay.link.wire (a.state.relay.link.rest ++ a.rest) ≡ None → stepped (more a q) ≡ stepped (record (kept a) { rest = q })
+hidden_more : (a : Arriving) (q : List ℕ) → is_done a ≡ false → 0 < length q → prefix_of a.state.relay.link.prefaced a.state.relay.link.wire (a.state.relay.link.rest ++ a.rest) ≡ None → stepped (more a q) ≡ stepped (record (kept a) { rest = q })
 hidden_more a q d some e =
     let l = a.state.relay.link in
     let k : Arriving = record (kept a) { rest = q } in
-    let h = heard k.state.relay.link q in
-    let link : (heard l a.rest).link ≡ k.state.relay.link = ap (λ (o : Option (ℕ × Told)). (heard_with l a.rest o).link) e in
-    let goes : heard l (a.rest ++ q) ≡ heard_behind (length a.rest) h = heard_goes_on l a.rest q e ∙ ap (λ (v : Seen). heard_behind (length a.rest) (heard v q)) link in
+    let h = handled k.state.relay.link q in
+    let link : (handled l a.rest).link ≡ k.state.relay.link = ap (λ (o : Option (ℕ × Report)). (received_with l a.rest o).link) e in
+    let goes : handled l (a.rest ++ q) ≡ received_after (length a.rest) h = received_goes_on l a.rest q e ∙ ap (λ (v : Seen). received_after (length a.rest) (handled v q)) link in
     let o = is_open a d in
     let kd : is_done k ≡ false = not_done k (record { whole = o.whole; some = some }) in
     open_step (more a q) (open_more a q d)
-    ∙ (ap (λ v. record { state = told_of a.state v; rest = drop v.taken (a.rest ++ q) }) goes
-    ∙ (ap (λ (t : List ℕ). record { state = told_of k.state h; rest = t }) (drop-append-add a.rest q h.taken)
+    ∙ (ap (λ v. record { state = reported_of a.state v; rest = drop v.taken (a.rest ++ q) }) goes
+    ∙ (ap (λ (t : List ℕ). record { state = reported_of k.state h; rest = t }) (drop-append-add a.rest q h.taken)
     ∙ sym (open_step k kd)))
 
 -- steps over some bytes and then over more are steps over both
-pub record Joined (a : Arriving) (z : relay.Told) : Type 0 where
+pub record Joined (a : Arriving) (z : relay.Report) : Type 0 where
   pub count : ℕ
   pub state : (after_steps count a).state ≡ z
   pub done : is_done (after_steps count a) ≡ true
 
-first_by : (a b : Arriving) (z : relay.Told) → stepped a ≡ stepped b → is_done b ≡ false → (n : ℕ) → (after_steps n b).state ≡ z → is_done (after_steps n b) ≡ true → Joined a z
+first_by : (a b : Arriving) (z : relay.Report) → stepped a ≡ stepped b → is_done b ≡ false → (n : ℕ) → (after_steps n b).state ≡ z → is_done (after_steps n b) ≡ true → Joined a z
 first_by a b z e d zero s k = absurd (cc)
 first_by a b z e d (suc n) s k =
     let same : after_steps (suc n) a ≡ after_steps (suc n) b = shift n a ∙ (ap (after_steps n) e ∙ sym (shift n b)) in
     record { count = suc n; state = ap (λ (v : Arriving). v.state) same ∙ s; done = ap is_done same ∙ k }
 
-first_again : (a b : Arriving) (z : relay.Told) → stepped a ≡ stepped b → is_done b ≡ false → Joined b z → Joined a z
+first_again : (a b : Arriving) (z : relay.Report) → stepped a ≡ stepped b → is_done b ≡ false → Joined b z → Joined a z
 first_again a b z e d j = first_by a b z e d j.count j.state j.done
 
 nothing_left : (p : List ℕ) → length p ≡ 0 → p ≡ []
@@ -124,7 +124,7 @@ nothing_left [] e = refl
 nothing_left (b ∷ p) e = absurd (omega (arith, e))
 
 -- one step before
-one_before : (a : Arriving) (z : relay.Told) → Joined (stepped a) z → Joined a z
+one_before : (a : Arriving) (z : relay.Report) → Joined (stepped a) z → Joined a z
 one_before a z j = record {
   count = suc j.count;
   state = ap (λ (v : Arriving). v.state) (shift j.count a) ∙ j.state;
@@ -132,7 +132,7 @@ one_before a z j = record {
 }
 
 -- a link that is broken does nothing
-broken_does : (x z : relay.Told) (p q : List ℕ) → is_some x.relay.link.wire.broken ≡ true → Joined (record { state = x; rest = p }) z → Joined (record { state = x; rest = q }) z
+broken_does : (x z : relay.Report) (p q : List ℕ) → is_some x.relay.link.wire.broken ≡ true → Joined (record { state = x; rest = p }) z → Joined (record { state = x; rest = q }) z
 broken_does x z p q b j =
     let P : List ℕ → Arriving = λ t. record { state = x; rest = t } in
     let done : (t : List ℕ) → is_done (P t) ≡ true = λ t. rw b refl in
@@ -142,7 +142,7 @@ broken_does x z p q b j =
       done = done q;
     }
 
-join_done : (a : Arriving) (z : relay.Told) (q : List ℕ) (b c : Bool) → is_some a.state.relay.link.wire.broken ≡ b → (length a.rest == 0) ≡ c → (b || c) ≡ true → Joined (record { state = a.state; rest = q }) z → Joined (more a q) z
+join_done : (a : Arriving) (z : relay.Report) (q : List ℕ) (b c : Bool) → is_some a.state.relay.link.wire.broken ≡ b → (length a.rest == 0) ≡ c → (b || c) ≡ true → Joined (record { state = a.state; rest = q }) z → Joined (more a q) z
 join_done a z q true c e f d j = broken_does a.state z q (a.rest ++ q) e j
 join_done a z q false true e f d j =
     let none : length a.rest ≡ 0 = grind arith in
@@ -150,30 +150,30 @@ join_done a z q false true e f d j =
     subst (λ (t : List ℕ). Joined (record { state = a.state; rest = t ++ q }) z) (sym nil) j
 join_done a z q false false e f d j = absurd (cc)
 
-join_front : (a : Arriving) (z : relay.Told) (q : List ℕ) (o : Option (ℕ × Told)) → front_of a.state.relay.link.greeted a.state.relay.link.wire (a.state.relay.link.rest ++ a.rest) ≡ o → is_done a ≡ false → Joined (more (stepped a) q) z → Joined (more a q) z
-join_front a z q (Some v) e d j = one_before (more a q) z (subst (λ (b : Arriving). Joined b z) (sym (shown_more a q v d e)) j)
-join_front a z [] None e d j =
+join_prefix : (a : Arriving) (z : relay.Report) (q : List ℕ) (o : Option (ℕ × Report)) → prefix_of a.state.relay.link.prefaced a.state.relay.link.wire (a.state.relay.link.rest ++ a.rest) ≡ o → is_done a ≡ false → Joined (more (stepped a) q) z → Joined (more a q) z
+join_prefix a z q (Some v) e d j = one_before (more a q) z (subst (λ (b : Arriving). Joined b z) (sym (shown_more a q v d e)) j)
+join_prefix a z [] None e d j =
     let nil : more a [] ≡ a = ap (λ (t : List ℕ). record { state = a.state; rest = t }) (append-nil a.rest) in
     let back : more (stepped a) [] ≡ stepped a = ap (λ (t : List ℕ). record { state = (stepped a).state; rest = t }) (append-nil (stepped a).rest) in
     subst (λ (b : Arriving). Joined b z) (sym nil) (one_before a z (subst (λ (b : Arriving). Joined b z) back j))
-join_front a z (c ∷ q) None e d j =
+join_prefix a z (c ∷ q) None e d j =
     let k : Arriving = record (kept a) { rest = c ∷ q } in
     let there : more (stepped a) (c ∷ q) ≡ k = ap (λ (b : Arriving). more b (c ∷ q)) (hidden_is a d e) in
     let o = is_open a d in
     let kd : is_done k ≡ false = not_done k (record { whole = o.whole; some = omega arith }) in
     first_again (more a (c ∷ q)) k z (hidden_more a (c ∷ q) d (omega arith) e) kd (subst (λ (b : Arriving). Joined b z) there j)
 
-join_by : (n : ℕ) (a : Arriving) (y z : relay.Told) (q : List ℕ) (b : Bool) → is_done a ≡ b → (after_steps n a).state ≡ y → is_done (after_steps n a) ≡ true → Joined (record { state = y; rest = q }) z → Joined (more a q) z
+join_by : (n : ℕ) (a : Arriving) (y z : relay.Report) (q : List ℕ) (b : Bool) → is_done a ≡ b → (after_steps n a).state ≡ y → is_done (after_steps n a) ≡ true → Joined (record { state = y; rest = q }) z → Joined (more a q) z
 join_by n a y z q true d s k j =
     let same : a.state ≡ y = sym (ap (λ (v : Arriving). v.state) (done_steps n a d)) ∙ s in
-    join_done a z q (is_some a.state.relay.link.wire.broken) (length a.rest == 0) refl refl d (subst (λ (x : relay.Told). Joined (record { state = x; rest = q }) z) (sym same) j)
+    join_done a z q (is_some a.state.relay.link.wire.broken) (length a.rest == 0) refl refl d (subst (λ (x : relay.Report). Joined (record { state = x; rest = q }) z) (sym same) j)
 join_by zero a y z q false d s k j = absurd (cc)
 join_by (suc n) a y z q false d s k j =
     let first = shift n a in
     let rest = join_by n (stepped a) y z q (is_done (stepped a)) refl (sym (ap (λ (v : Arriving). v.state) first) ∙ s) (sym (ap is_done first) ∙ k) j in
-    join_front a z q (front_of a.state.relay.link.greeted a.state.relay.link.wire (a.state.relay.link.rest ++ a.rest)) refl d rest
+    join_prefix a z q (prefix_of a.state.relay.link.prefaced a.state.relay.link.wire (a.state.relay.link.rest ++ a.rest)) refl d rest
 
-pub pieces_join : (x y z : relay.Told) (p q : List ℕ) → Arrives x p y → Arrives y q z → Arrives x (p ++ q) z
+pub pieces_join : (x y z : relay.Report) (p q : List ℕ) → Arrives x p y → Arrives y q z → Arrives x (p ++ q) z
 pieces_join x y z p q a b =
     let j = join_by a.count (record { state = x; rest = p }) y z q (is_done (record { state = x; rest = p })) refl a.state a.done (record { count = b.count; state = b.state; done = b.done }) in
     record { count = j.count; state = j.state; done = j.done }

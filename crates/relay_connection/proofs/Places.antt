@@ -5,8 +5,8 @@ use Rattle.grpc_base.specs.declared.event.Reply.{Reply}
 use Rattle.relay_asks.specs.declared.ask.RelayAsk.{RelayAsk}
 use Rattle.relay_connection.specs.declared.stream.RelayStream.{RelayStream}
 use Rattle.relay_connection.specs.declared.stream.StreamNews.{StreamNews}
-use Rattle.relay_connection.specs.Relay.{Relay, Told, given, given_at, given_by, on_stream, told_at, told_by}
-use Rattle.relay_connection.specs.Streams.{given_to, is_numbered, put, settled, stream_told}
+use Rattle.relay_connection.specs.Relay.{Relay, Report, given, given_at, given_by, on_stream, reported_at, reported_by}
+use Rattle.relay_connection.specs.Streams.{given_to, is_numbered, put, settled, stream_reported}
 
 pub get_set : (xs : List RelayStream) (i : ℕ) (t u : RelayStream) → slice_get xs i ≡ Some t → slice_get (slice_set xs i u) i ≡ Some u
 get_set [] i t u e = absurd (cc)
@@ -31,19 +31,19 @@ put_at xs zs place x y u e same h =
     ∙ ap (put xs place) same
 
 -- news of a stream
-pub record IsTold (r : Relay) (number : ℕ) (n : StreamNews) (zs : List RelayStream) (old new : List RelayAsk) : Type 0 where
+pub record IsReported (r : Relay) (number : ℕ) (n : StreamNews) (zs : List RelayStream) (old new : List RelayAsk) : Type 0 where
   pub relay : ◌≡◌ {A = Relay} (record r { streams = zs }) (on_stream r number n).relay
   pub asks : new ≡ old ++ (on_stream r number n).asks
 
-pub told_there : (r : Relay) (number place : ℕ) (n : StreamNews) (zs : List RelayStream) (old new : List RelayAsk) → position (is_numbered number) r.streams ≡ Some place → place < length r.streams → IfSome (slice_get r.streams place) (λ s. zs ≡ put r.streams place (stream_told s n).stream) → IfSome (slice_get r.streams place) (λ s. new ≡ old ++ (stream_told s n).asks) → IsTold r number n zs old new
-told_there r number place n zs old new p lt streams asks =
+pub reported_there : (r : Relay) (number place : ℕ) (n : StreamNews) (zs : List RelayStream) (old new : List RelayAsk) → position (is_numbered number) r.streams ≡ Some place → place < length r.streams → IfSome (slice_get r.streams place) (λ s. zs ≡ put r.streams place (stream_reported s n).stream) → IfSome (slice_get r.streams place) (λ s. new ≡ old ++ (stream_reported s n).asks) → IsReported r number n zs old new
+reported_there r number place n zs old new p lt streams asks =
     let t = there_is r.streams place lt in
-    let whole : on_stream r number n ≡ told_at r place n (Some t.0) = ap (told_by r n) p ∙ ap (told_at r place n) t.1 in
-    let zs_is = some_is (λ (s : RelayStream). zs ≡ put r.streams place (stream_told s n).stream) r.streams place t.0 t.1 streams in
-    let asks_are = some_is (λ (s : RelayStream). new ≡ old ++ (stream_told s n).asks) r.streams place t.0 t.1 asks in
+    let whole : on_stream r number n ≡ reported_at r place n (Some t.0) = ap (reported_by r n) p ∙ ap (reported_at r place n) t.1 in
+    let zs_is = some_is (λ (s : RelayStream). zs ≡ put r.streams place (stream_reported s n).stream) r.streams place t.0 t.1 streams in
+    let asks_are = some_is (λ (s : RelayStream). new ≡ old ++ (stream_reported s n).asks) r.streams place t.0 t.1 asks in
     record {
-      relay = ap (λ (l : List RelayStream). record r { streams = l }) zs_is ∙ sym (ap (λ (v : Told). v.relay) whole);
-      asks = asks_are ∙ sym (ap (λ (v : Told). old ++ v.asks) whole);
+      relay = ap (λ (l : List RelayStream). record r { streams = l }) zs_is ∙ sym (ap (λ (v : Report). v.relay) whole);
+      asks = asks_are ∙ sym (ap (λ (v : Report). old ++ v.asks) whole);
     }
 
 -- an item of its call's response

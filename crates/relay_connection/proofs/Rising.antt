@@ -147,8 +147,8 @@ push_other n (x ∷ xs) u d =
     ap (λ (o : Option RelayStream). if (number_of x == n) then Some x else o) (push_other n xs u d)
 
 push_own_by : (n : ℕ) (x : RelayStream) (xs : List RelayStream) (u : RelayStream) (b : Bool) → (if b then Some x else own n xs) ≡ None → (own n xs ≡ None → own n (xs ++ u ∷ []) ≡ Some u) → (if b then Some x else own n (xs ++ u ∷ [])) ≡ Some u
-push_own_by n x xs u true none behind = absurd (cc)
-push_own_by n x xs u false none behind = behind none
+push_own_by n x xs u true none afterwards = absurd (cc)
+push_own_by n x xs u false none afterwards = afterwards none
 
 pub push_own : (n : ℕ) (xs : List RelayStream) (u : RelayStream) → own n xs ≡ None → number_of u ≡ n → own n (xs ++ u ∷ []) ≡ Some u
 push_own n [] u none e = let test : (number_of u == n) ≡ true = eq-eqb (number_of u) n e in rw test refl
@@ -162,9 +162,9 @@ pub record IsAt (n : ℕ) (xs : List RelayStream) (s : RelayStream) : Type 0 whe
   pub number_is : number_of s ≡ n
 
 own_number_by : (n : ℕ) (x s : RelayStream) (xs : List RelayStream) (b : Bool) → (number_of x == n) ≡ b → (own n xs ≡ Some s → number_of s ≡ n) → (if b then Some x else own n xs) ≡ Some s → number_of s ≡ n
-own_number_by n x s xs true t behind e =
+own_number_by n x s xs true t afterwards e =
     let same : x ≡ s = cc in sym (ap number_of same) ∙ eqb-true (number_of x) n t
-own_number_by n x s xs false t behind e = behind e
+own_number_by n x s xs false t afterwards e = afterwards e
 
 own_number : (n : ℕ) (xs : List RelayStream) (s : RelayStream) → own n xs ≡ Some s → number_of s ≡ n
 own_number n [] s e = absurd (cc)

@@ -2,19 +2,19 @@
 use Rattle.std.specs.Prelude.{ℕ, ◌<◌, ◌≤◌, ◌==◌, Bool, if◌then◌else◌, Option, Some, None, List, [], ◌∷◌, ◌++◌, filter}
 use Rattle.grpc_base.specs.declared.event.Reply.{Reply}
 use Rattle.grpc_base.specs.declared.event.Reply.TheVariants as reply
-use Rattle.h2_server.specs.Heard.{Hearing}
+use Rattle.h2_server.specs.Received.{Receiving}
 use Rattle.h2_server.specs.declared.news.RequestNews.{RequestNews}
 use Rattle.h2_server.specs.declared.news.RequestNews.TheVariants as news
 use Rattle.relay_asks.specs.Asking.{stream_of}
 use Rattle.relay_asks.specs.Laws.{Moment, Came, Ended, Answered, Broke}
 use Rattle.relay_asks.specs.declared.ask.RelayAsk.{RelayAsk}
 use Rattle.relay_connection.specs.Draining.{Step, next}
-use Rattle.relay_connection.specs.Relay.{Relay, Told, given, silent, told}
+use Rattle.relay_connection.specs.Relay.{Relay, Report, given, silent, reported}
 use Rattle.relay_connection.specs.declared.stream.RelayStream.{RelayStream}
 
--- what happens to a connection: a frame of the client is heard, an item of a response is given, a frame is sent
+-- what happens to a connection: a frame of the client is handled, an item of a response is given, a frame is sent
 pub data Event : Type 0 where
-  Hears : Hearing → Event
+  Receives : Receiving → Event
   Gives : ℕ → Reply → Event
   Sends : Event
 
@@ -22,8 +22,8 @@ abbrev pub stepped_relay : Relay → Option Step → Relay
 stepped_relay r None = r
 stepped_relay r (Some s) = s.relay
 
-abbrev pub happened : Relay → Event → Told
-happened r (Hears h) = told (record r { link = h.link }) h.news
+abbrev pub happened : Relay → Event → Report
+happened r (Receives h) = reported (record r { link = h.link }) h.news
 happened r (Gives number item) = silent (given r number item)
 happened r Sends = silent (stepped_relay r (next r))
 
@@ -39,7 +39,7 @@ after r (e ∷ events) = after (happened r e).relay events
 abbrev pub asks_for : ℕ → List RelayAsk → List RelayAsk
 asks_for number asks = filter (λ a. stream_of a == number) asks
 
--- what each event is for one stream, behind its first header list
+-- what each event is for one stream, after its first header list
 abbrev pub ended_by : Bool → List Moment
 ended_by end = if end then Ended ∷ [] else []
 
@@ -59,7 +59,7 @@ item_moments (reply.End code text meta cause) = Answered ∷ []
 item_moments _ = []
 
 abbrev pub event_for : ℕ → Event → List Moment
-event_for number (Hears h) = news_for number h.news
+event_for number (Receives h) = news_for number h.news
 event_for number (Gives other item) = if_own number other (item_moments item)
 event_for number Sends = []
 

@@ -7,7 +7,7 @@ use Rattle.h2_server.specs.Wire.{Seen}
 use Rattle.h2_server.specs.declared.news.RequestNews.{RequestNews}
 use Rattle.h2_server.specs.declared.news.RequestNews.TheVariants as news
 use Rattle.relay_asks.specs.declared.ask.RelayAsk.{RelayAsk}
-use Rattle.relay_connection.specs.Streams.{cancels, given_to, is_numbered, put, stream_begun, stream_told}
+use Rattle.relay_connection.specs.Streams.{cancels, given_to, is_numbered, put, stream_begun, stream_reported}
 use Rattle.relay_connection.specs.declared.stream.RelayStream.{RelayStream}
 use Rattle.relay_connection.specs.declared.stream.StreamNews.{StreamNews}
 use Rattle.relay_connection.specs.declared.stream.StreamNews.TheVariants as stream
@@ -24,47 +24,47 @@ abbrev pub fresh_relay : Relay
 fresh_relay = record { link = link.fresh; last = 0; streams = [] }
 
 -- a connection after something, and what it asks for that
-pub record Told : Type 0 where
+pub record Report : Type 0 where
   pub relay : Relay
   pub asks : List RelayAsk
 
-abbrev pub silent : Relay → Told
+abbrev pub silent : Relay → Report
 silent r = record { relay = r; asks = [] }
 
 -- a stream that begins
-abbrev pub stream_opened : Relay → ℕ → List Field → Bool → Told
+abbrev pub stream_opened : Relay → ℕ → List Field → Bool → Report
 stream_opened r number fields end =
     let t = stream_begun number fields end in
     record { relay = record r { last = number; streams = r.streams ++ t.stream ∷ [] }; asks = t.asks }
 
 -- news of the stream at a place
-abbrev pub told_at : Relay → ℕ → StreamNews → Option RelayStream → Told
-told_at r place n None = silent r
-told_at r place n (Some s) =
-    let t = stream_told s n in
+abbrev pub reported_at : Relay → ℕ → StreamNews → Option RelayStream → Report
+reported_at r place n None = silent r
+reported_at r place n (Some s) =
+    let t = stream_reported s n in
     record { relay = record r { streams = put r.streams place t.stream }; asks = t.asks }
 
-abbrev pub told_by : Relay → StreamNews → Option ℕ → Told
-told_by r n None = silent r
-told_by r n (Some place) = told_at r place n (slice_get r.streams place)
+abbrev pub reported_by : Relay → StreamNews → Option ℕ → Report
+reported_by r n None = silent r
+reported_by r n (Some place) = reported_at r place n (slice_get r.streams place)
 
--- news of the stream of a number; one that is over tells nothing
-abbrev pub on_stream : Relay → ℕ → StreamNews → Told
-on_stream r number n = told_by r n (position (is_numbered number) r.streams)
+-- news of the stream of a number; one that is over reports nothing
+abbrev pub on_stream : Relay → ℕ → StreamNews → Report
+on_stream r number n = reported_by r n (position (is_numbered number) r.streams)
 
 -- a header list: of a stream that begins, or trailers
-abbrev pub fields_told : Relay → ℕ → List Field → Bool → Told
-fields_told r number fields end =
+abbrev pub fields_reported : Relay → ℕ → List Field → Bool → Report
+fields_reported r number fields end =
     if nat_lt r.last number then stream_opened r number fields end else on_stream r number (stream.Trailers end)
 
--- what the link tells
-abbrev pub told : Relay → Option RequestNews → Told
-told r None = silent r
-told r (Some (news.Fields number fields end)) = fields_told r number fields end
-told r (Some (news.Data number octets end)) = on_stream r number (stream.Data octets end)
-told r (Some (news.Reset number code)) = on_stream r number stream.Breaks
-told r (Some (news.Fault number code)) = on_stream r number stream.Breaks
-told r (Some (news.Broken code)) = record { relay = record r { streams = [] }; asks = cancels r.streams }
+-- what the link reports
+abbrev pub reported : Relay → Option RequestNews → Report
+reported r None = silent r
+reported r (Some (news.Fields number fields end)) = fields_reported r number fields end
+reported r (Some (news.Data number octets end)) = on_stream r number (stream.Data octets end)
+reported r (Some (news.Reset number code)) = on_stream r number stream.Breaks
+reported r (Some (news.Fault number code)) = on_stream r number stream.Breaks
+reported r (Some (news.Broken code)) = record { relay = record r { streams = [] }; asks = cancels r.streams }
 
 -- an item of a call's response; a call that is not open gets none
 abbrev pub given_at : Relay → ℕ → Reply → Option RelayStream → Relay

@@ -8,14 +8,14 @@ use Rattle.grpc_base.specs.declared.fields.Field.{Field}
 use Rattle.h2_server.specs.Wire.{Wire}
 use Rattle.relay_answer.specs.Answering.{Answering, end_given, fresh, head_given, is_sent, message_given, room_of}
 use Rattle.relay_answer.specs.Moves.{moved}
-use Rattle.relay_asks.specs.Asking.{Asking, answered, begun, data_told, end_told, given_up}
+use Rattle.relay_asks.specs.Asking.{Asking, answered, begun, data_reported, end_reported, given_up}
 use Rattle.relay_asks.specs.declared.ask.RelayAsk.{RelayAsk}
 use Rattle.relay_connection.specs.declared.stream.RelayStream.{RelayStream}
 use Rattle.relay_connection.specs.declared.stream.StreamNews.{StreamNews}
 use Rattle.relay_connection.specs.declared.stream.StreamNews.TheVariants as news
 
 -- a stream after something, and what it asks for that
-pub record StreamTold : Type 0 where
+pub record StreamReported : Type 0 where
   pub stream : RelayStream
   pub asks : List RelayAsk
 
@@ -25,38 +25,38 @@ with_status a None = a
 with_status a (Some code) = end_given a code [] []
 
 -- END_STREAM, or none
-abbrev pub ended_if : Bool → RelayStream → StreamTold
+abbrev pub ended_if : Bool → RelayStream → StreamReported
 ended_if end s =
-    if end then record { stream = record s { asking = (end_told s.asking).stream }; asks = (end_told s.asking).asks }
+    if end then record { stream = record s { asking = (end_reported s.asking).stream }; asks = (end_reported s.asking).asks }
     else record { stream = s; asks = [] }
 
 -- a stream that begins
-abbrev pub begun_as : Asking → Option Code → Bool → StreamTold
+abbrev pub begun_as : Asking → Option Code → Bool → StreamReported
 begun_as a status end = ended_if end (record { asking = a; answer = with_status fresh status })
 
-abbrev pub stream_begun : ℕ → List Field → Bool → StreamTold
+abbrev pub stream_begun : ℕ → List Field → Bool → StreamReported
 stream_begun number fields end =
     let b = begun number fields in
     let e = begun_as b.stream b.status end in
     record { stream = e.stream; asks = b.asks ++ e.asks }
 
 -- bytes of DATA
-abbrev pub stream_data : RelayStream → List ℕ → Bool → StreamTold
+abbrev pub stream_data : RelayStream → List ℕ → Bool → StreamReported
 stream_data s octets end =
-    let d = data_told s.asking octets in
+    let d = data_reported s.asking octets in
     let e = ended_if end (record { asking = d.stream; answer = with_status s.answer d.status }) in
     record { stream = e.stream; asks = d.asks ++ e.asks }
 
 -- a reset or a stream error: what waits is never sent
-abbrev pub broken_off : RelayStream → StreamTold
+abbrev pub broken_off : RelayStream → StreamReported
 broken_off s =
     record { stream = record { asking = (given_up s.asking).stream; answer = fresh }; asks = (given_up s.asking).asks }
 
--- what a link tells of a stream behind its header list
-abbrev pub stream_told : RelayStream → StreamNews → StreamTold
-stream_told s (news.Data octets end) = stream_data s octets end
-stream_told s (news.Trailers end) = ended_if end s
-stream_told s news.Breaks = broken_off s
+-- what a link reports of a stream after its header list
+abbrev pub stream_reported : RelayStream → StreamNews → StreamReported
+stream_reported s (news.Data octets end) = stream_data s octets end
+stream_reported s (news.Trailers end) = ended_if end s
+stream_reported s news.Breaks = broken_off s
 
 -- an item of its call's response
 abbrev pub item_given : RelayStream → Reply → RelayStream

@@ -1,15 +1,15 @@
 // One connection of a client.
 ghost use Rattle.std.specs.Prelude.{◌≡◌, ◌<◌, ◌≤◌, ◌-◌, ◌++◌, ◌↔◌, [], ℕ, drop, length, position, IfOk, OnOk, None, Some, Err};
-ghost use Rattle.h2_server.specs.Heard.{heard};
+ghost use Rattle.h2_server.specs.Received.{handled};
 ghost use Rattle.relay_connection.specs.Arriving.{Arrives};
 ghost use Rattle.relay_connection.specs.Draining.{Drains, goes, next, next_sent, stream_step};
 ghost use Rattle.relay_connection.specs.Outcomes.{WentAs};
-ghost use Rattle.relay_connection.specs.Relay.{fields_told, fresh_relay, given, on_stream, silent, stream_opened, told};
+ghost use Rattle.relay_connection.specs.Relay.{fields_reported, fresh_relay, given, on_stream, silent, stream_opened, reported};
 ghost use Rattle.relay_connection.specs.Streams.{cancels, may_send};
 
 use crate::fault::RelayFault;
 use crate::stream::{RelayStream, StreamNews};
-use crate::streams::{cancel_all, give_at, hear_at, next_place, place_of, send_at};
+use crate::streams::{cancel_all, give_at, next_place, place_of, receive_at, send_at};
 use bytes::BytesMut;
 use grpc_base::{Fields, NoMemory, Octets, Reply};
 use h2_server::{LinkFault, RequestNews, ServerLink};
@@ -80,7 +80,7 @@ impl RelayConnection {
         let mut rest = piece;
         while !rest.is_empty() && self.link.broken().is_none() {
             let taken = self.take_frame(rest, asks)?;
-            rest = behind(rest, taken);
+            rest = afterwards(rest, taken);
         }
         Ok(())
     }
@@ -89,14 +89,14 @@ impl RelayConnection {
     fn take_frame(&mut self, piece: &[u8], asks: &mut Vec<RelayAsk>) -> Result<usize, NoMemory>
         requires some { 0 < length piece.now }
         requires whole { self.old.link.wire.broken ≡ None }
-        ensures relay { OnOk result (self.new ≡ (told (record self.old { link = (heard self.old.link piece.now).link }) (heard self.old.link piece.now).news).relay) }
-        ensures asks { OnOk result (asks.new.items ≡ asks.old.items ++ (told (record self.old { link = (heard self.old.link piece.now).link }) (heard self.old.link piece.now).news).asks) }
-        ensures taken { IfOk result (λ taken. taken ≡ (heard self.old.link piece.now).taken) }
+        ensures relay { OnOk result (self.new ≡ (reported (record self.old { link = (handled self.old.link piece.now).link }) (handled self.old.link piece.now).news).relay) }
+        ensures asks { OnOk result (asks.new.items ≡ asks.old.items ++ (reported (record self.old { link = (handled self.old.link piece.now).link }) (handled self.old.link piece.now).news).asks) }
+        ensures taken { IfOk result (λ taken. taken ≡ (handled self.old.link piece.now).taken) }
         ensures within { IfOk result (λ taken. (1 ≤ taken) × (taken ≤ length piece.now)) }
     {
         match self.link.arrived(piece) {
             Ok(arrival) => {
-                self.hear(arrival.news, asks)?;
+                self.receive(arrival.news, asks)?;
                 Ok(arrival.taken)
             }
             Err(LinkFault::NoMemory) => Err(NoMemory),
@@ -104,10 +104,14 @@ impl RelayConnection {
         }
     }
 
-    /// What the link told.
-    fn hear(&mut self, news: Option<RequestNews>, asks: &mut Vec<RelayAsk>) -> Result<(), NoMemory>
-        ensures relay { OnOk result (self.new ≡ (told self.old news).relay) }
-        ensures asks { OnOk result (asks.new.items ≡ asks.old.items ++ (told self.old news).asks) }
+    /// What the link reported.
+    fn receive(
+        &mut self,
+        news: Option<RequestNews>,
+        asks: &mut Vec<RelayAsk>,
+    ) -> Result<(), NoMemory>
+        ensures relay { OnOk result (self.new ≡ (reported self.old news).relay) }
+        ensures asks { OnOk result (asks.new.items ≡ asks.old.items ++ (reported self.old news).asks) }
     {
         match news {
             None => Ok(()),
@@ -117,17 +121,17 @@ impl RelayConnection {
                     fields,
                     end,
                 },
-            ) => self.hear_fields(stream, &fields, end, asks),
+            ) => self.receive_fields(stream, &fields, end, asks),
             Some(
                 RequestNews::Data {
                     stream,
                     octets,
                     end,
                 },
-            ) => self.hear_stream(stream, &StreamNews::Data { octets, end }, asks),
+            ) => self.receive_stream(stream, &StreamNews::Data { octets, end }, asks),
             Some(RequestNews::Reset { stream, code: _ })
             | Some(RequestNews::Fault { stream, code: _ }) => {
-                self.hear_stream(stream, &StreamNews::Breaks, asks)
+                self.receive_stream(stream, &StreamNews::Breaks, asks)
             }
             Some(RequestNews::Broken { code: _ }) => self.break_off(asks),
         }
@@ -144,20 +148,20 @@ impl RelayConnection {
     }
 
     /// A header list: of a stream that begins, or trailers.
-    fn hear_fields(
+    fn receive_fields(
         &mut self,
         number: u32,
         fields: &Fields,
         end: bool,
         asks: &mut Vec<RelayAsk>,
     ) -> Result<(), NoMemory>
-        ensures relay { OnOk result (self.new ≡ (fields_told self.old number fields.now end).relay) }
-        ensures asks { OnOk result (asks.new.items ≡ asks.old.items ++ (fields_told self.old number fields.now end).asks) }
+        ensures relay { OnOk result (self.new ≡ (fields_reported self.old number fields.now end).relay) }
+        ensures asks { OnOk result (asks.new.items ≡ asks.old.items ++ (fields_reported self.old number fields.now end).asks) }
     {
         if self.last < number {
             return self.open_stream(number, fields, end, asks);
         }
-        self.hear_stream(number, &StreamNews::Trailers { end }, asks)
+        self.receive_stream(number, &StreamNews::Trailers { end }, asks)
     }
 
     fn open_stream(
@@ -178,7 +182,7 @@ impl RelayConnection {
     }
 
     /// News of the stream of a number.
-    fn hear_stream(
+    fn receive_stream(
         &mut self,
         number: u32,
         news: &StreamNews,
@@ -191,7 +195,7 @@ impl RelayConnection {
             return Ok(());
         };
         let alloc = self.alloc;
-        hear_at(alloc, &mut self.streams, place, news, asks)?;
+        receive_at(alloc, &mut self.streams, place, news, asks)?;
         Ok(())
     }
 
@@ -272,8 +276,8 @@ impl RelayConnection {
     }
 }
 
-/// The bytes behind so many.
-fn behind(bytes: &[u8], taken: usize) -> &[u8]
+/// The bytes after so many.
+fn afterwards(bytes: &[u8], taken: usize) -> &[u8]
     requires { taken ≤ length bytes.now }
     ensures { result.now ≡ drop taken bytes.now }
 {

@@ -1,4 +1,4 @@
-// The front of a relay: one connection of a client, from its bytes to what its calls ask, and from their answers to bytes.
+// The serving side of a relay: one connection of a client, from its bytes to what its calls ask, and from their answers to bytes.
 #![tactic(auto)]
 
 mod connection;

@@ -1,6 +1,6 @@
 // One stream: what it asks, and what it answers.
 ghost use Rattle.std.specs.Prelude.{◌≡◌, ◌++◌, IfOk, OnOk};
-ghost use Rattle.relay_connection.specs.Streams.{begun_as, broken_off, ended_if, fits, is_numbered, is_over, item_given, may_send, sent, stream_begun, stream_data, stream_told, with_status};
+ghost use Rattle.relay_connection.specs.Streams.{begun_as, broken_off, ended_if, fits, is_numbered, is_over, item_given, may_send, sent, stream_begun, stream_data, stream_reported, with_status};
 
 use bytes::BytesMut;
 use grpc_base::{Code, Fields, Metadata, NoMemory, Octets, Reply, Text};
@@ -16,7 +16,7 @@ pub struct RelayStream {
     pub answer: AnsweringStream,
 }
 
-/// What a link tells of a stream behind its header list.
+/// What a link reports of a stream after its header list.
 #[derive(Debug, Drop)]
 pub enum StreamNews {
     /// Bytes of DATA, without or with END_STREAM.
@@ -86,7 +86,7 @@ impl RelayStream {
     }
 
     /// Bytes of DATA.
-    fn hear_data(
+    fn receive_data(
         &mut self,
         alloc: Global,
         octets: &Octets,
@@ -96,7 +96,7 @@ impl RelayStream {
         ensures stream { OnOk result (self.new ≡ (stream_data self.old octets.now end).stream) }
         ensures asks { OnOk result (asks.new.items ≡ asks.old.items ++ (stream_data self.old octets.now end).asks) }
     {
-        let status = self.asking.hear_data(octets, asks)?;
+        let status = self.asking.receive_data(octets, asks)?;
         self.give_status(alloc, status)?;
         self.end_if(end, asks)
     }
@@ -110,18 +110,18 @@ impl RelayStream {
         self.asking.cancel(asks)
     }
 
-    /// What the link tells of it.
-    pub(crate) fn hear(
+    /// What the link reports of it.
+    pub(crate) fn receive(
         &mut self,
         alloc: Global,
         news: &StreamNews,
         asks: &mut Vec<RelayAsk>,
     ) -> Result<(), NoMemory>
-        ensures stream { OnOk result (self.new ≡ (stream_told self.old news.now).stream) }
-        ensures asks { OnOk result (asks.new.items ≡ asks.old.items ++ (stream_told self.old news.now).asks) }
+        ensures stream { OnOk result (self.new ≡ (stream_reported self.old news.now).stream) }
+        ensures asks { OnOk result (asks.new.items ≡ asks.old.items ++ (stream_reported self.old news.now).asks) }
     {
         match news {
-            StreamNews::Data { octets, end } => self.hear_data(alloc, octets, *end, asks),
+            StreamNews::Data { octets, end } => self.receive_data(alloc, octets, *end, asks),
             StreamNews::Trailers { end } => self.end_if(*end, asks),
             StreamNews::Breaks => self.break_off(alloc, asks),
         }

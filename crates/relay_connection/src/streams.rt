@@ -1,7 +1,7 @@
 // The streams of a client, in the order of their opening.
 ghost use Rattle.std.specs.Prelude.{◌≡◌, ◌<◌, ◌++◌, IfSome, OnOk, length, position, slice_get};
 ghost use Rattle.std.specs.List.{remove};
-ghost use Rattle.relay_connection.specs.Streams.{cancels, given_to, is_numbered, may_send, put, sent, settled, stream_told};
+ghost use Rattle.relay_connection.specs.Streams.{cancels, given_to, is_numbered, may_send, put, sent, settled, stream_reported};
 
 use crate::stream::{RelayStream, StreamNews};
 use bytes::BytesMut;
@@ -44,8 +44,8 @@ fn settle(streams: &mut Vec<RelayStream>, place: usize)
     }
 }
 
-/// What the link tells of the stream at a place.
-pub(crate) fn hear_at(
+/// What the link reports of the stream at a place.
+pub(crate) fn receive_at(
     alloc: Global,
     streams: &mut Vec<RelayStream>,
     place: usize,
@@ -53,10 +53,10 @@ pub(crate) fn hear_at(
     asks: &mut Vec<RelayAsk>,
 ) -> Result<(), NoMemory>
     requires { place < length streams.old.items }
-    ensures streams { OnOk result (IfSome (slice_get streams.old.items place) (λ s. streams.new.items ≡ put streams.old.items place (stream_told s news.now).stream)) }
-    ensures asks { OnOk result (IfSome (slice_get streams.old.items place) (λ s. asks.new.items ≡ asks.old.items ++ (stream_told s news.now).asks)) }
+    ensures streams { OnOk result (IfSome (slice_get streams.old.items place) (λ s. streams.new.items ≡ put streams.old.items place (stream_reported s news.now).stream)) }
+    ensures asks { OnOk result (IfSome (slice_get streams.old.items place) (λ s. asks.new.items ≡ asks.old.items ++ (stream_reported s news.now).asks)) }
 {
-    streams[place].hear(alloc, news, asks)?;
+    streams[place].receive(alloc, news, asks)?;
     settle(streams, place);
     Ok(())
 }

@@ -1,5 +1,5 @@
 pub mod RunLaws
-pub mod TellLaws
+pub mod ReportLaws
 pub mod GiveLaws
 pub mod TurnLaws
 pub mod LinkLaws

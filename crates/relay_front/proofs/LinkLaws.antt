@@ -6,9 +6,9 @@ use Rattle.relay_connection.specs.declared.fault.RelayFault.{RelayFault}
 use Rattle.relay_connection.specs.declared.fault.RelayFault.TheVariants as refused
 use Rattle.relay_connection.specs.Draining.{Drains}
 use Rattle.relay_front.specs.Cores.{Core}
-use Rattle.relay_front.specs.Rounds.{GoesOn, GoesOut, TellsEnd, Writes, end_of}
+use Rattle.relay_front.specs.Rounds.{GoesOn, GoesOut, ReportsEnd, Writes, end_of}
 use Rattle.relay_front.specs.declared.links.LinkEnd.{LinkEnd}
-use Rattle.relay_front.specs.Turns.{TellsTurn, is_going}
+use Rattle.relay_front.specs.Turns.{ReportsTurn, is_going}
 use Rattle.relay_front.specs.declared.turned.RelayTurn.{RelayTurn}
 use Rattle.relay_front.specs.declared.turned.RelayTurn.TheVariants as turn
 
@@ -32,25 +32,25 @@ goes_no_more sees going turned answer out e is ends =
     subst (λ (b : Bool). GoesOn sees b turned answer out turned out (Some e)) (sym is) (refl, refl, ap (λ (x : LinkEnd). Some x) ends)
 
 -- what the end of the rounds says of posts, by the turn that ended them
-pub ended_tells : (before after : HandleSeen) (t : RelayTurn) → TellsTurn before after t → TellsEnd before after (Some (end_of t))
-ended_tells before after turn.Going h = h
-ended_tells before after (turn.Broken code) h = h
-ended_tells before after (turn.Gone r) h = h
-ended_tells before after (turn.Failed error) h = h
-ended_tells before after turn.NoMemory h = h
+pub ended_reports : (before after : HandleSeen) (t : RelayTurn) → ReportsTurn before after t → ReportsEnd before after (Some (end_of t))
+ended_reports before after turn.Going h = h
+ended_reports before after (turn.Broken code) h = h
+ended_reports before after (turn.Gone r) h = h
+ended_reports before after (turn.Failed error) h = h
+ended_reports before after turn.NoMemory h = h
 
 -- an output that was closed took nothing more
 pub out_same : (a b : OutSeen) → a.taken ≡ b.taken → a.faults ≡ b.faults → a ≡ b
 out_same a b taken faults =
     ap (λ (x : Option (List ℕ)). let o : OutSeen = record { taken = x; faults = a.faults } in o) taken ∙ ap (λ (n : ℕ). let o : OutSeen = record { taken = b.taken; faults = n } in o) faults
 
-pub ended_as : (before after : HandleSeen) (t : RelayTurn) (e : LinkEnd) → e ≡ end_of t → TellsTurn before after t → TellsEnd before after (Some e)
-ended_as before after t e is h = subst (λ (x : LinkEnd). TellsEnd before after (Some x)) (sym is) (ended_tells before after t h)
+pub ended_as : (before after : HandleSeen) (t : RelayTurn) (e : LinkEnd) → e ≡ end_of t → ReportsTurn before after t → ReportsEnd before after (Some e)
+ended_as before after t e is h = subst (λ (x : LinkEnd). ReportsEnd before after (Some x)) (sym is) (ended_reports before after t h)
 
 -- after a turn that goes on no post failed
-pub going_tells : (before after : HandleSeen) (t : RelayTurn) → is_going t ≡ true → TellsTurn before after t → after.errors ≡ before.errors
-going_tells before after turn.Going is h = h
-going_tells before after (turn.Broken code) is h = h
-going_tells before after (turn.Gone r) is h = h.0
-going_tells before after (turn.Failed error) is h = absurd (let no : ⊥ = (cc) in no)
-going_tells before after turn.NoMemory is h = h
+pub going_reports : (before after : HandleSeen) (t : RelayTurn) → is_going t ≡ true → ReportsTurn before after t → after.errors ≡ before.errors
+going_reports before after turn.Going is h = h
+going_reports before after (turn.Broken code) is h = h
+going_reports before after (turn.Gone r) is h = h.0
+going_reports before after (turn.Failed error) is h = absurd (let no : ⊥ = (cc) in no)
+going_reports before after turn.NoMemory is h = h

@@ -4,7 +4,7 @@ use Rattle.live_pump.specs.Pumps.{Gives, HandleSeen, InSeen, IsCutOff, IsOver, I
 use Rattle.relay_calls.specs.Posting.{Eyes}
 use Rattle.relay_connection.specs.Draining.{Drains}
 use Rattle.relay_front.specs.Cores.{Core}
-use Rattle.relay_front.specs.Turns.{Closes, TellsTurn, TurnsTo, is_going}
+use Rattle.relay_front.specs.Turns.{Closes, ReportsTurn, TurnsTo, is_going}
 use Rattle.relay_front.specs.declared.links.LinkEnd.{LinkEnd}
 use Rattle.relay_front.specs.declared.links.LinkEnd.TheVariants as end
 use Rattle.relay_front.specs.declared.turned.RelayTurn.{RelayTurn}
@@ -74,7 +74,7 @@ pub record IsLost {P I O : Type 0} (eyes : LinkEyes P I O) (before after : Stand
   pub same : after ≡ record before { input = after.input }
   pub ends : e ≡ Some end.Lost
 
--- a round with all its parts: what one read gave is handed to the connection
+-- a round with all its parts: what one read gave is passed to the connection
 pub record IsRound {P I O : Type 0} (eyes : LinkEyes P I O) (before after : Stand P I O) (e : Option LinkEnd) : Type 0 where
   pub piece : List ℕ
   pub reads : Reads (eyes.input before.input) (eyes.input after.input) piece
@@ -83,15 +83,15 @@ pub record IsRound {P I O : Type 0} (eyes : LinkEyes P I O) (before after : Stan
 abbrev pub RoundOf : {P I O : Type 0} → LinkEyes P I O → Stand P I O → Stand P I O → Option LinkEnd → Type 0
 RoundOf eyes before after e = IsRound eyes before after e ⊎ IsLost eyes before after e
 
--- without a turn that ended the rounds no post failed; else it is as the turn tells
-abbrev pub TellsEnd : HandleSeen → HandleSeen → Option LinkEnd → Type 0
-TellsEnd before after (Some (end.Turned answer)) = TellsTurn before after answer
-TellsEnd before after e = after.errors ≡ before.errors
+-- without a turn that ended the rounds no post failed; else it is as the turn reports
+abbrev pub ReportsEnd : HandleSeen → HandleSeen → Option LinkEnd → Type 0
+ReportsEnd before after (Some (end.Turned answer)) = ReportsTurn before after answer
+ReportsEnd before after e = after.errors ≡ before.errors
 
 -- what the answer of a link's job says of its posts; after Broken one of the Cancels may have failed
-abbrev pub TellsLink : HandleSeen → HandleSeen → RelayTurn → Type 0
-TellsLink before after (turn.Broken code) = Unit {0}
-TellsLink before after t = TellsTurn before after t
+abbrev pub ReportsLink : HandleSeen → HandleSeen → RelayTurn → Type 0
+ReportsLink before after (turn.Broken code) = Unit {0}
+ReportsLink before after t = ReportsTurn before after t
 
 -- rounds, one after another, none of which ends the job
 abbrev pub RoundsOn : {P I O : Type 0} → LinkEyes P I O → Stand P I O → List (Stand P I O) → Stand P I O → Type 0

@@ -74,7 +74,7 @@ GivesAfter eyes c before (Ok done) after_core after t =
     (came : Result Unit CallsFault) × GivesAll eyes c before after_core after came × (t ≡ answer_of came)
 GivesAfter eyes c before (Err f) after_core after t = (after_core ≡ c) × (after ≡ before) × (t ≡ turn_of f)
 
--- asks are posted behind those that wait, and then what came of the calls is given
+-- asks are posted after those that wait, and then what came of the calls is given
 pub record ServesAsks {P : Type 0} (eyes : Eyes P) (c : Core) (before : P) (asks : List RelayAsk) (after_core : Core) (after : P) (t : RelayTurn) : Type 0 where
   pub calls : Calls
   pub post : P
@@ -105,10 +105,10 @@ TurnsTo eyes c before piece after_core after t = TurnsUnless eyes c.relay.link.w
 
 -- Failed is answered only with the error of the last post, which failed; Gone only with the number of a channel that was shut down; and
 -- without Failed no post failed
-abbrev pub TellsTurn : HandleSeen → HandleSeen → RelayTurn → Type 0
-TellsTurn before after (turn.Failed error) = (after.errors ≡ one_more before.errors) × (after.last ≡ Some error)
-TellsTurn before after (turn.Gone refusal) = (after.errors ≡ before.errors) × (refusal ≡ 9)
-TellsTurn before after t = after.errors ≡ before.errors
+abbrev pub ReportsTurn : HandleSeen → HandleSeen → RelayTurn → Type 0
+ReportsTurn before after (turn.Failed error) = (after.errors ≡ one_more before.errors) × (after.last ≡ Some error)
+ReportsTurn before after (turn.Gone refusal) = (after.errors ≡ before.errors) × (refusal ≡ 9)
+ReportsTurn before after t = after.errors ≡ before.errors
 
 -- how the calls are given up: each that is open gets one Cancel
 abbrev pub closed_with : Result Unit PostError → RelayTurn

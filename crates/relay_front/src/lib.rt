@@ -1,4 +1,4 @@
-// A relay in front of a channel: it takes a client's gRPC calls and makes each of them through the channel.
+// A relay before a channel: it takes a client's gRPC calls and makes each of them through the channel.
 #![tactic(auto)]
 
 mod ends;

@@ -2,8 +2,8 @@
 ghost use Rattle.std.specs.Prelude.{◌≡◌, ◌<◌, ◌≤◌, ◌↔◌, [], ℕ, length, IfOk, OnOk, Some, None, Err, Result, Option};
 ghost use Rattle.grpc_base.specs.declared.event.Reply.{Reply};
 ghost use Rattle.live_pump.specs.Pumps.{HandleSeen};
-ghost use Rattle.relay_calls.specs.Posting.{Eyes, PostsTurn, Tells, eyes_of};
-ghost use Rattle.relay_calls.specs.Taking.{GivesUpAll, TellsError};
+ghost use Rattle.relay_calls.specs.Posting.{Eyes, PostsTurn, ReportsThat, eyes_of};
+ghost use Rattle.relay_calls.specs.Taking.{GivesUpAll, ReportsError};
 ghost use Rattle.relay_connection.specs.Arriving.{Arrives};
 ghost use Rattle.relay_connection.specs.Draining.{Drains};
 ghost use Rattle.relay_connection.specs.Relay.{given, silent};
@@ -89,7 +89,7 @@ impl RelayCore {
     ) -> Result<(), CallsFault>
         ensures posted { let eyes : Eyes P = eyes_of P.made P.errors P.last_error P.looks P.last_look in PostsTurn eyes self.old.calls post.old asks.items self.new.calls post.new result }
         ensures relay { self.new.relay ≡ self.old.relay }
-        ensures tells { let before : HandleSeen = record { made = P.made post.old; errors = P.errors post.old; last = P.last_error post.old } in let after : HandleSeen = record { made = P.made post.new; errors = P.errors post.new; last = P.last_error post.new } in Tells before after result }
+        ensures reports_that { let before : HandleSeen = record { made = P.made post.old; errors = P.errors post.old; last = P.last_error post.old } in let after : HandleSeen = record { made = P.made post.new; errors = P.errors post.new; last = P.last_error post.new } in ReportsThat before after result }
         ensures share { P.share post.new ≡ P.share post.old }
     {
         self.calls.post_turn(post, asks)
@@ -111,7 +111,7 @@ impl RelayCore {
         requires { place < length self.old.calls.calls }
         ensures taken { let eyes : Eyes P = eyes_of P.made P.errors P.last_error P.looks P.last_look in GivesAt eyes place self.old post.old self.new post.new result }
         ensures many { OnOk result (length self.new.calls.calls ≡ length self.old.calls.calls) }
-        ensures tells { let before : HandleSeen = record { made = P.made post.old; errors = P.errors post.old; last = P.last_error post.old } in let after : HandleSeen = record { made = P.made post.new; errors = P.errors post.new; last = P.last_error post.new } in Tells before after result }
+        ensures reports_that { let before : HandleSeen = record { made = P.made post.old; errors = P.errors post.old; last = P.last_error post.old } in let after : HandleSeen = record { made = P.made post.new; errors = P.errors post.new; last = P.last_error post.new } in ReportsThat before after result }
         ensures share { P.share post.new ≡ P.share post.old }
     {
         let stream = self.calls.stream_at(place);
@@ -127,7 +127,7 @@ impl RelayCore {
     ) -> Result<(), CallsFault>
         ensures given { Given self.old stream came self.new result }
         ensures calls { self.new.calls ≡ self.old.calls }
-        ensures tells { GivenAs came result }
+        ensures reports_that { GivenAs came result }
     {
         match came? {
             Some(item) => Ok(self.connection.give(stream, item)?),
@@ -146,7 +146,7 @@ impl RelayCore {
     pub(crate) fn give_up<P: Post>(&mut self, post: &mut P) -> Result<(), PostError>
         ensures given_up { let eyes : Eyes P = eyes_of P.made P.errors P.last_error P.looks P.last_look in GivesUpAll eyes (record self.old.calls { waiting = [] }) post.old self.new.calls post.new result }
         ensures relay { self.new.relay ≡ self.old.relay }
-        ensures tells { let before : HandleSeen = record { made = P.made post.old; errors = P.errors post.old; last = P.last_error post.old } in let after : HandleSeen = record { made = P.made post.new; errors = P.errors post.new; last = P.last_error post.new } in TellsError before after result }
+        ensures reports_that { let before : HandleSeen = record { made = P.made post.old; errors = P.errors post.old; last = P.last_error post.old } in let after : HandleSeen = record { made = P.made post.new; errors = P.errors post.new; last = P.last_error post.new } in ReportsError before after result }
         ensures share { P.share post.new ≡ P.share post.old }
     {
         self.calls.give_up_all(post)

@@ -1,3 +1,3 @@
-pub mod FrontLaws
+pub mod RelaySideLaws
 pub mod PostLaws
 pub mod RelayLaws

@@ -17,27 +17,27 @@ use Rattle.live_run.specs.declared.outcome.Outcome.{Outcome}
 use Rattle.live_run.specs.declared.outcome.Outcome.TheVariants as outcome
 use Rattle.live_channel.specs.Handles.{StandInOrder}
 use Rattle.live_channel.specs.Reported.{ReportsOn}
-use Rattle.live_channel.specs.Told.{TellsTarget}
+use Rattle.live_channel.specs.Report.{ReportsTarget}
 use Rattle.live_channel.proofs.HeldLaws.{come_as_held}
 use Rattle.live_channel.proofs.ReportLaws.{session_at}
-use Rattle.live_channel.proofs.SeatLaws.{told_stays}
+use Rattle.live_channel.proofs.SeatLaws.{reported_stays}
 use Rattle.live_channel.proofs.ShareLaws.{shares}
-use Rattle.relay_mode.specs.Fronts.{AreOfCalls, LeavesLinks}
-use Rattle.relay_mode.specs.Links.{IsHeard}
+use Rattle.relay_mode.specs.RelaySides.{EntriesAreOfCalls, LeavesLinks}
+use Rattle.relay_mode.specs.Links.{IsListening}
 use Rattle.relay_mode.specs.Relayed.{CarriesLinks, EndsRelayFull, IsAnyRelayReport, IsRelayReport, IsRelayText, IsRelayed, IsWorkOfLink}
 
-work_all : (front : List Entry) (owns : List (List (ℕ × Entry))) → AllByRecursion (StandInOrder front) owns → AllByRecursion AreOfCalls owns → AllByRecursion (IsWorkOfLink front) owns
-work_all front [] stand calls = tt
-work_all front (own ∷ owns) stand calls = (record { stands = stand.0.stands; ascends = stand.0.ascends; calls = calls.0 }, work_all front owns stand.1 calls.1)
+work_all : (prefix : List Entry) (owns : List (List (ℕ × Entry))) → AllByRecursion (StandInOrder prefix) owns → AllByRecursion EntriesAreOfCalls owns → AllByRecursion (IsWorkOfLink prefix) owns
+work_all prefix [] stand calls = tt
+work_all prefix (own ∷ owns) stand calls = (record { stands = stand.0.stands; ascends = stand.0.ascends; calls = calls.0 }, work_all prefix owns stand.1 calls.1)
 
 carries_links : (r : Ran) (lock : LockId) (held : List (Option (List (List ℕ)))) (config : Option (List ℕ)) (o : Outcome) (links : ℕ) (seat : SeatSeen Entry) (entries : List Entry) → (r ≡ ran.Whole → o ≡ outcome.Whole) → LeavesLinks lock held config o links seat → Owns seat.parts seat.own entries → StartsWith entries seat.seen → CarriesLinks r links entries
 carries_links r lock held config o links seat entries whole by all sees =
     let out = shares r lock held config o by.owns seat entries whole by.left by.calls all sees in
-    record { front = out.front; rest = out.rest; owns = by.owns; count = by.count; made = work_all out.front by.owns out.each by.calls; shares = out.shares }
+    record { prefix = out.prefix; rest = out.rest; owns = by.owns; count = by.count; made = work_all out.prefix by.owns out.each by.calls; shares = out.shares }
 
-pub relay_report : (policies : List PolicySeen) (held : List (Option (List (List ℕ)))) (r : Ran) (lock : LockId) (o : Outcome) (links : ℕ) (script : LiveScript) (seat : SeatSeen Entry) (text : List ℕ) → lock.origin ≡ origin_of (authority_of script.value) policies → TellsTarget script.value script.config seat.seen → (r ≡ ran.Whole → o ≡ outcome.Whole)
+pub relay_report : (policies : List PolicySeen) (held : List (Option (List (List ℕ)))) (r : Ran) (lock : LockId) (o : Outcome) (links : ℕ) (script : LiveScript) (seat : SeatSeen Entry) (text : List ℕ) → lock.origin ≡ origin_of (authority_of script.value) policies → ReportsTarget script.value script.config seat.seen → (r ≡ ran.Whole → o ≡ outcome.Whole)
     → LeavesLinks lock held script.config o links seat → ReportsOn r script.target seat text → IsRelayReport policies held r links script text
-relay_report policies held r lock o links script seat text root told whole by is =
+relay_report policies held r lock o links script seat text root reported whole by is =
     let core : CoreSeen = is.0 in
     let session = session_at (authority_of script.value) policies core seat.lock.origin (ap (λ (l : LockId). l.origin) by.left.lock_is ∙ root) is.1 in
     record {
@@ -45,7 +45,7 @@ relay_report policies held r lock o links script seat text root told whole by is
       journal = core.journal;
       ledger = ledger_in core;
       session = session.1;
-      told = told_stays script.value script.config core.journal.entries seat.seen is.2 told;
+      reported = reported_stays script.value script.config core.journal.entries seat.seen is.2 reported;
       carries = carries_links r lock held script.config o links seat core.journal.entries whole by is.3 is.2;
       come = come_as_held lock held script.config o by.owns seat core.journal.entries by.left by.calls is.3 is.2;
       full = is.4;
@@ -69,10 +69,10 @@ relay_text policies held links left left' script text read (ran.Full, report) = 
 
 -- ---- the listener
 
-pub heard_all : (heard : Bool) (faults faults' : ℕ) → heard ≡ true → IsHeard heard faults faults' → faults' ≡ faults
-heard_all true faults faults' all is = is
-heard_all false faults faults' all is = absurd (cc)
+pub listened_all : (listened : Bool) (faults faults' : ℕ) → listened ≡ true → IsListening listened faults faults' → faults' ≡ faults
+listened_all true faults faults' all is = is
+listened_all false faults faults' all is = absurd (cc)
 
-pub heard_not : (heard : Bool) (faults faults' : ℕ) → heard ≡ false → IsHeard heard faults faults' → faults' ≡ one_more faults
-heard_not true faults faults' none is = absurd (cc)
-heard_not false faults faults' none is = is
+pub listened_not : (listened : Bool) (faults faults' : ℕ) → listened ≡ false → IsListening listened faults faults' → faults' ≡ one_more faults
+listened_not true faults faults' none is = absurd (cc)
+listened_not false faults faults' none is = is

@@ -1,4 +1,4 @@
-pub mod Fronts
+pub mod RelaySides
 pub mod Links
 pub mod Relayed
 pub mod Sides

@@ -25,6 +25,6 @@ pub record LinkRelayed {H : Type 0} (seen : H → HandleSeen) (share : H → Lis
   pub same_share : share after.post ≡ share before.post
 
 -- whether each link was accepted, and what that did to the listener's count of faults: no call failed, or one did
-abbrev pub IsHeard : Bool → ℕ → ℕ → Type 0
-IsHeard true faults faults' = faults' ≡ faults
-IsHeard false faults faults' = faults' ≡ one_more faults
+abbrev pub IsListening : Bool → ℕ → ℕ → Type 0
+IsListening true faults faults' = faults' ≡ faults
+IsListening false faults faults' = faults' ≡ one_more faults

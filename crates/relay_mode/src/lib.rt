@@ -2,10 +2,10 @@
 #![tactic(auto)]
 
 mod accepting;
-mod front;
 mod link;
 mod mode;
 mod prompt;
+mod relay_side;
 mod run;
 mod session;
 mod settings;

@@ -1,14 +1,14 @@
-// Both sides of a relay at once: the front, which relays links of the listener, and the workers that keep those of the world.
+// Both sides of a relay at once: the serving side, which relays links of the listener, and the workers that keep those of the world.
 ghost use Rattle.std.specs.Prelude.{◌≡◌, map};
 ghost use Rattle.std.specs.Fork.{AcceptsAt, ChangesAt};
 ghost use Rattle.std.specs.List.{AllByRecursion};
 ghost use Rattle.live_channel.specs.Handles.{IsFresh};
 ghost use Rattle.live_channel.specs.Keeping.{KeepsDone};
-ghost use Rattle.relay_mode.specs.Fronts.{FrontDone};
-ghost use Rattle.relay_mode.specs.Links.{IsHeard};
+ghost use Rattle.relay_mode.specs.RelaySides.{RelaySideDone};
+ghost use Rattle.relay_mode.specs.Links.{IsListening};
 ghost use Rattle.relay_mode.specs.Sides.{AcceptsTwo, ChangesTwo};
 
-use crate::front::Front;
+use crate::relay_side::RelaySide;
 use dns_watch::Lookup;
 use gate_io::{Clock, Dialer, Draws, Listener};
 use lb_policy::Balancer;
@@ -75,23 +75,23 @@ pub(crate) fn work_beside<
     rt: &R,
     clock: &C,
     listener: &mut L,
-    front: &mut Front<ChannelSeat<'_, P, R, C, D>>,
+    relay_side: &mut RelaySide<ChannelSeat<'_, P, R, C, D>>,
     links: &mut Linkers<ChannelSeat<'_, P, R, C, D>, N, K, D>,
 ) -> bool
-    requires fresh { AllByRecursion (IsFresh front.old.closer.seat.lock) (map (λ j. j.post.seat) front.old.jobs.items) }
-    ensures heard { IsHeard result (L.faults listener.old) (L.faults listener.new) }
-    ensures front { FrontDone (λ h. h.seat) front.old front.new }
+    requires fresh { AllByRecursion (IsFresh relay_side.old.closer.seat.lock) (map (λ j. j.post.seat) relay_side.old.jobs.items) }
+    ensures listened { IsListening result (L.faults listener.old) (L.faults listener.new) }
+    ensures relay_side { RelaySideDone (λ h. h.seat) relay_side.old relay_side.new }
     ensures links { KeepsDone (λ h. h.seat) N.coming links.old links.new }
 {
     work_both(
         rt,
-        front,
+        relay_side,
         listener,
         links,
-        &|front: &mut Front<ChannelSeat<'_, P, R, C, D>>, listener: &mut L| -> bool
-            requires { AllByRecursion (IsFresh front.now.closer.seat.lock) (map (λ j. j.post.seat) front.now.jobs.items) }
-            ensures { IsHeard result (L.faults listener.entry.now) (L.faults listener.exit.now) × FrontDone (λ h. h.seat) front.entry.now front.exit.now }
-        { front.relay(rt, clock, listener) },
+        &|relay_side: &mut RelaySide<ChannelSeat<'_, P, R, C, D>>, listener: &mut L| -> bool
+            requires { AllByRecursion (IsFresh relay_side.now.closer.seat.lock) (map (λ j. j.post.seat) relay_side.now.jobs.items) }
+            ensures { IsListening result (L.faults listener.entry.now) (L.faults listener.exit.now) × RelaySideDone (λ h. h.seat) relay_side.entry.now relay_side.exit.now }
+        { relay_side.relay(rt, clock, listener) },
         &|_: usize, links: &mut Linkers<ChannelSeat<'_, P, R, C, D>, N, K, D>| -> ()
             ensures { KeepsDone (λ h. h.seat) N.coming links.entry.now links.exit.now }
         { links.keep(rt, clock) },

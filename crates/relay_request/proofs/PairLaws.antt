@@ -46,7 +46,7 @@ named name t =
     }
 
 pass : (p : List ℕ → Bool) (x : List ℕ) (xs : List (List ℕ)) → p x ≡ false → list_any p xs ≡ false → list_any p (x ∷ xs) ≡ false
-pass p x xs here behind = rw here behind
+pass p x xs here afterwards = rw here afterwards
 
 free : (name : List ℕ) → IsMetaName name → list_any (λ n. bytes_eq name n) used_names ≡ false
 free name h =
@@ -136,18 +136,18 @@ taken meta f so room = rw so (rw (le-leb (meta_size meta + pair_size f) meta_lim
 pub full : (meta : List Field) (f : Field) → may_pair f ≡ true → meta_limit < meta_size meta + pair_size f → with_pair (Some meta) f ≡ None
 full meta f so past = rw so (rw (lt-leb (meta_size meta + pair_size f) meta_limit past) refl)
 
--- behind too much metadata there is none
-pub none_behind : (pairs : List Field) → metadata_from None pairs ≡ None
-none_behind [] = refl
-none_behind (f ∷ pairs) = none_behind pairs
+-- after too much metadata there is none
+pub none_afterwards : (pairs : List Field) → metadata_from None pairs ≡ None
+none_afterwards [] = refl
+none_afterwards (f ∷ pairs) = none_afterwards pairs
 
 -- a pair without room ends it
 pub none_from : (meta pairs : List Field) (i : ℕ) (f : Field) (all : Option (List Field)) → i < length pairs → f ≡ get_or pairs i f → with_pair (Some meta) f ≡ None → metadata_from (Some meta) (drop i pairs) ≡ all → None ≡ all
 none_from meta pairs i f all lt is full e =
-    let front : drop i pairs ≡ f ∷ drop (suc i) pairs = drop-cons pairs i f lt ∙ ap (λ (x : Field). x ∷ drop (suc i) pairs) (sym is) in
-    sym (none_behind (drop (suc i) pairs))
+    let prefix : drop i pairs ≡ f ∷ drop (suc i) pairs = drop-cons pairs i f lt ∙ ap (λ (x : Field). x ∷ drop (suc i) pairs) (sym is) in
+    sym (none_afterwards (drop (suc i) pairs))
     ∙ (ap (λ (o : Option (List Field)). metadata_from o (drop (suc i) pairs)) (sym full)
-    ∙ (ap (metadata_from (Some meta)) (sym front) ∙ e))
+    ∙ (ap (metadata_from (Some meta)) (sym prefix) ∙ e))
 
 pub none_kept : IsRequestMetadata []
 none_kept = record { pairs_are = All-from_recursion IsPair [] tt; within = omega arith }

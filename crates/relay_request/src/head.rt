@@ -7,7 +7,7 @@ ghost use Rattle.relay_request.specs.Heads.{call_path, has_grpc_type, is_grpc_ty
 
 use grpc_base::{Field, Octets, is_path};
 
-/// The first value of a name, and the fields behind it.
+/// The first value of a name, and the fields after it.
 pub(crate) fn first_value<'a>(fields: &'a [Field], name: &[u8]) -> Option<(&'a Octets, &'a [Field])>
     ensures { MatchOption result (values_of name.now fields.now ≡ []) (λ x. values_of name.now fields.now ≡ x.0.now ∷ values_of name.now x.1.now) }
 {

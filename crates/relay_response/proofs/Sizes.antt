@@ -9,11 +9,11 @@ use Rattle.h2_hpack.proofs.SizeLemmas.{encoding_is_short}
 use Rattle.relay_response.specs.Blocks.{fitting}
 
 within_by : (room : ℕ) (f : Field) (fields : List Field) (b : Bool) → nat_le (field_size f) room ≡ b → ((left : ℕ) → list_size (fitting left fields) ≤ left) → list_size (if b then f ∷ fitting (room - field_size f) fields else fitting room fields) ≤ room
-within_by room f fields true t behind =
+within_by room f fields true t afterwards =
     let fits = leb-true (field_size f) room t in
-    let rest = behind (room - field_size f) in
+    let rest = afterwards (room - field_size f) in
     omega (arith, fits, rest)
-within_by room f fields false t behind = behind room
+within_by room f fields false t afterwards = afterwards room
 
 pub fitting_within : (fields : List Field) (room : ℕ) → list_size (fitting room fields) ≤ room
 fitting_within [] room = omega arith

@@ -10,7 +10,7 @@ use h2_hpack::encode_fields;
 use std::alloc::Global;
 use std::marker::Model;
 
-/// The bytes of a header block that fits one frame, also behind an update of the table's size.
+/// The bytes of a header block that fits one frame, also after an update of the table's size.
 #[derive(Debug, Drop)]
 pub struct Block {
     bytes: Octets,

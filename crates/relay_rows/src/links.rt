@@ -20,7 +20,7 @@ fn failing(alloc: Global, text: &str) -> Result<Vec<u64>, Wrong> {
     Ok(failing)
 }
 
-/// The bytes of a row as what comes on a link, which ends behind them: `MOST READ WRITE BYTES` says how many bytes a read gives, and which read
+/// The bytes of a row as what comes on a link, which ends after them: `MOST READ WRITE BYTES` says how many bytes a read gives, and which read
 /// and which write fail.
 fn link_of(alloc: Global, input: &str) -> Result<(MemLinkIn, MemLinkOut), Wrong> {
     let most = number(part(input, 0))? as usize;

@@ -6,7 +6,7 @@ use Rattle.grpc_base.specs.Addresses.{has_address}
 use Rattle.grpc_base.specs.Pieces.{pieces}
 use Rattle.resolver_core.specs.declared.target.TargetFault.{TargetFault}
 use Rattle.resolver_core.specs.declared.target.TargetFault.TheVariants as fault
-use Rattle.resolver_core.specs.AnyTargets.{any_target_of, behind_slashes, dns_name_of, dns_target, ipv4_target, is_dns, name_from}
+use Rattle.resolver_core.specs.AnyTargets.{any_target_of, after_slashes, dns_name_of, dns_target, ipv4_target, is_dns, name_from}
 use Rattle.resolver_core.specs.Targets.{address_before, address_of, items_of, listed_of, target_of, with_addresses}
 use Rattle.resolver_core.proofs.PieceLaws.{pieces-some}
 
@@ -42,9 +42,9 @@ name_from-three : (a b : List ℕ) (more : List (List ℕ)) → (more ≡ [] →
 name_from-three a b [] some = absurd (some refl)
 name_from-three a b (c ∷ more) some = refl
 
-pub name_of-three : (text behind one two a b : List ℕ) → behind ≡ behind_slashes text → pieces 58 behind ≡ a ∷ pieces 58 one → pieces 58 one ≡ b ∷ pieces 58 two → dns_name_of text ≡ None
-name_of-three text behind one two a b is e f =
-    let all : pieces 58 (behind_slashes text) ≡ a ∷ b ∷ pieces 58 two = (cc) in
+pub name_of-three : (text afterwards one two a b : List ℕ) → afterwards ≡ after_slashes text → pieces 58 afterwards ≡ a ∷ pieces 58 one → pieces 58 one ≡ b ∷ pieces 58 two → dns_name_of text ≡ None
+name_of-three text afterwards one two a b is e f =
+    let all : pieces 58 (after_slashes text) ≡ a ∷ b ∷ pieces 58 two = (cc) in
     ap name_from all ∙ name_from-three a b (pieces 58 two) (pieces-some 58 two)
 
 -- a target of the scheme `dns`, and one of another

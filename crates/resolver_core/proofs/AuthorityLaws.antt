@@ -58,7 +58,7 @@ host_visible host h =
     list_all-from_AllPass (list_all is_label_byte) (pieces 46 host) (λ i d below. list_all-from_AllPass is_label_byte _ (h.labels i d below).bytes) in
     weaker (λ b. (b == 46) || is_label_byte b) is_visible host host_byte_visible (sym (all_parts (λ b. b == 46) is_label_byte host) ∙ parts)
 
--- one text behind another, with a byte between them
+-- one text after another, with a byte between them
 joined_visible : (a b : List ℕ) (separator : ℕ) → list_all is_visible a ≡ true → is_visible separator ≡ true → list_all is_visible b ≡ true → list_all is_visible (a ++ separator ∷ b) ≡ true
 joined_visible a b separator first between second =
     list_all-append is_visible a (separator ∷ b) ∙ three (list_all is_visible a) (is_visible separator) (list_all is_visible b) first between second

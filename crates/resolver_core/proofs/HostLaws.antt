@@ -1,4 +1,4 @@
--- The test of a host tells what a host is.
+-- The test of a host reports what a host is.
 use Rattle.std.proofs.Common.{◌≡◌, ◌≤◌, ◌↔◌, ℕ, Bool, true, false, not, ◌&&◌, nat_le, nat_eq, List, length, codes, IsTrue, arith, refl, sym}
 use Rattle.std.proofs.lemmas.Bool.Decides.{nat_tests}
 use Rattle.std.proofs.lemmas.Bool.{false_from_ne_true}
@@ -33,8 +33,8 @@ at_most n m h = grind (arith, nat_tests)
 within : (n m : ℕ) → nat_le n m ≡ true → n ≤ m
 within n m h = grind (arith, nat_tests)
 
-label_is_told : (label : List ℕ) → IsLabel label → is_label label ≡ true
-label_is_told label h =
+label_is_reported : (label : List ℕ) → IsLabel label → is_label label ≡ true
+label_is_reported label h =
     let a : nat_le 1 (length label) ≡ true = at_most 1 (length label) h.not_empty in
     let b : nat_le (length label) 63 ≡ true = at_most (length label) 63 h.within in
     let c : list_all is_label_byte label ≡ true = list_all-from_AllPass is_label_byte label h.bytes in
@@ -42,8 +42,8 @@ label_is_told label h =
     let e : not (ends_with nat_eq label (codes "-")) ≡ true = denied _ h.no_hyphen_last in
     rw (a, b, c, d, e) refl
 
-told_is_label : (label : List ℕ) → is_label label ≡ true → IsLabel label
-told_is_label label h =
+reported_is_label : (label : List ℕ) → is_label label ≡ true → IsLabel label
+reported_is_label label h =
     let a : nat_le 1 (length label) ≡ true = grind arith in
     let b : nat_le (length label) 63 ≡ true = grind arith in
     let c : list_all is_label_byte label ≡ true = grind arith in
@@ -57,22 +57,22 @@ told_is_label label h =
       no_hyphen_last = refused _ e;
     }
 
-host_is_told : (host : List ℕ) → IsHost host → is_host host ≡ true
-host_is_told host h =
-    both _ _ (at_most (length host) 253 h.within) (list_all-from_AllPass is_label (pieces 46 host) (λ k d below. label_is_told _ (h.labels k d below)))
+host_is_reported : (host : List ℕ) → IsHost host → is_host host ≡ true
+host_is_reported host h =
+    both _ _ (at_most (length host) 253 h.within) (list_all-from_AllPass is_label (pieces 46 host) (λ k d below. label_is_reported _ (h.labels k d below)))
 
-pub told_is_host : (host : List ℕ) → is_host host ≡ true → IsHost host
-told_is_host host h =
+pub reported_is_host : (host : List ℕ) → is_host host ≡ true → IsHost host
+reported_is_host host h =
     let labels : list_all is_label (pieces 46 host) ≡ true = second (nat_le (length host) 253) _ h in
     record {
       within = within (length host) 253 (first _ (list_all is_label (pieces 46 host)) h);
-      labels = λ k d below. told_is_label _ (AllPass-from_list_all is_label (pieces 46 host) labels k d below);
+      labels = λ k d below. reported_is_label _ (AllPass-from_list_all is_label (pieces 46 host) labels k d below);
     }
 
 false_is_true : IsTrue false → ⊥
 false_is_true h = grind arith
 
--- a test that tells hosts is this test
+-- a test that reports hosts is this test
 pub same_test : (host : List ℕ) (b : Bool) → IsTrue b ↔ IsHost host → b ≡ is_host host
-same_test host true tells = sym (host_is_told host (tells.0 refl))
-same_test host false tells = sym (false_from_ne_true (is_host host) (λ t. false_is_true (tells.1 (told_is_host host t))))
+same_test host true reports_that = sym (host_is_reported host (reports_that.0 refl))
+same_test host false reports_that = sym (false_from_ne_true (is_host host) (λ t. false_is_true (reports_that.1 (reported_is_host host t))))

@@ -6,10 +6,10 @@ use Rattle.grpc_base.specs.declared.address.Address.{Address}
 use Rattle.grpc_base.specs.Pieces.{pieces}
 use Rattle.resolver_core.specs.declared.any_target.Target.{Target}
 use Rattle.resolver_core.specs.declared.target.TargetFault.{TargetFault}
-use Rattle.resolver_core.specs.AnyTargets.{IsTarget, any_target_of, behind_slashes, dns_target, ipv4_target, is_dns, is_host, name_from, named}
+use Rattle.resolver_core.specs.AnyTargets.{IsTarget, any_target_of, after_slashes, dns_target, ipv4_target, is_dns, is_host, name_from, named}
 use Rattle.resolver_core.specs.Targets.{items_of, listed_of, number_within, port_from, port_of}
 use Rattle.resolver_core.proofs.AnyTargetLaws.{listed_some}
-use Rattle.resolver_core.proofs.HostLaws.{told_is_host}
+use Rattle.resolver_core.proofs.HostLaws.{reported_is_host}
 
 -- a port is not 0
 port_kept : (n : Option ℕ) (p : ℕ) → port_from n ≡ Some p → 1 ≤ p
@@ -26,7 +26,7 @@ named_kept host None some = tt
 named_kept host (Some p) some = by_test (is_host host) refl
   where
     by_test : (b : Bool) → is_host host ≡ b → IfOk (dns_target (if b then Some (record { host = host; port = p }) else None)) IsTarget
-    by_test true is = (told_is_host host is, some p refl)
+    by_test true is = (reported_is_host host is, some p refl)
     by_test false is = tt
 
 name_kept : (parts : List (List ℕ)) → IfOk (dns_target (name_from parts)) IsTarget
@@ -44,8 +44,8 @@ ipv4_kept : (r : Result (List Address) TargetFault) → IfOk r (λ addresses. ad
 ipv4_kept (Ok addresses) some = some
 ipv4_kept (Err f) some = tt
 
-any_kept : (b : Bool) (text : List ℕ) → IfOk (if b then dns_target (name_from (pieces 58 (behind_slashes (drop 4 text)))) else ipv4_target (listed_of (if starts_with nat_eq text (codes "ipv4:") then items_of (pieces 44 (drop 5 text)) else None))) IsTarget
-any_kept true text = name_kept (pieces 58 (behind_slashes (drop 4 text)))
+any_kept : (b : Bool) (text : List ℕ) → IfOk (if b then dns_target (name_from (pieces 58 (after_slashes (drop 4 text)))) else ipv4_target (listed_of (if starts_with nat_eq text (codes "ipv4:") then items_of (pieces 44 (drop 5 text)) else None))) IsTarget
+any_kept true text = name_kept (pieces 58 (after_slashes (drop 4 text)))
 any_kept false text = ipv4_kept _ (items_kept (starts_with nat_eq text (codes "ipv4:")) (drop 5 text))
 
 pub target_kept : (text : List ℕ) (value : Target) → any_target_of text ≡ Ok value → IsTarget value

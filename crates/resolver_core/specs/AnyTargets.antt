@@ -33,11 +33,11 @@ name_from (host ∷ port ∷ []) = named host (port_of port)
 name_from _ = None
 
 -- the same where the slashes of an empty authority may stand before it (RFC 3986, section 3.2)
-abbrev pub behind_slashes : List ℕ → List ℕ
-behind_slashes text = if starts_with nat_eq text (codes "///") then drop 3 text else text
+abbrev pub after_slashes : List ℕ → List ℕ
+after_slashes text = if starts_with nat_eq text (codes "///") then drop 3 text else text
 
 abbrev pub dns_name_of : List ℕ → Option DnsName
-dns_name_of text = name_from (pieces 58 (behind_slashes text))
+dns_name_of text = name_from (pieces 58 (after_slashes text))
 
 -- what either scheme says as a target
 abbrev pub dns_target : Option DnsName → Result Target TargetFault

@@ -4,7 +4,7 @@ ghost use Rattle.std.specs.Option.{ForSome};
 ghost use Rattle.grpc_base.specs.Addresses.{address_text};
 ghost use Rattle.grpc_base.specs.Authorities.{IsAuthority};
 ghost use Rattle.grpc_base.specs.Hosts.{IsHost};
-ghost use Rattle.resolver_core.specs.AnyTargets.{IsTarget, any_target_of, authority_of, behind_slashes, dns_name_of, dns_target, is_dns, is_host, named};
+ghost use Rattle.resolver_core.specs.AnyTargets.{IsTarget, any_target_of, authority_of, after_slashes, dns_name_of, dns_target, is_dns, is_host, named};
 ghost use Rattle.resolver_core.specs.declared.any_target.Target.TheVariants as TheTargets;
 
 use crate::item::{DEFAULT_PORT, read_port};
@@ -35,7 +35,7 @@ pub fn read_any_target(alloc: Global, text: &[u8]) -> Result<Target, TargetFault
     ensures bad_target { (result ≡ Err TargetFault.BadTarget) ↔ (any_target_of text.now ≡ Err TargetFault.BadTarget) }
     ensures too_many { (result ≡ Err TargetFault.TooMany) ↔ (any_target_of text.now ≡ Err TargetFault.TooMany) }
 {
-    match behind_dns(text) {
+    match after_dns(text) {
         Some(name) => match read_name(alloc, name) {
             Ok(name) => Ok(Target::Dns(name)),
             Err(fault) => Err(fault),
@@ -47,15 +47,15 @@ pub fn read_any_target(alloc: Global, text: &[u8]) -> Result<Target, TargetFault
     }
 }
 
-/// What stands behind `dns:`, where a text begins with it.
-fn behind_dns(text: &[u8]) -> Option<&[u8]>
+/// What stands after `dns:`, where a text begins with it.
+fn after_dns(text: &[u8]) -> Option<&[u8]>
     ensures some { IfSome result (λ name. IsTrue (is_dns text.now) × (name.now ≡ drop 4 text.now)) }
     ensures none { IfNone result (is_dns text.now ≡ false) }
 {
     text.strip_prefix(b"dns:")
 }
 
-/// The name behind `dns:`.
+/// The name after `dns:`.
 fn read_name(alloc: Global, text: &[u8]) -> Result<DnsName, TargetFault>
     ensures ok { IfOk result (λ n. dns_name_of text.now ≡ Some n) }
     ensures kept { IfOk result (λ n. IsHost n.host × (1 ≤ n.port)) }
@@ -69,12 +69,12 @@ fn read_name(alloc: Global, text: &[u8]) -> Result<DnsName, TargetFault>
     Ok(DnsName { host, port })
 }
 
-/// The host and the port of a name behind `dns:`.
+/// The host and the port of a name after `dns:`.
 fn name_parts(text: &[u8]) -> Option<(&[u8], u16)>
     ensures value { option_map (λ n. record { host = n.0.now; port = n.1 }) result ≡ dns_name_of text.now }
     ensures kept { IfSome result (λ n. IsHost n.0.now × (1 ≤ n.1)) }
 {
-    let (host, rest) = first_piece(behind_slashes(text), b':');
+    let (host, rest) = first_piece(after_slashes(text), b':');
     let Some(rest) = rest else {
         return named(host, Some(DEFAULT_PORT));
     };
@@ -85,9 +85,9 @@ fn name_parts(text: &[u8]) -> Option<(&[u8], u16)>
     named(host, read_port(port))
 }
 
-/// What stands behind the slashes of an empty authority, which may be left out.
-fn behind_slashes(text: &[u8]) -> &[u8]
-    ensures { result.now ≡ behind_slashes text.now }
+/// What stands after the slashes of an empty authority, which may be left out.
+fn after_slashes(text: &[u8]) -> &[u8]
+    ensures { result.now ≡ after_slashes text.now }
 {
     match text.strip_prefix(b"///") {
         Some(name) => name,

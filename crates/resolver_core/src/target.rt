@@ -14,7 +14,7 @@ pub enum TargetFault {
     BadTarget,
     /// It is, and has more than 64 of them, counted with repeats.
     TooMany,
-    /// It is `dns:` without a host, or a host and a port, behind it.
+    /// It is `dns:` without a host, or a host and a port, after it.
     BadHost,
     /// The allocator gave no memory for the name of a host.
     NoMemory,

@@ -1,4 +1,4 @@
 pub mod Arrivals
 pub mod Out
 pub mod Shown
-pub mod Tells
+pub mod ReportsThat

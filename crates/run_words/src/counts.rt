@@ -102,7 +102,7 @@ impl Counts {
     }
 }
 
-/// Appends one of the parts behind the count of calls.
+/// Appends one of the parts after the count of calls.
 fn append_part(out: &mut Vec<u8>, is_first: bool, count: u64, name: &[u8]) -> Result<(), NoMemory> {
     let mark: &[u8] = if is_first { b": " } else { b", " };
     out.extend_from_slice(mark)?;
@@ -117,7 +117,7 @@ fn append_counted(out: &mut Vec<u8>, count: u64, one: &[u8], more: &[u8]) -> Res
     Ok(())
 }
 
-/// Appends a number and what it counts behind a comma, where there is something.
+/// Appends a number and what it counts after a comma, where there is something.
 fn append_some(out: &mut Vec<u8>, count: u64, one: &[u8], more: &[u8]) -> Result<(), NoMemory> {
     if count == 0 {
         return Ok(());

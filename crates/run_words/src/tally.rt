@@ -62,7 +62,7 @@ impl RunTally {
         }
     }
 
-    /// How the calls ended, how many attempts were made for them, and how long it took, in one line behind the name of the mode; before
+    /// How the calls ended, how many attempts were made for them, and how long it took, in one line after the name of the mode; before
     /// it a line where the service config was refused. As `live: 6 calls: 3 OK, 3 UNAVAILABLE; 9 attempts, 3 retries; 941 ms`. Nothing
     /// where no report was written.
     pub fn words(&self, alloc: Global, mode: &[u8]) -> Result<Vec<u8>, NoMemory> {

@@ -7,7 +7,7 @@ use Rattle.script_fields.specs.Values.{IsAddress}
 use Rattle.script_fields.specs.Values.{IsNoDigit}
 use Rattle.script_fields.proofs.TextLaws.{same_number}
 
--- four numbers and a port, one behind the other
+-- four numbers and a port, one after the other
 abbrev pub last_two : ℕ → ℕ → List ℕ
 last_two d port = decimal d ++ (58 ∷ decimal port)
 
@@ -42,7 +42,7 @@ dot = inl (omega arith)
 pub colon : IsNoDigit 58
 colon = inr (omega arith)
 
--- what stands behind a small number is told
+-- what stands after a small number is reported
 pub tail_of : (b n k : ℕ) (text r s : List ℕ) → IsNoDigit b → n ≤ 255 → k ≤ 255 → text ≡ decimal n ++ b ∷ r → text ≡ decimal k ++ b ∷ s → r ≡ s
 tail_of b n k text r s nd small small_k e f = (same_number b n k text r s nd (omega (arith, small)) (omega (arith, small_k)) e f).1
 
@@ -59,15 +59,15 @@ byte_c a = omega arith
 pub byte_d : (a : Address) → a.ip % 256 ≤ 255
 byte_d a = omega arith
 
--- what an address leaves behind its first number, its second, its third and its fourth
-pub behind_first : (n : ℕ) (text r : List ℕ) (a : Address) → IsAddress a → text ≡ address_text a → n ≤ 255 → text ≡ decimal n ++ 46 ∷ r → r ≡ last_four (a.ip / 2 ^ 16 % 256) (a.ip / 2 ^ 8 % 256) (a.ip % 256) a.port
-behind_first n text r a is e small f = tail_of 46 n (a.ip / 2 ^ 24) text r _ dot small (byte_a a is) f (e ∙ text_is_quad a)
+-- what an address leaves after its first number, its second, its third and its fourth
+pub after_the_first : (n : ℕ) (text r : List ℕ) (a : Address) → IsAddress a → text ≡ address_text a → n ≤ 255 → text ≡ decimal n ++ 46 ∷ r → r ≡ last_four (a.ip / 2 ^ 16 % 256) (a.ip / 2 ^ 8 % 256) (a.ip % 256) a.port
+after_the_first n text r a is e small f = tail_of 46 n (a.ip / 2 ^ 24) text r _ dot small (byte_a a is) f (e ∙ text_is_quad a)
 
-pub behind_second : (n : ℕ) (text r : List ℕ) (a : Address) → text ≡ last_four (a.ip / 2 ^ 16 % 256) (a.ip / 2 ^ 8 % 256) (a.ip % 256) a.port → n ≤ 255 → text ≡ decimal n ++ 46 ∷ r → r ≡ last_three (a.ip / 2 ^ 8 % 256) (a.ip % 256) a.port
-behind_second n text r a e small f = tail_of 46 n (a.ip / 2 ^ 16 % 256) text r _ dot small (byte_b a) f e
+pub after_second : (n : ℕ) (text r : List ℕ) (a : Address) → text ≡ last_four (a.ip / 2 ^ 16 % 256) (a.ip / 2 ^ 8 % 256) (a.ip % 256) a.port → n ≤ 255 → text ≡ decimal n ++ 46 ∷ r → r ≡ last_three (a.ip / 2 ^ 8 % 256) (a.ip % 256) a.port
+after_second n text r a e small f = tail_of 46 n (a.ip / 2 ^ 16 % 256) text r _ dot small (byte_b a) f e
 
-pub behind_third : (n : ℕ) (text r : List ℕ) (a : Address) → text ≡ last_three (a.ip / 2 ^ 8 % 256) (a.ip % 256) a.port → n ≤ 255 → text ≡ decimal n ++ 46 ∷ r → r ≡ last_two (a.ip % 256) a.port
-behind_third n text r a e small f = tail_of 46 n (a.ip / 2 ^ 8 % 256) text r _ dot small (byte_c a) f e
+pub after_third : (n : ℕ) (text r : List ℕ) (a : Address) → text ≡ last_three (a.ip / 2 ^ 8 % 256) (a.ip % 256) a.port → n ≤ 255 → text ≡ decimal n ++ 46 ∷ r → r ≡ last_two (a.ip % 256) a.port
+after_third n text r a e small f = tail_of 46 n (a.ip / 2 ^ 8 % 256) text r _ dot small (byte_c a) f e
 
-pub behind_fourth : (n : ℕ) (text r : List ℕ) (a : Address) → text ≡ last_two (a.ip % 256) a.port → n ≤ 255 → text ≡ decimal n ++ 58 ∷ r → r ≡ decimal a.port
-behind_fourth n text r a e small f = tail_of 58 n (a.ip % 256) text r _ colon small (byte_d a) f e
+pub after_fourth : (n : ℕ) (text r : List ℕ) (a : Address) → text ≡ last_two (a.ip % 256) a.port → n ≤ 255 → text ≡ decimal n ++ 58 ∷ r → r ≡ decimal a.port
+after_fourth n text r a e small f = tail_of 58 n (a.ip % 256) text r _ colon small (byte_d a) f e

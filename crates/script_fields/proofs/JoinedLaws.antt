@@ -1,4 +1,4 @@
--- Joined texts as what a writer appends: the first one, and each other behind the byte.
+-- Joined texts as what a writer appends: the first one, and each other after the byte.
 use Rattle.std.proofs.Common.{◌≡◌, ℕ, ◌-◌, ◌≤◌, List, [], ◌∷◌, ◌++◌, length, get_or, take, drop, sym, ap, ◌∙◌, arith}
 use Rattle.std.specs.Prelude.{map, flat_map}
 use Rattle.std.specs.List.{join_with_byte}

@@ -94,23 +94,23 @@ counted_next items a count made list new is few many =
 pub list_none : (text : List ℕ) → IsReadList text [] 0 (Some text)
 list_none text = record { items = []; good = All-from_recursion IsAddress [] tt; parts = refl; counted = inl (omega arith, refl, refl) }
 
-pub list_refused : (text : List ℕ) (list : List Address) (count : ℕ) (items item : List ℕ) (behind : Option (List ℕ)) (xs : List Address) → text ≢ 45 ∷ [] → IsReadList text list count (Some items) → pieces 44 items ≡ item ∷ pieces_of_rest 44 behind → ((a : Address) → IsAddress a → item ≡ address_text a → ⊥) → SpellsAddresses text xs → ⊥
-list_refused text list count items item behind xs other is first none spelled =
-    let parts : map address_text xs ≡ map address_text is.items ++ item ∷ pieces_of_rest 44 behind =
+pub list_refused : (text : List ℕ) (list : List Address) (count : ℕ) (items item : List ℕ) (afterwards : Option (List ℕ)) (xs : List Address) → text ≢ 45 ∷ [] → IsReadList text list count (Some items) → pieces 44 items ≡ item ∷ pieces_of_rest 44 afterwards → ((a : Address) → IsAddress a → item ≡ address_text a → ⊥) → SpellsAddresses text xs → ⊥
+list_refused text list count items item afterwards xs other is first none spelled =
+    let parts : map address_text xs ≡ map address_text is.items ++ item ∷ pieces_of_rest 44 afterwards =
     sym (addresses_parted text xs other spelled) ∙ is.parts ∙ ap (λ (t : List (List ℕ)). map address_text is.items ++ t) first in
     let one : (a : Address) × IsAddress a × (item ≡ address_text a) =
-    one_spelled address_text IsAddress xs (map address_text is.items) item (pieces_of_rest 44 behind) (recursion_from_All IsAddress xs spelled.0) parts in
+    one_spelled address_text IsAddress xs (map address_text is.items) item (pieces_of_rest 44 afterwards) (recursion_from_All IsAddress xs spelled.0) parts in
     none one.0 one.1 one.2
 
-pub list_more : (text : List ℕ) (list new : List Address) (count made : ℕ) (items item : List ℕ) (behind : Option (List ℕ)) (a : Address) → IsReadList text list count (Some items) → pieces 44 items ≡ item ∷ pieces_of_rest 44 behind → IsAddress a → item ≡ address_text a → (count < address_limit → length list ≤ count → (made ≡ count + 1) × (new ≡ with_address list a)) → (address_limit ≤ count → made ≡ address_limit + 1) → IsReadList text new made behind
-list_more text list new count made items item behind a is first good spelled few many =
+pub list_more : (text : List ℕ) (list new : List Address) (count made : ℕ) (items item : List ℕ) (afterwards : Option (List ℕ)) (a : Address) → IsReadList text list count (Some items) → pieces 44 items ≡ item ∷ pieces_of_rest 44 afterwards → IsAddress a → item ≡ address_text a → (count < address_limit → length list ≤ count → (made ≡ count + 1) × (new ≡ with_address list a)) → (address_limit ≤ count → made ≡ address_limit + 1) → IsReadList text new made afterwards
+list_more text list new count made items item afterwards a is first good spelled few many =
     let whole : map address_text (is.items ++ a ∷ []) ≡ map address_text is.items ++ address_text a ∷ [] = map-append address_text is.items (a ∷ []) in
-    let parts : pieces 44 text ≡ map address_text is.items ++ address_text a ∷ pieces_of_rest 44 behind =
-    is.parts ∙ ap (λ (t : List (List ℕ)). map address_text is.items ++ t) (first ∙ ap (λ (v : List ℕ). v ∷ pieces_of_rest 44 behind) spelled) in
+    let parts : pieces 44 text ≡ map address_text is.items ++ address_text a ∷ pieces_of_rest 44 afterwards =
+    is.parts ∙ ap (λ (t : List (List ℕ)). map address_text is.items ++ t) (first ∙ ap (λ (v : List ℕ). v ∷ pieces_of_rest 44 afterwards) spelled) in
     record {
       items = is.items ++ a ∷ [];
       good = All-push IsAddress is.items a is.good good;
-      parts = parts ∙ sym (append_assoc (map address_text is.items) (address_text a ∷ []) (pieces_of_rest 44 behind)) ∙ ap (λ (t : List (List ℕ)). t ++ pieces_of_rest 44 behind) (sym whole);
+      parts = parts ∙ sym (append_assoc (map address_text is.items) (address_text a ∷ []) (pieces_of_rest 44 afterwards)) ∙ ap (λ (t : List (List ℕ)). t ++ pieces_of_rest 44 afterwards) (sym whole);
       counted = counted_next is.items a count made list new is.counted few many;
     }
 

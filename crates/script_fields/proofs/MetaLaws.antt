@@ -98,7 +98,7 @@ pair_one f g p q e =
     let same : record { name = f.name; value = f.value } ≡ record { name = g.name; value = g.value } = ap (λ (m : List ℕ). record { name = m; value = f.value }) both.0 ∙ ap (λ (x : List ℕ). record { name = g.name; value = x }) both.1 in
     same
 
--- the pair behind those that were read
+-- the pair after those that were read
 next_of : (done pairs : List Field) (item : List ℕ) (more : List (List ℕ)) → AllByRecursion IsGood done → AllByRecursion IsGood pairs → map pair_text pairs ≡ map pair_text done ++ item ∷ more → (f : Field) × (tail : List Field) × (pairs ≡ done ++ f ∷ tail) × (item ≡ pair_text f) × IsGood f
 next_of [] [] item more p q e = (let bad : [] ≡ item ∷ more = e in absurd ((cc)))
 next_of [] (g ∷ pairs) item more p q e = (let is : pair_text g ≡ item = (cc) in (g, pairs, refl, sym is, q.0))
@@ -124,26 +124,26 @@ pub read_none : (text : List ℕ) → IsReadMeta text [] (Some text)
 read_none text = record { kept = record { pairs_are = All-from_recursion IsPair [] tt; within = omega arith }; bytes = All-from_recursion (λ f. IsBytes f.value) [] tt; parts = refl }
 
 -- an item that is refused is that of no metadata
-pub read_refused : (text : List ℕ) (meta : List Field) (items item : List ℕ) (behind : Option (List ℕ)) (pairs : List Field) → text ≢ 45 ∷ [] → IsReadMeta text meta (Some items) → pieces 44 items ≡ item ∷ pieces_of_rest 44 behind → ((f : Field) → IsPair f → IsBytes f.value → item ≡ pair_text f → meta_size meta + pair_size f ≤ meta_limit → ⊥) → SpellsMeta text pairs → ⊥
-read_refused text meta items item behind pairs other is first none spelled =
-    let parts : map pair_text pairs ≡ map pair_text meta ++ item ∷ pieces_of_rest 44 behind =
+pub read_refused : (text : List ℕ) (meta : List Field) (items item : List ℕ) (afterwards : Option (List ℕ)) (pairs : List Field) → text ≢ 45 ∷ [] → IsReadMeta text meta (Some items) → pieces 44 items ≡ item ∷ pieces_of_rest 44 afterwards → ((f : Field) → IsPair f → IsBytes f.value → item ≡ pair_text f → meta_size meta + pair_size f ≤ meta_limit → ⊥) → SpellsMeta text pairs → ⊥
+read_refused text meta items item afterwards pairs other is first none spelled =
+    let parts : map pair_text pairs ≡ map pair_text meta ++ item ∷ pieces_of_rest 44 afterwards =
     sym (meta_parted text pairs other spelled) ∙ is.parts ∙ ap (λ (t : List (List ℕ)). map pair_text meta ++ t) first in
     let next : (f : Field) × (tail : List Field) × (pairs ≡ meta ++ f ∷ tail) × (item ≡ pair_text f) × IsGood f =
-    next_of meta pairs item (pieces_of_rest 44 behind) (all_good meta is.kept is.bytes) (all_good pairs spelled.0 spelled.1) parts in
+    next_of meta pairs item (pieces_of_rest 44 afterwards) (all_good meta is.kept is.bytes) (all_good pairs spelled.0 spelled.1) parts in
     let within : meta_size (meta ++ next.0 ∷ next.1) ≤ meta_limit = subst (λ (ps : List Field). meta_size ps ≤ meta_limit) next.2 spelled.0.within in
     none next.0 next.4.0 next.4.1 next.3 (room_for meta next.1 next.0 within)
 
 -- one pair more
-pub read_more : (text : List ℕ) (meta made : List Field) (items item : List ℕ) (behind : Option (List ℕ)) → IsReadMeta text meta (Some items) → pieces 44 items ≡ item ∷ pieces_of_rest 44 behind → ((f : Field) × IsBytes f.value × (item ≡ pair_text f) × (made ≡ meta ++ f ∷ [])) → (IsRequestMetadata meta → IsRequestMetadata made) → IsReadMeta text made behind
-read_more text meta made items item behind is first pushed kept =
+pub read_more : (text : List ℕ) (meta made : List Field) (items item : List ℕ) (afterwards : Option (List ℕ)) → IsReadMeta text meta (Some items) → pieces 44 items ≡ item ∷ pieces_of_rest 44 afterwards → ((f : Field) × IsBytes f.value × (item ≡ pair_text f) × (made ≡ meta ++ f ∷ [])) → (IsRequestMetadata meta → IsRequestMetadata made) → IsReadMeta text made afterwards
+read_more text meta made items item afterwards is first pushed kept =
     let f : Field = pushed.0 in
     let spelled : map pair_text made ≡ map pair_text meta ++ pair_text f ∷ [] = ap (map pair_text) pushed.3 ∙ map-append pair_text meta (f ∷ []) in
-    let parts : pieces 44 text ≡ map pair_text meta ++ pair_text f ∷ pieces_of_rest 44 behind =
-    is.parts ∙ ap (λ (t : List (List ℕ)). map pair_text meta ++ t) (first ∙ ap (λ (v : List ℕ). v ∷ pieces_of_rest 44 behind) pushed.2) in
+    let parts : pieces 44 text ≡ map pair_text meta ++ pair_text f ∷ pieces_of_rest 44 afterwards =
+    is.parts ∙ ap (λ (t : List (List ℕ)). map pair_text meta ++ t) (first ∙ ap (λ (v : List ℕ). v ∷ pieces_of_rest 44 afterwards) pushed.2) in
     record {
       kept = kept is.kept;
       bytes = subst (All (λ f. IsBytes f.value)) (sym pushed.3) (All-push (λ f. IsBytes f.value) meta f is.bytes pushed.1);
-      parts = parts ∙ sym (append_assoc (map pair_text meta) (pair_text f ∷ []) (pieces_of_rest 44 behind)) ∙ ap (λ (t : List (List ℕ)). t ++ pieces_of_rest 44 behind) (sym spelled);
+      parts = parts ∙ sym (append_assoc (map pair_text meta) (pair_text f ∷ []) (pieces_of_rest 44 afterwards)) ∙ ap (λ (t : List (List ℕ)). t ++ pieces_of_rest 44 afterwards) (sym spelled);
     }
 
 -- all is read

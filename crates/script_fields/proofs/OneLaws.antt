@@ -35,17 +35,17 @@ config_one text None (Some w) p q = absurd (dash_no_piece w (subst (λ t. Spells
 config_one text (Some v) None p q = absurd (dash_no_piece v (subst (λ t. SpellsPiece t v) q p))
 config_one text (Some v) (Some w) p q = ap Some (piece_one text v w p q)
 
--- the eight bytes of a word are bytes, and tell it
+-- the eight bytes of a word are bytes, and report it
 word_fits : (w : ℕ) → AllByRecursion (λ b. b < 256) (word_bytes w)
 word_fits w = (omega arith, (omega arith, (omega arith, (omega arith, (omega arith, (omega arith, (omega arith, (omega arith, tt))))))))
 
-word_told : (w : ℕ) → w < 2 ^ 64 → from_be_bytes w64 (word_bytes w) ≡ w
-word_told w small = ap (from_be_bytes w64) (sym (word_same w)) ∙ from_be_bytes-to_be_bytes_8 w small
+word_reported : (w : ℕ) → w < 2 ^ 64 → from_be_bytes w64 (word_bytes w) ≡ w
+word_reported w small = ap (from_be_bytes w64) (sym (word_same w)) ∙ from_be_bytes-to_be_bytes_8 w small
 
 pub word_one : (text : List ℕ) (v w : ℕ) → SpellsWord text v → SpellsWord text w → v ≡ w
 word_one text v w p q =
     let bytes : word_bytes v ≡ word_bytes w = hex_one (word_bytes v) (word_bytes w) (word_fits v) (word_fits w) (sym p.1 ∙ q.1) in
-    sym (word_told v p.0) ∙ ap (from_be_bytes w64) bytes ∙ word_told w q.0
+    sym (word_reported v p.0) ∙ ap (from_be_bytes w64) bytes ∙ word_reported w q.0
 
 -- a dash is no number
 dash_no_number : (n : ℕ) → SpellsNumber dash n → ⊥
@@ -72,7 +72,7 @@ wait_one (Some false) (Some false) e = refl
 dash_free : (b : ℕ) (s rest : List ℕ) → b ≢ 45 → dash ≡ s ++ b ∷ rest → ⊥
 dash_free b s rest other e = no_cut b dash s rest (All-from_recursion (λ d. d ≢ b) dash ((λ f. other (sym f)), tt)) e
 
--- values with one spelling each are told by the list of their spellings
+-- values with one spelling each are reported by the list of their spellings
 each_one : {X : Type 0} (f : X → List ℕ) (P : X → Type 0) → ((x y : X) → P x → P y → f x ≡ f y → x ≡ y) → (v w : List X) → AllByRecursion P v → AllByRecursion P w → map f v ≡ map f w → v ≡ w
 each_one f P one [] [] p q e = refl
 each_one f P one [] (y ∷ w) p q e = absurd ((cc))
@@ -104,7 +104,7 @@ meta_one text (f ∷ v) (g ∷ w) p q =
 ip_one : (v w : ℕ) → v / 2 ^ 24 ≡ w / 2 ^ 24 → v / 2 ^ 16 % 256 ≡ w / 2 ^ 16 % 256 → v / 2 ^ 8 % 256 ≡ w / 2 ^ 8 % 256 → v % 256 ≡ w % 256 → v ≡ w
 ip_one v w a b c d = omega (arith, a, b, c, d)
 
--- a number that is a byte, and what stands behind it
+-- a number that is a byte, and what stands after it
 byte_cut : (b n k : ℕ) (r s : List ℕ) → IsNoDigit b → n ≤ 255 → k ≤ 255 → decimal n ++ b ∷ r ≡ decimal k ++ b ∷ s → (n ≡ k) × (r ≡ s)
 byte_cut b n k r s nd small small_k e = same_number b n k (decimal n ++ b ∷ r) r s nd (omega (arith, small)) (omega (arith, small_k)) refl e
 
@@ -125,9 +125,9 @@ dash_no_addresses : (x : Address) (v : List Address) → dash ≡ addresses_text
 dash_no_addresses x [] e = dash_free 46 (decimal (x.ip / 2 ^ 24)) _ (λ b. omega (arith, b)) (e ∙ text_is_quad x)
 dash_no_addresses x (y ∷ v) e =
     let rest : List ℕ = 44 ∷ join_with_byte 44 (map address_text (y ∷ v)) in
-    let behind : List ℕ = last_four (x.ip / 2 ^ 16 % 256) (x.ip / 2 ^ 8 % 256) (x.ip % 256) x.port in
-    dash_free 46 (decimal (x.ip / 2 ^ 24)) (behind ++ rest) (λ b. omega (arith, b))
-    (e ∙ ap (λ (t : List ℕ). t ++ rest) (text_is_quad x) ∙ append_assoc (decimal (x.ip / 2 ^ 24)) (46 ∷ behind) rest)
+    let afterwards : List ℕ = last_four (x.ip / 2 ^ 16 % 256) (x.ip / 2 ^ 8 % 256) (x.ip % 256) x.port in
+    dash_free 46 (decimal (x.ip / 2 ^ 24)) (afterwards ++ rest) (λ b. omega (arith, b))
+    (e ∙ ap (λ (t : List ℕ). t ++ rest) (text_is_quad x) ∙ append_assoc (decimal (x.ip / 2 ^ 24)) (46 ∷ afterwards) rest)
 
 pub addresses_one : (text : List ℕ) (v w : List Address) → SpellsAddresses text v → SpellsAddresses text w → v ≡ w
 addresses_one text [] [] p q = refl

@@ -39,7 +39,7 @@ pieces-joined b w (v ∷ ws) free =
     pieces-parted b (join_with_byte b (w ∷ (v ∷ ws))) w (join_with_byte b (v ∷ ws)) refl (All-from_recursion (λ d. d ≢ b) w free.0)
     ∙ ap (λ (t : List (List ℕ)). w ∷ t) (pieces-joined b v ws free.1)
 
--- what spells values, one of which stands behind those that were read
+-- what spells values, one of which stands after those that were read
 pub one_spelled : {X : Type 0} (f : X → List ℕ) (P : X → Type 0) (xs : List X) (ys : List (List ℕ)) (item : List ℕ) (more : List (List ℕ)) → AllByRecursion P xs → map f xs ≡ ys ++ item ∷ more → (x : X) × P x × (item ≡ f x)
 one_spelled f P [] [] item more all e = (let bad : [] ≡ item ∷ more = e in absurd ((cc)))
 one_spelled f P [] (y ∷ ys) item more all e = (let bad : [] ≡ y ∷ (ys ++ item ∷ more) = e in absurd ((cc)))

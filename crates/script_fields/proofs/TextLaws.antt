@@ -50,7 +50,7 @@ one_cut b (x ∷ s) (y ∷ t) m n p q e =
     let head : x ≡ y = (cc) in
     let rest : s ++ b ∷ m ≡ t ++ b ∷ n = (cc) in
     let both : (s ≡ t) × (m ≡ n) = one_cut b s t m n p.1 q.1 rest in
-    let front : s ≡ t = both.0 in
+    let prefix : s ≡ t = both.0 in
     ((cc), both.1)
 
 no_cut_list : (b : ℕ) (s m : List ℕ) → AllByRecursion (λ d. d ≢ b) (s ++ b ∷ m) → ⊥
@@ -82,13 +82,13 @@ byte_one x y x_small y_small high low =
     let l : x % 16 ≡ y % 16 = digit_one (x % 16) (y % 16) (omega arith) (omega arith) low in
     omega arith
 
--- what stands behind the digits of bytes is the digits of bytes
-pub hex_behind : (xs v rest : List ℕ) → AllByRecursion (λ b. b < 256) v → hex_digits xs ++ rest ≡ hex_digits v → (w : List ℕ) × AllByRecursion (λ b. b < 256) w × (rest ≡ hex_digits w)
-hex_behind [] v rest all e = (v, all, e)
-hex_behind (x ∷ xs) [] rest all e = absurd (grind (arith, common_steps, e))
-hex_behind (x ∷ xs) (y ∷ v) rest all e =
+-- what stands after the digits of bytes is the digits of bytes
+pub hex_after : (xs v rest : List ℕ) → AllByRecursion (λ b. b < 256) v → hex_digits xs ++ rest ≡ hex_digits v → (w : List ℕ) × AllByRecursion (λ b. b < 256) w × (rest ≡ hex_digits w)
+hex_after [] v rest all e = (v, all, e)
+hex_after (x ∷ xs) [] rest all e = absurd (grind (arith, common_steps, e))
+hex_after (x ∷ xs) (y ∷ v) rest all e =
     let tail : hex_digits xs ++ rest ≡ hex_digits v = (cc) in
-    hex_behind xs v rest all.1 tail
+    hex_after xs v rest all.1 tail
 
 -- bytes have one spelling, and no spelling is that of two
 pub hex_one : (v w : List ℕ) → AllByRecursion (λ b. b < 256) v → AllByRecursion (λ b. b < 256) w → hex_digits v ≡ hex_digits w → v ≡ w
@@ -110,24 +110,24 @@ bool_cases false = inr refl
 take-append-le2 : (head rest : List ℕ) → take (length head) (head ++ rest) ≡ head
 take-append-le2 head rest = grind (arith, common_steps)
 
--- a front that was taken off, and one that was not
-pub front_taken : {X : Type 0} (now : X → List ℕ) (o : Option X) (text head : List ℕ) → MatchOption o (pointwise nat_eq (take (length head) text) head ≡ false) (λ x. (pointwise nat_eq (take (length head) text) head ≡ true) × (now x ≡ drop (length head) text) × (length (now x) + length head ≡ length text)) → IfSome o (λ x. text ≡ head ++ now x)
-front_taken now (Some x) text head h =
-    let front : take (length head) text ≡ head = (bytes_eq-Decides (take (length head) text) head).0 h.0 in
-    sym (take-append-drop (length head) text) ∙ ap (λ t. t ++ drop (length head) text) front ∙ ap (λ t. head ++ t) (sym h.1)
-front_taken now None text head h = tt
+-- a prefix that was taken off, and one that was not
+pub prefix_taken : {X : Type 0} (now : X → List ℕ) (o : Option X) (text head : List ℕ) → MatchOption o (pointwise nat_eq (take (length head) text) head ≡ false) (λ x. (pointwise nat_eq (take (length head) text) head ≡ true) × (now x ≡ drop (length head) text) × (length (now x) + length head ≡ length text)) → IfSome o (λ x. text ≡ head ++ now x)
+prefix_taken now (Some x) text head h =
+    let prefix : take (length head) text ≡ head = (bytes_eq-Decides (take (length head) text) head).0 h.0 in
+    sym (take-append-drop (length head) text) ∙ ap (λ t. t ++ drop (length head) text) prefix ∙ ap (λ t. head ++ t) (sym h.1)
+prefix_taken now None text head h = tt
 
-pub front_not_taken : {X : Type 0} (now : X → List ℕ) (o : Option X) (text head : List ℕ) → MatchOption o (pointwise nat_eq (take (length head) text) head ≡ false) (λ x. (pointwise nat_eq (take (length head) text) head ≡ true) × (now x ≡ drop (length head) text) × (length (now x) + length head ≡ length text)) → IfNone o ((rest : List ℕ) → text ≢ head ++ rest)
-front_not_taken now (Some x) text head h = tt
-front_not_taken now None text head h = λ rest e.
-    let front : take (length head) text ≡ head = ap (take (length head)) e ∙ take-append-le2 head rest in
-    true≢false (sym ((bytes_eq-Decides (take (length head) text) head).1 front) ∙ h)
+pub prefix_not_taken : {X : Type 0} (now : X → List ℕ) (o : Option X) (text head : List ℕ) → MatchOption o (pointwise nat_eq (take (length head) text) head ≡ false) (λ x. (pointwise nat_eq (take (length head) text) head ≡ true) × (now x ≡ drop (length head) text) × (length (now x) + length head ≡ length text)) → IfNone o ((rest : List ℕ) → text ≢ head ++ rest)
+prefix_not_taken now (Some x) text head h = tt
+prefix_not_taken now None text head h = λ rest e.
+    let prefix : take (length head) text ≡ head = ap (take (length head)) e ∙ take-append-le2 head rest in
+    true≢false (sym ((bytes_eq-Decides (take (length head) text) head).1 prefix) ∙ h)
 
-pub same_behind : (head x y : List ℕ) → head ++ x ≡ head ++ y → x ≡ y
-same_behind [] x y e = e
-same_behind (h ∷ head) x y e = (let tail : head ++ x ≡ head ++ y = (cc) in same_behind head x y tail)
+pub same_after : (head x y : List ℕ) → head ++ x ≡ head ++ y → x ≡ y
+same_after [] x y e = e
+same_after (h ∷ head) x y e = (let tail : head ++ x ≡ head ++ y = (cc) in same_after head x y tail)
 
--- bytes that are told by their spelling
+-- bytes that are reported by their spelling
 pub bytes_from : (v : List ℕ) → IsBytes v → AllByRecursion (λ b. b < 256) v
 bytes_from v all = recursion_from_All (λ b. b < 256) v all
 
@@ -137,7 +137,7 @@ short_of (x ∷ w) rest e filled = (let l : length rest ≡ length (lower_digit 
 
 pub hex_short : (text bytes v rest : List ℕ) → IsBytes v → text ≡ hex_digits bytes ++ rest → text ≡ hex_digits v → 1 ≤ length rest → length rest < 2 → ⊥
 hex_short text bytes v rest all e f filled short =
-    let w : (w : List ℕ) × AllByRecursion (λ b. b < 256) w × (rest ≡ hex_digits w) = hex_behind bytes v rest (bytes_from v all) (sym e ∙ f) in
+    let w : (w : List ℕ) × AllByRecursion (λ b. b < 256) w × (rest ≡ hex_digits w) = hex_after bytes v rest (bytes_from v all) (sym e ∙ f) in
     let long : 2 ≤ length rest = short_of w.0 rest w.2 filled in
     omega (arith, long, short)
 
@@ -147,7 +147,7 @@ two_of (x ∷ w) rest p e filled = (x, p.0, ap (λ (t : List ℕ). get_or t 0 0)
 
 pub hex_other : (text bytes v rest : List ℕ) (high low : ℕ) → IsBytes v → text ≡ hex_digits bytes ++ rest → text ≡ hex_digits v → 1 ≤ length rest → high ≡ get_or rest 0 0 → low ≡ get_or rest 1 0 → ((b : ℕ) → b < 256 → high ≡ lower_digit (b / 16) → low ≡ lower_digit (b % 16) → ⊥) → ⊥
 hex_other text bytes v rest high low all e f filled h l none =
-    let w : (w : List ℕ) × AllByRecursion (λ b. b < 256) w × (rest ≡ hex_digits w) = hex_behind bytes v rest (bytes_from v all) (sym e ∙ f) in
+    let w : (w : List ℕ) × AllByRecursion (λ b. b < 256) w × (rest ≡ hex_digits w) = hex_after bytes v rest (bytes_from v all) (sym e ∙ f) in
     let x : (b : ℕ) × (b < 256) × (get_or rest 0 0 ≡ lower_digit (b / 16)) × (get_or rest 1 0 ≡ lower_digit (b % 16)) = two_of w.0 rest w.1 w.2 filled in
     none x.0 x.1 (h ∙ x.2) (l ∙ x.3)
 

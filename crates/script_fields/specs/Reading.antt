@@ -46,7 +46,7 @@ SpellsAddresses text addresses = All IsAddress addresses × (text ≡ addresses_
 abbrev pub listed : List Address → List Address
 listed addresses = fold with_address [] addresses
 
--- a number of any length, with no zero in front of another digit
+-- a number of any length, with no zero before another digit
 pub record SpellsNumber (text : List ℕ) (number : ℕ) : Type 0 where
   pub digits : IsTrue (is_number text)
   pub no_zero_first : slice_index text 0 ≡ 48 → length text ≡ 1

@@ -7,7 +7,7 @@ mod write;
 
 pub use fault::FieldFault;
 pub use read::{
-    address_of, addresses_of, behind, bytes_of, bytes_or_dash, config_of, message_of, meta_of,
+    address_of, addresses_of, afterwards, bytes_of, bytes_or_dash, config_of, message_of, meta_of,
     number_before, number_within, piece_of, timeout_of, wait_of, word_of_hex,
 };
 pub use write::{

@@ -18,7 +18,7 @@ pub exit_of : {X : Type 0} (r : Result X InputFault) (P : InputFault → Type 0)
 exit_of (Ok x) P e h p = tt
 exit_of (Err y) P e h p = subst P (sym h) p
 
--- one piece behind another
+-- one piece after another
 pub Takes-append : (a b c : Option (List ℕ)) (xs ys : List ℕ) → Takes a b xs → Takes b c ys → Takes a c (xs ++ ys)
 Takes-append (Some a) (Some b) (Some c) xs ys p q = p ∙ ap (λ (t : List ℕ). xs ++ t) q ∙ sym (append_assoc xs ys c)
 Takes-append (Some a) (Some b) None xs ys p q = q

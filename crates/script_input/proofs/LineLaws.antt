@@ -1,4 +1,4 @@
--- Lines one behind another, and what they say.
+-- Lines one after another, and what they say.
 use Rattle.std.proofs.Common.{◌≡◌, ◌≢◌, ◌∙◌, ◌<◌, ◌≤◌, ℕ, ◌+◌, List, [], ◌∷◌, ◌++◌, All, Bool, true, Option, Some, None, ap, arith, inl, inr, length, map, refl, subst, sym}
 use Rattle.std.specs.List.{AllByRecursion}
 use Rattle.std.specs.Prelude.{◌==◌, codes, if◌then◌else◌}
@@ -14,13 +14,13 @@ use Rattle.script_lines.specs.declared.reader.BadLine.TheVariants as bad
 use Rattle.script_lines.specs.declared.reader.ScriptKind.{ScriptKind}
 use Rattle.script_lines.specs.declared.reader.ScriptKind.TheVariants as script
 use Rattle.script_lines.specs.Lines.{IsRawLine, IsReplayFault, IsReplayLine}
-use Rattle.script_lines.specs.Reader.{IsBadLine, IsBehind, IsKindFault, IsKindLine, IsLine, IsLineFault, ReaderSeen}
+use Rattle.script_lines.specs.Reader.{IsBadLine, IsStateAfter, IsKindFault, IsKindLine, IsLine, IsLineFault, ReaderSeen}
 use Rattle.script_lines.proofs.ReaderLaws.{read_raw}
 use Rattle.script_input.specs.declared.collected.Channel.{Channel}
 use Rattle.script_input.specs.declared.fault.InputFault.{InputFault}
 use Rattle.script_input.specs.declared.form.Form.{Form}
 use Rattle.script_input.specs.declared.form.Form.TheVariants as form
-use Rattle.script_input.specs.Collecting.{IsKeptLine, IsRead, IsReplayRead, IsTold, input_fault, reads_of}
+use Rattle.script_input.specs.Collecting.{IsKeptLine, IsRead, IsReplayRead, IsReported, input_fault, reads_of}
 use Rattle.script_input.specs.Scripts.{AreLines, AreRecords, IsFaultAt, IsRecord, SaysAt, before_sign, begins, read_part}
 
 -- one line more
@@ -31,7 +31,7 @@ lines_more f n (t ∷ texts) [] text read lines says = absurd lines
 lines_more f n (t ∷ texts) (r ∷ reads) text read lines says =
     (lines.0, lines_more f (n + 1) texts reads text read lines.1 (subst (λ (k : ℕ). SaysAt f k text read) (omega arith) says))
 
--- one line more behind the entries
+-- one line more after the entries
 pub records_more : (f : Form) (n : ℕ) (texts : List (List ℕ)) (text : List ℕ) → AreRecords f n texts → IsRawLine (n + length texts) text true → IsRecord f (n + length texts) text → AreRecords f n (texts ++ text ∷ [])
 records_more f n [] text lines raw record_ =
     ((subst (λ (k : ℕ). IsRawLine k text true) (omega arith) raw, subst (λ (k : ℕ). IsRecord f k text) (omega arith) record_), tt)
@@ -40,7 +40,7 @@ records_more f n (t ∷ texts) text lines raw record_ = (
   records_more f (n + 1) texts text lines.1 (subst (λ (k : ℕ). IsRawLine k text true) (omega arith) raw) (subst (λ (k : ℕ). IsRecord f k text) (omega arith) record_),
 )
 
--- the first line stands not behind the entries
+-- the first line stands not after the entries
 pub no_records : (f : Form) (texts : List (List ℕ)) → AreRecords f 1 texts → texts ≡ []
 no_records f [] lines = refl
 no_records form.Script (t ∷ texts) lines = absurd lines.0.1
@@ -67,7 +67,7 @@ first_read f [] channel events events' made channel' text lines says is same =
     subst (AreLines f 1 (text ∷ [])) (sym all) (says, tt)
 first_read f (t ∷ texts) channel events events' made channel' text lines says is same = absurd (omega (arith, says.2.0))
 
--- an event stands behind those before it
+-- an event stands after those before it
 reads_more : (channel : Option Channel) (events : List Stamped) (s : Stamped) → reads_of channel (events ++ s ∷ []) ≡ reads_of channel events ++ line.Event s ∷ []
 reads_more None events s = map-append (λ e. line.Event e) events (s ∷ [])
 reads_more (Some channel) events s = ap (λ (rs : List ScriptLine). line.Channel channel.target channel.value ∷ rs) (map-append (λ e. line.Event e) events (s ∷ []))
@@ -137,29 +137,29 @@ says_replay f n text read says = replay_read n (fields (read_part f n text)) rea
 pub fault_at : (f : Form) (r : ReaderSeen) (records n : ℕ) (text part : List ℕ) (c : ℕ) → r.kind ≡ script.Replay → r.lines + 1 ≡ n → records ≡ 0 → IsRawLine n text true → (IsRecord f n text → ⊥) → part ≡ read_part f n text → IsLineFault r part true c → IsFaultAt f records n text true c
 fault_at f r records n text part c kind number none raw other is (inl fault) =
     absurd (read_raw (r.lines + 1) part true c (part_raw f n (r.lines + 1) text part is number raw) fault)
-fault_at f r records n text part c kind number none raw other is (inr told) =
-    let said : IsReplayFault (r.lines + 1) (fields part) c = subst (λ (k : ScriptKind). IsKindFault k (r.lines + 1) r.answered (fields part) c) kind told.1 in
+fault_at f r records n text part c kind number none raw other is (inr reported) =
+    let said : IsReplayFault (r.lines + 1) (fields part) c = subst (λ (k : ScriptKind). IsKindFault k (r.lines + 1) r.answered (fields part) c) kind reported.1 in
     let there : IsReplayFault n (fields (read_part f n text)) c =
     subst (λ (p : List ℕ). IsReplayFault n (fields p) c) is (subst (λ (k : ℕ). IsReplayFault k (fields part) c) number said) in
     inr (raw, other, inl (none, there))
 
-pub told_of : (f : Form) (r : ReaderSeen) (records n : ℕ) (text part : List ℕ) (b : BadLine) (e : InputFault) → r.kind ≡ script.Replay → n ≡ r.lines + records + 1 → records ≡ 0 → IsRawLine n text true → (IsRecord f n text → ⊥) → part ≡ read_part f n text → IsBadLine r part true b → e ≡ input_fault b → IsTold f r records text true e
-told_of f r records n text part (bad.At m cause) e kind number none raw other is told same =
+pub reported_of : (f : Form) (r : ReaderSeen) (records n : ℕ) (text part : List ℕ) (b : BadLine) (e : InputFault) → r.kind ≡ script.Replay → n ≡ r.lines + records + 1 → records ≡ 0 → IsRawLine n text true → (IsRecord f n text → ⊥) → part ≡ read_part f n text → IsBadLine r part true b → e ≡ input_fault b → IsReported f r records text true e
+reported_of f r records n text part (bad.At m cause) e kind number none raw other is reported same =
     let here : r.lines + 1 ≡ n = omega (arith, number, none) in
-    let fault : IsFaultAt f records n text true cause = fault_at f r records n text part cause kind here none raw other is told.1 in
-    subst (IsTold f r records text true) (sym same) (
-      omega (arith, told.0, none),
-      subst (λ (k : ℕ). IsFaultAt f records k text true cause) (omega (arith, told.0, here)) fault,
+    let fault : IsFaultAt f records n text true cause = fault_at f r records n text part cause kind here none raw other is reported.1 in
+    subst (IsReported f r records text true) (sym same) (
+      omega (arith, reported.0, none),
+      subst (λ (k : ℕ). IsFaultAt f records k text true cause) (omega (arith, reported.0, here)) fault,
     )
-told_of f r records n text part bad.NoMemory e kind number none raw other is told same = subst (IsTold f r records text true) (sym same) tt
+reported_of f r records n text part bad.NoMemory e kind number none raw other is reported same = subst (IsReported f r records text true) (sym same) tt
 
-pub read_done : (f : Form) (r r' : ReaderSeen) (records n : ℕ) (text part : List ℕ) (read : ScriptLine) → r.kind ≡ script.Replay → n ≡ r.lines + records + 1 → records ≡ 0 → IsRawLine n text true → (IsRecord f n text → ⊥) → part ≡ read_part f n text → IsLine r part true read → IsBehind r read r' → IsRead f r records text (Some read) r'
-read_done f r r' records n text part read kind number none raw other is t behind =
-    (none, says_line f r n text part read kind (omega (arith, number, none)) raw other is t, behind)
+pub read_done : (f : Form) (r r' : ReaderSeen) (records n : ℕ) (text part : List ℕ) (read : ScriptLine) → r.kind ≡ script.Replay → n ≡ r.lines + records + 1 → records ≡ 0 → IsRawLine n text true → (IsRecord f n text → ⊥) → part ≡ read_part f n text → IsLine r part true read → IsStateAfter r read r' → IsRead f r records text (Some read) r'
+read_done f r r' records n text part read kind number none raw other is t afterwards =
+    (none, says_line f r n text part read kind (omega (arith, number, none)) raw other is t, afterwards)
 
 -- a line that is too long stays so, whatever follows
 pub long_stays : (f : Form) (records n : ℕ) (text longer : List ℕ) (closed closed' : Bool) (c : ℕ) → line_limit < length text → length text ≤ length longer → IsFaultAt f records n text closed c → IsFaultAt f records n longer closed' c
 long_stays f records n text longer closed closed' c long more (inl (inl many)) = inl (inl many)
 long_stays f records n text longer closed closed' c long more (inl (inr (few, inl past))) = inl (inr (few, inl ((λ short. absurd (omega (arith, short, long, more))), past.1)))
 long_stays f records n text longer closed closed' c long more (inl (inr (few, inr passed))) = absurd (omega (arith, passed.0, long))
-long_stays f records n text longer closed closed' c long more (inr told) = absurd (omega (arith, told.0.1, long))
+long_stays f records n text longer closed closed' c long more (inr reported) = absurd (omega (arith, reported.0.1, long))

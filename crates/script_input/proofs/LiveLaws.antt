@@ -17,7 +17,7 @@ use Rattle.script_lines.specs.declared.reader.ScriptKind.{ScriptKind}
 use Rattle.script_lines.specs.declared.reader.ScriptKind.TheVariants as script
 use Rattle.script_lines.specs.Causes.{no_channel}
 use Rattle.script_lines.specs.Lines.{IsLiveFault, IsLiveLine, IsLiveText, IsRawFault, IsRawLine}
-use Rattle.script_lines.specs.Reader.{IsBehind, IsKindFault, IsKindLine, IsLine, IsLineFault, ReaderSeen}
+use Rattle.script_lines.specs.Reader.{IsStateAfter, IsKindFault, IsKindLine, IsLine, IsLineFault, ReaderSeen}
 use Rattle.script_lines.proofs.OneLine.{line_one}
 use Rattle.script_lines.proofs.ReaderLaws.{read_raw}
 use Rattle.script_input.specs.declared.fault.InputFault.{InputFault}
@@ -105,15 +105,15 @@ live_read r text (line.Event s) kind is = absurd (no_event (r.lines + 1) (fields
 live_read r text (line.Answer answer) kind is = absurd (no_event (r.lines + 1) (fields text) (line.Answer answer) (λ none. none) (said_live r text (line.Answer answer) kind is).1)
 
 -- what one line more leaves
-more : (old new : LiveLines) (text : List ℕ) (read : ScriptLine) (texts : List (List ℕ)) → IsLine old.reader text true read → IsBehind old.reader read new.reader → reads_of new.named new.config new.calls.items ≡ reads_of old.named old.config old.calls.items ++ read ∷ [] → (new.named ≡ None → ⊥) → HasTakenLive old texts → HasTakenLive new (texts ++ text ∷ [])
-more old new text read texts is behind reads some h =
+more : (old new : LiveLines) (text : List ℕ) (read : ScriptLine) (texts : List (List ℕ)) → IsLine old.reader text true read → IsStateAfter old.reader read new.reader → reads_of new.named new.config new.calls.items ≡ reads_of old.named old.config old.calls.items ++ read ∷ [] → (new.named ≡ None → ⊥) → HasTakenLive old texts → HasTakenLive new (texts ++ text ∷ [])
+more old new text read texts is afterwards reads some h =
     let number : old.reader.lines + 1 ≡ 1 + length texts = omega (arith, h.count) in
     let said : IsLiveLine (1 + length texts) (fields text) read = subst (λ (k : ℕ). IsLiveLine k (fields text) read) number (said_live old.reader text read h.kind is) in
     let raw : IsRawLine (1 + length texts) text true = subst (λ (k : ℕ). IsRawLine k text true) number is.0 in
     record {
       lines = subst (AreLiveLines 1 (texts ++ text ∷ [])) (sym reads) (lines_more 1 texts (reads_of old.named old.config old.calls.items) text read h.lines raw said);
-      kind = behind.kind ∙ h.kind;
-      count = omega (arith, behind.lines, h.count, length-append texts (text ∷ []));
+      kind = afterwards.kind ∙ h.kind;
+      count = omega (arith, afterwards.lines, h.count, length-append texts (text ∷ []));
       none_yet = λ none. absurd (some none);
     }
 
@@ -155,9 +155,9 @@ kept_reads old new text (line.Call worker call) texts is kept h =
 kept_reads old new text (line.Event s) texts is kept h = absurd kept
 kept_reads old new text (line.Answer answer) texts is kept h = absurd kept
 
-pub taken_live : {E : Type 0} (old new : LiveLines) (text : List ℕ) (read : ScriptLine) (r : Result Unit E) → IsLine old.reader text true read → IsBehind old.reader read new.reader → OnOk r (IsKeptLive old.named old.config old.calls.items read new.named new.config new.calls.items) → OnOk r ((texts : List (List ℕ)) → HasTakenLive old texts → HasTakenLive new (texts ++ text ∷ []))
-taken_live old new text read (Err e) is behind kept = tt
-taken_live old new text read (Ok done) is behind kept = λ texts h. (let both = kept_reads old new text read texts is kept h in more old new text read texts is behind both.0 both.1 h)
+pub taken_live : {E : Type 0} (old new : LiveLines) (text : List ℕ) (read : ScriptLine) (r : Result Unit E) → IsLine old.reader text true read → IsStateAfter old.reader read new.reader → OnOk r (IsKeptLive old.named old.config old.calls.items read new.named new.config new.calls.items) → OnOk r ((texts : List (List ℕ)) → HasTakenLive old texts → HasTakenLive new (texts ++ text ∷ []))
+taken_live old new text read (Err e) is afterwards kept = tt
+taken_live old new text read (Ok done) is afterwards kept = λ texts h. (let both = kept_reads old new text read texts is kept h in more old new text read texts is afterwards both.0 both.1 h)
 
 -- ---- whole texts
 
@@ -199,12 +199,12 @@ reads_live left left' s l r is =
 first_bad : (input : List ℕ) (n cause : ℕ) → RefusesLine HasTakenLive RefusesLive input n cause → IsFirstBadLive input n cause
 first_bad input n cause r = by_fault r.fault
   where
-    made : (n ≡ length r.texts + 1) → IsRawFault n r.text (is_closed r.behind) cause ⊎ (IsRawLine n r.text (is_closed r.behind) × IsLiveFault n (fields r.text) cause) → IsFirstBadLive input n cause
+    made : (n ≡ length r.texts + 1) → IsRawFault n r.text (is_closed r.afterwards) cause ⊎ (IsRawLine n r.text (is_closed r.afterwards) × IsLiveFault n (fields r.text) cause) → IsFirstBadLive input n cause
     made number fault = record {
       before = r.texts;
       reads = reads_of r.lines.named r.lines.config r.lines.calls.items;
       text = r.text;
-      behind = r.behind;
+      afterwards = r.afterwards;
       parts = r.parts;
       lines = r.taken_are.lines;
       number = number;
@@ -212,16 +212,16 @@ first_bad input n cause r = by_fault r.fault
       fault = fault;
     }
 
-    by_line : (n ≡ length r.texts + 1) → IsRawLine (length r.texts + 1) r.text (is_closed r.behind) → IsLineFault r.lines.reader r.text true cause → IsFirstBadLive input n cause
+    by_line : (n ≡ length r.texts + 1) → IsRawLine (length r.texts + 1) r.text (is_closed r.afterwards) → IsLineFault r.lines.reader r.text true cause → IsFirstBadLive input n cause
     by_line number raw (inl fault) = absurd (read_raw (r.lines.reader.lines + 1) r.text true cause (omega (arith, r.taken_are.count, raw.0), raw.1, (raw.2.0, refl)) fault)
-    by_line number raw (inr told) =
-        let said : IsLiveFault (r.lines.reader.lines + 1) (fields r.text) cause = subst (λ (k : ScriptKind). IsKindFault k (r.lines.reader.lines + 1) r.lines.reader.answered (fields r.text) cause) r.taken_are.kind told.1 in
+    by_line number raw (inr reported) =
+        let said : IsLiveFault (r.lines.reader.lines + 1) (fields r.text) cause = subst (λ (k : ScriptKind). IsKindFault k (r.lines.reader.lines + 1) r.lines.reader.answered (fields r.text) cause) r.taken_are.kind reported.1 in
         made number (inr (
-          subst (λ (k : ℕ). IsRawLine k r.text (is_closed r.behind)) (sym number) raw,
+          subst (λ (k : ℕ). IsRawLine k r.text (is_closed r.afterwards)) (sym number) raw,
           subst (λ (k : ℕ). IsLiveFault k (fields r.text) cause) (omega (arith, number, r.taken_are.count)) said,
         ))
 
-    by_fault : ((n ≡ length r.texts + 1) × IsRawFault n r.text (is_closed r.behind) cause) ⊎ (IsRawLine (length r.texts + 1) r.text (is_closed r.behind) × RefusesLive r.lines r.text (bad.At n cause)) → IsFirstBadLive input n cause
+    by_fault : ((n ≡ length r.texts + 1) × IsRawFault n r.text (is_closed r.afterwards) cause) ⊎ (IsRawLine (length r.texts + 1) r.text (is_closed r.afterwards) × RefusesLive r.lines r.text (bad.At n cause)) → IsFirstBadLive input n cause
     by_fault (inl raw) = made raw.0 (inl raw.1)
     by_fault (inr refused) = by_line (omega (arith, refused.1.0, r.taken_are.count)) refused.0 refused.1.1
 
@@ -235,7 +235,7 @@ gives_no_live left left' n m fault.ReadFailed s = record {
   input = s.input;
   read = s.read;
   failed = s.failed;
-  front = record {
+  prefix = record {
     texts = s.texts;
     reads = reads_of s.lines.named s.lines.config s.lines.calls.items;
     rest = s.rest;

@@ -33,11 +33,11 @@ pieces_append b (x ∷ t) u [] p q qs e f =
       | inr other ↦ (
           let is : pieces b (x ∷ t) ≡ (x ∷ s.0) ∷ s.1 = slice_split-cons_no (λ d. d == b) x t other ∙ ap (onto_first x) s.2 in
           let whole : (x ∷ s.0) ∷ s.1 ≡ p ∷ [] = sym is ∙ e in
-          let front : x ∷ s.0 ≡ p = (cc) in
+          let prefix : x ∷ s.0 ≡ p = (cc) in
           let none : s.1 ≡ [] = (cc) in
           let rest : pieces b (t ++ u) ≡ (s.0 ++ q) ∷ qs = pieces_append b t u [] s.0 q qs (s.2 ∙ ap (λ (r : List (List ℕ)). s.0 ∷ r) none) f in
           let made : pieces b (x ∷ (t ++ u)) ≡ (x ∷ (s.0 ++ q)) ∷ qs = slice_split-cons_no (λ d. d == b) x (t ++ u) other ∙ ap (onto_first x) rest in
-          made ∙ ap (λ (r : List ℕ). (r ++ q) ∷ qs) front
+          made ∙ ap (λ (r : List ℕ). (r ++ q) ∷ qs) prefix
           )
     ]
 pieces_append b (x ∷ t) u (y ∷ ps) p q qs e f =
@@ -46,20 +46,20 @@ pieces_append b (x ∷ t) u (y ∷ ps) p q qs e f =
       | inl same ↦ (
           let is : pieces b (x ∷ t) ≡ [] ∷ pieces b t = slice_split-cons_yes (λ d. d == b) x t same in
           let whole : [] ∷ pieces b t ≡ y ∷ (ps ++ p ∷ []) = sym is ∙ e in
-          let front : [] ≡ y = (cc) in
+          let prefix : [] ≡ y = (cc) in
           let others : pieces b t ≡ ps ++ p ∷ [] = (cc) in
           let rest : pieces b (t ++ u) ≡ ps ++ (p ++ q) ∷ qs = pieces_append b t u ps p q qs others f in
           let made : pieces b (x ∷ (t ++ u)) ≡ [] ∷ (ps ++ (p ++ q) ∷ qs) = slice_split-cons_yes (λ d. d == b) x (t ++ u) same ∙ ap (λ (r : List (List ℕ)). [] ∷ r) rest in
-          made ∙ ap (λ (r : List ℕ). r ∷ (ps ++ (p ++ q) ∷ qs)) front
+          made ∙ ap (λ (r : List ℕ). r ∷ (ps ++ (p ++ q) ∷ qs)) prefix
           )
       | inr other ↦ (
           let is : pieces b (x ∷ t) ≡ (x ∷ s.0) ∷ s.1 = slice_split-cons_no (λ d. d == b) x t other ∙ ap (onto_first x) s.2 in
           let whole : (x ∷ s.0) ∷ s.1 ≡ y ∷ (ps ++ p ∷ []) = sym is ∙ e in
-          let front : x ∷ s.0 ≡ y = (cc) in
+          let prefix : x ∷ s.0 ≡ y = (cc) in
           let others : s.1 ≡ ps ++ p ∷ [] = (cc) in
           let rest : pieces b (t ++ u) ≡ s.0 ∷ (ps ++ (p ++ q) ∷ qs) = pieces_append b t u (s.0 ∷ ps) p q qs (s.2 ∙ ap (λ (r : List (List ℕ)). s.0 ∷ r) others) f in
           let made : pieces b (x ∷ (t ++ u)) ≡ (x ∷ s.0) ∷ (ps ++ (p ++ q) ∷ qs) = slice_split-cons_no (λ d. d == b) x (t ++ u) other ∙ ap (onto_first x) rest in
-          made ∙ ap (λ (r : List ℕ). r ∷ (ps ++ (p ++ q) ∷ qs)) front
+          made ∙ ap (λ (r : List ℕ). r ∷ (ps ++ (p ++ q) ∷ qs)) prefix
           )
     ]
 
@@ -67,7 +67,7 @@ pieces_append b (x ∷ t) u (y ∷ ps) p q qs e f =
 pub parts_longer : (t w : List ℕ) (ps : List (List ℕ)) (p : List ℕ) → pieces 10 t ≡ ps ++ p ∷ [] → All (λ b. b ≢ 10) w → pieces 10 (t ++ w) ≡ ps ++ (p ++ w) ∷ []
 parts_longer t w ps p e free = pieces_append 10 t w ps p w [] e (pieces-whole 10 w free)
 
--- and the line feed behind them
+-- and the line feed after them
 pub parts_ended : (t w more : List ℕ) (ps : List (List ℕ)) (p : List ℕ) → pieces 10 t ≡ ps ++ p ∷ [] → All (λ b. b ≢ 10) w → pieces 10 ((t ++ (w ++ 10 ∷ [])) ++ more) ≡ ps ++ (p ++ w) ∷ pieces 10 more
 parts_ended t w more ps p e free =
     ap (pieces 10) (append_assoc t (w ++ 10 ∷ []) more ∙ ap (λ (r : List ℕ). t ++ r) (append_assoc w (10 ∷ []) more))
@@ -76,5 +76,5 @@ parts_ended t w more ps p e free =
 pub closed_some : (s : List ℕ) → is_closed (pieces 10 s) ≡ true
 closed_some s = (let p : (part : List ℕ) × (parts : List (List ℕ)) × (pieces 10 s ≡ part ∷ parts) = pieces-some 10 s in ap is_closed p.2)
 
-pub some_behind : (s : List ℕ) → pieces 10 s ≡ [] → ⊥
-some_behind s none = (let p : (part : List ℕ) × (parts : List (List ℕ)) × (pieces 10 s ≡ part ∷ parts) = pieces-some 10 s in let bad : [] ≡ p.0 ∷ p.1 = sym none ∙ p.2 in absurd (cc))
+pub some_after : (s : List ℕ) → pieces 10 s ≡ [] → ⊥
+some_after s none = (let p : (part : List ℕ) × (parts : List (List ℕ)) × (pieces 10 s ≡ part ∷ parts) = pieces-some 10 s in let bad : [] ≡ p.0 ∷ p.1 = sym none ∙ p.2 in absurd (cc))

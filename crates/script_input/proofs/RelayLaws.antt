@@ -51,14 +51,14 @@ in_calls n texts [] lines none = refl
 in_calls n [] (c ∷ calls) lines none = absurd lines
 in_calls n (t ∷ texts) (c ∷ calls) lines none = absurd (none.0 (lines.0.1.0, call_named n (fields t) c.worker c.line lines.0.1.1))
 
-behind_config : (config : Option (List ℕ)) (texts : List (List ℕ)) (calls : List WorkerLine) → AreLiveLines 2 texts (config_reads config ++ map (λ c. line.Call c.worker c.line) calls) → NoneCalls 2 texts → calls ≡ []
-behind_config None texts calls lines none = in_calls 2 texts calls lines none
-behind_config (Some c) [] calls lines none = absurd lines
-behind_config (Some c) (t ∷ texts) calls lines none = in_calls 3 texts calls lines.1 none.1
+after_config : (config : Option (List ℕ)) (texts : List (List ℕ)) (calls : List WorkerLine) → AreLiveLines 2 texts (config_reads config ++ map (λ c. line.Call c.worker c.line) calls) → NoneCalls 2 texts → calls ≡ []
+after_config None texts calls lines none = in_calls 2 texts calls lines none
+after_config (Some c) [] calls lines none = absurd lines
+after_config (Some c) (t ∷ texts) calls lines none = in_calls 3 texts calls lines.1 none.1
 
 no_calls : (s : LiveScript) (texts : List (List ℕ)) → AreLiveLines 1 texts (live_reads s) → NoneCalls 1 texts → s.calls.items ≡ []
 no_calls s [] lines none = absurd lines
-no_calls s (t ∷ texts) lines none = behind_config s.config texts s.calls.items lines.1 none.1
+no_calls s (t ∷ texts) lines none = after_config s.config texts s.calls.items lines.1 none.1
 
 -- ---- whole texts
 
@@ -76,12 +76,12 @@ reads_relay left left' s l r is = record {
 first_bad : (input : List ℕ) (n cause : ℕ) → RefusesLine HasTakenRelay RefusesRelay input n cause → IsFirstBadRelay input n cause
 first_bad input n cause r = by_fault r.fault
   where
-    made : (n ≡ length r.texts + 1) → IsRawFault n r.text (is_closed r.behind) cause ⊎ (IsRawLine n r.text (is_closed r.behind) × IsRelayFault n (fields r.text) cause) → IsFirstBadRelay input n cause
+    made : (n ≡ length r.texts + 1) → IsRawFault n r.text (is_closed r.afterwards) cause ⊎ (IsRawLine n r.text (is_closed r.afterwards) × IsRelayFault n (fields r.text) cause) → IsFirstBadRelay input n cause
     made number fault = record {
       before = r.texts;
       reads = reads_of r.lines.live.named r.lines.live.config r.lines.live.calls.items;
       text = r.text;
-      behind = r.behind;
+      afterwards = r.afterwards;
       parts = r.parts;
       lines = r.taken_are.taken.lines;
       calls = r.taken_are.calls;
@@ -90,20 +90,20 @@ first_bad input n cause r = by_fault r.fault
       fault = fault;
     }
 
-    by_line : (n ≡ length r.texts + 1) → IsRawLine (length r.texts + 1) r.text (is_closed r.behind) → (IsCallAt n (fields r.text) → ⊥) → IsLineFault r.lines.live.reader r.text true cause → IsFirstBadRelay input n cause
+    by_line : (n ≡ length r.texts + 1) → IsRawLine (length r.texts + 1) r.text (is_closed r.afterwards) → (IsCallAt n (fields r.text) → ⊥) → IsLineFault r.lines.live.reader r.text true cause → IsFirstBadRelay input n cause
     by_line number raw other (inl fault) = absurd (read_raw (r.lines.live.reader.lines + 1) r.text true cause (omega (arith, r.taken_are.taken.count, raw.0), raw.1, (raw.2.0, refl)) fault)
-    by_line number raw other (inr told) =
-        let said : IsLiveFault (r.lines.live.reader.lines + 1) (fields r.text) cause = subst (λ (k : ScriptKind). IsKindFault k (r.lines.live.reader.lines + 1) r.lines.live.reader.answered (fields r.text) cause) r.taken_are.taken.kind told.1 in
+    by_line number raw other (inr reported) =
+        let said : IsLiveFault (r.lines.live.reader.lines + 1) (fields r.text) cause = subst (λ (k : ScriptKind). IsKindFault k (r.lines.live.reader.lines + 1) r.lines.live.reader.answered (fields r.text) cause) r.taken_are.taken.kind reported.1 in
         made number (inr (
-          subst (λ (k : ℕ). IsRawLine k r.text (is_closed r.behind)) (sym number) raw,
+          subst (λ (k : ℕ). IsRawLine k r.text (is_closed r.afterwards)) (sym number) raw,
           inr (other, subst (λ (k : ℕ). IsLiveFault k (fields r.text) cause) (omega (arith, number, r.taken_are.taken.count)) said),
         ))
 
-    by_refusal : (n ≡ length r.texts + 1) → IsRawLine (length r.texts + 1) r.text (is_closed r.behind) → (IsCallAt n (fields r.text) × (cause ≡ unknown_kind)) ⊎ ((IsCallAt n (fields r.text) → ⊥) × IsLineFault r.lines.live.reader r.text true cause) → IsFirstBadRelay input n cause
-    by_refusal number raw (inl call) = made number (inr (subst (λ (k : ℕ). IsRawLine k r.text (is_closed r.behind)) (sym number) raw, inl call))
-    by_refusal number raw (inr told) = by_line number raw told.0 told.1
+    by_refusal : (n ≡ length r.texts + 1) → IsRawLine (length r.texts + 1) r.text (is_closed r.afterwards) → (IsCallAt n (fields r.text) × (cause ≡ unknown_kind)) ⊎ ((IsCallAt n (fields r.text) → ⊥) × IsLineFault r.lines.live.reader r.text true cause) → IsFirstBadRelay input n cause
+    by_refusal number raw (inl call) = made number (inr (subst (λ (k : ℕ). IsRawLine k r.text (is_closed r.afterwards)) (sym number) raw, inl call))
+    by_refusal number raw (inr reported) = by_line number raw reported.0 reported.1
 
-    by_fault : ((n ≡ length r.texts + 1) × IsRawFault n r.text (is_closed r.behind) cause) ⊎ (IsRawLine (length r.texts + 1) r.text (is_closed r.behind) × RefusesRelay r.lines r.text (bad.At n cause)) → IsFirstBadRelay input n cause
+    by_fault : ((n ≡ length r.texts + 1) × IsRawFault n r.text (is_closed r.afterwards) cause) ⊎ (IsRawLine (length r.texts + 1) r.text (is_closed r.afterwards) × RefusesRelay r.lines r.text (bad.At n cause)) → IsFirstBadRelay input n cause
     by_fault (inl raw) = made raw.0 (inl raw.1)
     by_fault (inr refused) = by_refusal (omega (arith, refused.1.0, r.taken_are.taken.count)) refused.0 refused.1.1
 
@@ -117,7 +117,7 @@ gives_no_relay left left' n m fault.ReadFailed s = record {
   input = s.input;
   read = s.read;
   failed = s.failed;
-  front = record {
+  prefix = record {
     texts = s.texts;
     reads = reads_of s.lines.live.named s.lines.live.config s.lines.live.calls.items;
     rest = s.rest;

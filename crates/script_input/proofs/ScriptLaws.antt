@@ -30,7 +30,7 @@ lines_one f n (text ∷ texts) (read ∷ reads) (other ∷ others) t u =
     let tail : reads ≡ others = lines_one f (n + 1) texts reads others t.1 u.1 in
     λ i. head i ∷ tail i
 
--- the first line behind the entries is one and the same
+-- the first line after the entries is one and the same
 entries_one : (f : Form) (n : ℕ) (ts rs us vs : List (List ℕ)) (reads others : List ScriptLine) → ts ++ rs ≡ us ++ vs → AreLines f n ts reads → AreRecords f (length ts + n) rs → AreLines f n us others → AreRecords f (length us + n) vs → ts ≡ us
 entries_one f n [] rs [] vs reads others e t r u v = refl
 entries_one f n [] [] (x ∷ us) vs reads others e t r u v = absurd ((cc))
@@ -52,16 +52,16 @@ entries_one f n (y ∷ ts) rs (x ∷ us) vs (read ∷ reads) (other ∷ others) 
     entries_one f (n + 1) ts rs us vs reads others rest t.1 (subst (λ (k : ℕ). AreRecords f k rs) (omega arith) r) u.1 (subst (λ (k : ℕ). AreRecords f k vs) (omega arith) v) in
     λ i. head i ∷ tail i
 
-front_one : (xs ys : List (List ℕ)) (z : List ℕ) → xs ++ z ∷ [] ≡ ys ++ z ∷ [] → xs ≡ ys
-front_one [] [] z e = refl
-front_one [] (y ∷ []) z e = (let bad : [] ≡ z ∷ [] = (cc) in absurd ((cc)))
-front_one [] (y ∷ (x ∷ ys)) z e = (let bad : [] ≡ x ∷ (ys ++ z ∷ []) = (cc) in absurd ((cc)))
-front_one (x ∷ []) [] z e = (let bad : z ∷ [] ≡ [] = (cc) in absurd ((cc)))
-front_one (x ∷ (y ∷ xs)) [] z e = (let bad : y ∷ (xs ++ z ∷ []) ≡ [] = (cc) in absurd ((cc)))
-front_one (x ∷ xs) (y ∷ ys) z e =
+prefix_one : (xs ys : List (List ℕ)) (z : List ℕ) → xs ++ z ∷ [] ≡ ys ++ z ∷ [] → xs ≡ ys
+prefix_one [] [] z e = refl
+prefix_one [] (y ∷ []) z e = (let bad : [] ≡ z ∷ [] = (cc) in absurd ((cc)))
+prefix_one [] (y ∷ (x ∷ ys)) z e = (let bad : [] ≡ x ∷ (ys ++ z ∷ []) = (cc) in absurd ((cc)))
+prefix_one (x ∷ []) [] z e = (let bad : z ∷ [] ≡ [] = (cc) in absurd ((cc)))
+prefix_one (x ∷ (y ∷ xs)) [] z e = (let bad : y ∷ (xs ++ z ∷ []) ≡ [] = (cc) in absurd ((cc)))
+prefix_one (x ∷ xs) (y ∷ ys) z e =
     let head : x ≡ y = (cc) in
     let rest : xs ++ z ∷ [] ≡ ys ++ z ∷ [] = (cc) in
-    let tail : xs ≡ ys = front_one xs ys z rest in
+    let tail : xs ≡ ys = prefix_one xs ys z rest in
     λ i. head i ∷ tail i
 
 events_one : (xs ys : List Stamped) → map (λ s. line.Event s) xs ≡ map (λ s. line.Event s) ys → xs ≡ ys
@@ -82,8 +82,8 @@ reads_one target other x y events more e =
 -- a text spells one script
 pub script_one : (f : Form) (input target : List ℕ) (value : Target) (events : List Stamped) → IsScript f input target value events → IsOnlyScript f input target value events
 script_one f input target value events t = λ other another more u.
-    let all : t.texts ++ t.records ≡ u.texts ++ u.records = front_one (t.texts ++ t.records) (u.texts ++ u.records) [] (sym t.parts ∙ u.parts) in
-    let texts : t.texts ≡ u.texts = entries_one f 1 t.texts t.records u.texts u.records (script_reads target value events) (script_reads other another more) all t.lines t.behind u.lines u.behind in
+    let all : t.texts ++ t.records ≡ u.texts ++ u.records = prefix_one (t.texts ++ t.records) (u.texts ++ u.records) [] (sym t.parts ∙ u.parts) in
+    let texts : t.texts ≡ u.texts = entries_one f 1 t.texts t.records u.texts u.records (script_reads target value events) (script_reads other another more) all t.lines t.afterwards u.lines u.afterwards in
     let there : AreLines f 1 t.texts (script_reads other another more) = subst (λ (ts : List (List ℕ)). AreLines f 1 ts (script_reads other another more)) (sym texts) u.lines in
     reads_one other target another value more events (lines_one f 1 t.texts (script_reads other another more) (script_reads target value events) there t.lines)
 
@@ -98,19 +98,19 @@ abbrev pub IsShort : Stamped → Type 0
 IsShort s = length (stamped_text s) ≤ line_limit
 
 lines_again : (f : Form) (n : ℕ) (texts : List (List ℕ)) (events moved : List Stamped) → 2 ≤ n → AreLines f n texts (map (λ s. line.Event s) events) → AreMoved events moved → AllByRecursion IsShort moved → AreLines form.Script n (map stamped_text moved) (map (λ s. line.Event s) moved)
-lines_again f n [] [] [] behind t is short = tt
-lines_again f n [] [] (m ∷ moved) behind t is short = absurd is
-lines_again f n [] (s ∷ events) moved behind t is short = absurd t
-lines_again f n (text ∷ texts) [] moved behind t is short = absurd t
-lines_again f n (text ∷ texts) (s ∷ events) [] behind t is short = absurd is
-lines_again f n (text ∷ texts) (s ∷ events) (m ∷ moved) behind t is short =
+lines_again f n [] [] [] afterwards t is short = tt
+lines_again f n [] [] (m ∷ moved) afterwards t is short = absurd is
+lines_again f n [] (s ∷ events) moved afterwards t is short = absurd t
+lines_again f n (text ∷ texts) [] moved afterwards t is short = absurd t
+lines_again f n (text ∷ texts) (s ∷ events) [] afterwards t is short = absurd is
+lines_again f n (text ∷ texts) (s ∷ events) (m ∷ moved) afterwards t is short =
     let spelled : IsSpelled (at_moment s m.moment) = stamped_again (fields (read_part f n text)) s m.moment is.1 t.0.2.1 in
     let again : IsSpelled m = subst (λ (x : Stamped). IsSpelled x) (sym is.0) spelled in (
-      ((t.0.0.0, short.0, again.0), (λ none. none), ((λ e. omega (arith, behind, e)), again.1)),
-      lines_again f (n + 1) texts events moved (omega (arith, behind)) t.1 is.2 short.1,
+      ((t.0.0.0, short.0, again.0), (λ none. none), ((λ e. omega (arith, afterwards, e)), again.1)),
+      lines_again f (n + 1) texts events moved (omega (arith, afterwards)) t.1 is.2 short.1,
     )
 
--- lines without a line feed are the parts of their text, and behind the last one nothing stands
+-- lines without a line feed are the parts of their text, and after the last one nothing stands
 abbrev AreOneLine : List (List ℕ) → Type 0
 AreOneLine lines = AllByRecursion (λ l. All (λ b. b ≢ 10) l) lines
 
@@ -134,7 +134,7 @@ script_again f input target value events moved t is short =
     let texts : List (List ℕ) = channel_text target ∷ map stamped_text moved in
     let lines : AreLines form.Script 1 texts (script_reads target value moved) = said_again t.texts t.lines in
     let parts : pieces 10 (lines_text texts) ≡ texts ++ [] ∷ [] = lines_parted texts (said_free form.Script 1 texts (script_reads target value moved) lines) in
-    record { texts = texts; records = []; parts = parts ∙ ap (λ (ts : List (List ℕ)). ts ++ [] ∷ []) (sym (append-nil texts)); lines = lines; behind = tt }
+    record { texts = texts; records = []; parts = parts ∙ ap (λ (ts : List (List ℕ)). ts ++ [] ∷ []) (sym (append-nil texts)); lines = lines; afterwards = tt }
   where
     first_again : (g : Form) (text : List ℕ) → SaysAt g 1 text (line.Channel target value) → SaysAt form.Script 1 (channel_text target) (line.Channel target value)
     first_again form.Script text says =

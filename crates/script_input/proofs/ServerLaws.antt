@@ -10,7 +10,7 @@ use Rattle.std.proofs.lemmas.Slice.Eq.{bytes_eq-Decides}
 use Rattle.grpc_base.specs.declared.script.AnswerLine.{AnswerLine}
 use Rattle.grpc_base.specs.Pieces.{pieces}
 use Rattle.grpc_base.specs.declared.script.ServerScript.{ServerScript}
-use Rattle.grpc_base.specs.Scripts.{AreNumbered, IsAnswer, IsServerScript, count_of as times}
+use Rattle.grpc_base.specs.Scripts.{AnswersAreNumbered, IsAnswer, IsServerScript, count_of as times}
 use Rattle.gate_io.specs.Outside.{IsAtEnd, Rises, Takes}
 use Rattle.script_fields.specs.Spelling.{fields}
 use Rattle.script_fields.proofs.TextLaws.{bool_cases}
@@ -24,7 +24,7 @@ use Rattle.script_lines.specs.Answers.{Answered, IsAnswerFault, IsAnswerFields, 
 use Rattle.script_lines.specs.Fields.{IsNumber, number_limit}
 use Rattle.script_lines.specs.Causes.{Before}
 use Rattle.script_lines.specs.Lines.{IsRawFault, IsRawLine}
-use Rattle.script_lines.specs.Reader.{IsBadLine, IsBehind, IsKindFault, IsKindLine, IsLine, IsLineFault, KeepsRules, ReaderSeen, answer_count}
+use Rattle.script_lines.specs.Reader.{IsBadLine, IsStateAfter, IsKindFault, IsKindLine, IsLine, IsLineFault, KeepsRules, ReaderSeen, answer_count}
 use Rattle.script_lines.proofs.OneLine.{line_one}
 use Rattle.script_input.specs.declared.fault.InputFault.{InputFault}
 use Rattle.script_input.specs.declared.fault.InputFault.TheVariants as fault
@@ -60,7 +60,7 @@ apart_is a b apart = elim (bool_cases (pointwise nat_eq b a)) [
   | inr other ↦ other
 ]
 
--- how often a path stood behind one answer more
+-- how often a path stood after one answer more
 count_next : (answered : Answered) (answer : AnswerLine) (path : List ℕ) → answer.n ≡ count_of answered answer.path + 1 → count_of ((answer.path, answer.n) ∷ answered) path ≡ count_of answered path + answer_count (line.Answer answer) path
 count_next answered answer path number = elim (bool_cases (pointwise nat_eq answer.path path)) [
   | inl same ↦ (
@@ -124,18 +124,18 @@ number_text answered (x ∷ y ∷ z ∷ []) a t = absurd t
 number_text answered (x ∷ y ∷ z ∷ w ∷ v ∷ more) a t = absurd t
 
 -- what an answer more leaves
-pub taken_more : (old new : AnswerLines) (text : List ℕ) (answer : AnswerLine) → IsLine old.reader text true (line.Answer answer) → KeepsRules (line.Answer answer) → IsBehind old.reader (line.Answer answer) new.reader → new.answers ≡ old.answers ++ answer ∷ [] → (texts : List (List ℕ)) → HasTakenAnswers old texts → HasTakenAnswers new (texts ++ text ∷ [])
-taken_more old new text answer is rules behind answers texts h =
+pub taken_more : (old new : AnswerLines) (text : List ℕ) (answer : AnswerLine) → IsLine old.reader text true (line.Answer answer) → KeepsRules (line.Answer answer) → IsStateAfter old.reader (line.Answer answer) new.reader → new.answers ≡ old.answers ++ answer ∷ [] → (texts : List (List ℕ)) → HasTakenAnswers old texts → HasTakenAnswers new (texts ++ text ∷ [])
+taken_more old new text answer is rules afterwards answers texts h =
     let said : IsAnswerText old.reader.answered (fields text) answer = subst (λ (k : ScriptKind). IsKindLine k (old.reader.lines + 1) old.reader.answered (fields text) (line.Answer answer)) h.kind is.1 in
     let there : IsAnswerText (answered_by [] old.answers) (fields text) answer = text_by old.reader.answered (answered_by [] old.answers) (fields text) answer h.counts said in
     let raw : IsRawLine (1 + length texts) text true = subst (λ (k : ℕ). IsRawLine k text true) (omega (arith, h.count)) is.0 in
     let number : answer.n ≡ count_of (answered_by [] old.answers) answer.path + 1 = number_text (answered_by [] old.answers) (fields text) answer there in
     record {
       lines = subst (AreAnswers [] 1 (texts ++ text ∷ [])) (sym answers) (answers_more [] 1 texts old.answers text answer h.lines raw there);
-      kind = behind.kind ∙ h.kind;
-      count = omega (arith, behind.lines, h.count, length-append texts (text ∷ []));
+      kind = afterwards.kind ∙ h.kind;
+      count = omega (arith, afterwards.lines, h.count, length-append texts (text ∷ []));
       counts = λ path.
-          behind.answered path
+          afterwards.answered path
           ∙ ap (λ (k : ℕ). k + answer_count (line.Answer answer) path) (h.counts path)
           ∙ sym (count_next (answered_by [] old.answers) answer path number)
           ∙ sym (ap (λ (e : Answered). count_of e path) (ap (answered_by []) answers ∙ answered_more [] old.answers answer));
@@ -145,13 +145,13 @@ taken_more old new text answer is rules behind answers texts h =
     all_more : (answers : List AnswerLine) (a : AnswerLine) → All IsAnswer answers → IsAnswer a → All IsAnswer (answers ++ a ∷ [])
     all_more answers a all one = All-append IsAnswer answers (a ∷ []) all (All-cons IsAnswer a [] one (All-nil IsAnswer))
 
-pub taken_read : {E : Type 0} (old new : AnswerLines) (text : List ℕ) (read : ScriptLine) (r : Result Unit E) → IsLine old.reader text true read → KeepsRules read → IsBehind old.reader read new.reader → OnOk r (IsKeptAnswer old.answers read new.answers) → OnOk r ((texts : List (List ℕ)) → HasTakenAnswers old texts → HasTakenAnswers new (texts ++ text ∷ []))
-taken_read old new text read (Err e) is rules behind kept = tt
-taken_read old new text (line.Answer answer) (Ok done) is rules behind kept = taken_more old new text answer is rules behind kept
-taken_read old new text (line.Channel target value) (Ok done) is rules behind kept = absurd kept
-taken_read old new text (line.Event s) (Ok done) is rules behind kept = absurd kept
-taken_read old new text (line.Config config) (Ok done) is rules behind kept = absurd kept
-taken_read old new text (line.Call worker call) (Ok done) is rules behind kept = absurd kept
+pub taken_read : {E : Type 0} (old new : AnswerLines) (text : List ℕ) (read : ScriptLine) (r : Result Unit E) → IsLine old.reader text true read → KeepsRules read → IsStateAfter old.reader read new.reader → OnOk r (IsKeptAnswer old.answers read new.answers) → OnOk r ((texts : List (List ℕ)) → HasTakenAnswers old texts → HasTakenAnswers new (texts ++ text ∷ []))
+taken_read old new text read (Err e) is rules afterwards kept = tt
+taken_read old new text (line.Answer answer) (Ok done) is rules afterwards kept = taken_more old new text answer is rules afterwards kept
+taken_read old new text (line.Channel target value) (Ok done) is rules afterwards kept = absurd kept
+taken_read old new text (line.Event s) (Ok done) is rules afterwards kept = absurd kept
+taken_read old new text (line.Config config) (Ok done) is rules afterwards kept = absurd kept
+taken_read old new text (line.Call worker call) (Ok done) is rules afterwards kept = absurd kept
 
 -- ---- whole texts
 
@@ -194,12 +194,12 @@ reads_server left left' s r =
 first_bad : (input : List ℕ) (n cause : ℕ) → RefusesLine HasTakenAnswers RefusesAnswer input n cause → IsFirstBadAnswer input n cause
 first_bad input n cause r = by_fault r.fault
   where
-    made : (n ≡ length r.texts + 1) → IsRawFault n r.text (is_closed r.behind) cause ⊎ (IsRawLine n r.text (is_closed r.behind) × IsAnswerFault (answered_by [] r.lines.answers) (fields r.text) cause) → IsFirstBadAnswer input n cause
+    made : (n ≡ length r.texts + 1) → IsRawFault n r.text (is_closed r.afterwards) cause ⊎ (IsRawLine n r.text (is_closed r.afterwards) × IsAnswerFault (answered_by [] r.lines.answers) (fields r.text) cause) → IsFirstBadAnswer input n cause
     made number fault = record {
       before = r.texts;
       answers = r.lines.answers;
       text = r.text;
-      behind = r.behind;
+      afterwards = r.afterwards;
       parts = r.parts;
       lines = r.taken_are.lines;
       number = number;
@@ -207,16 +207,16 @@ first_bad input n cause r = by_fault r.fault
       fault = fault;
     }
 
-    by_line : (n ≡ length r.texts + 1) → IsRawLine (length r.texts + 1) r.text (is_closed r.behind) → IsLineFault r.lines.reader r.text true cause → IsFirstBadAnswer input n cause
+    by_line : (n ≡ length r.texts + 1) → IsRawLine (length r.texts + 1) r.text (is_closed r.afterwards) → IsLineFault r.lines.reader r.text true cause → IsFirstBadAnswer input n cause
     by_line number raw (inl fault) = absurd (read_raw (r.lines.reader.lines + 1) r.text true cause (omega (arith, r.taken_are.count, raw.0), raw.1, (raw.2.0, refl)) fault)
-    by_line number raw (inr told) =
-        let said : IsAnswerFault r.lines.reader.answered (fields r.text) cause = subst (λ (k : ScriptKind). IsKindFault k (r.lines.reader.lines + 1) r.lines.reader.answered (fields r.text) cause) r.taken_are.kind told.1 in
+    by_line number raw (inr reported) =
+        let said : IsAnswerFault r.lines.reader.answered (fields r.text) cause = subst (λ (k : ScriptKind). IsKindFault k (r.lines.reader.lines + 1) r.lines.reader.answered (fields r.text) cause) r.taken_are.kind reported.1 in
         made number (inr (
-          subst (λ (k : ℕ). IsRawLine k r.text (is_closed r.behind)) (sym number) raw,
+          subst (λ (k : ℕ). IsRawLine k r.text (is_closed r.afterwards)) (sym number) raw,
           fault_by r.lines.reader.answered (answered_by [] r.lines.answers) (fields r.text) cause r.taken_are.counts said,
         ))
 
-    by_fault : ((n ≡ length r.texts + 1) × IsRawFault n r.text (is_closed r.behind) cause) ⊎ (IsRawLine (length r.texts + 1) r.text (is_closed r.behind) × RefusesAnswer r.lines r.text (bad.At n cause)) → IsFirstBadAnswer input n cause
+    by_fault : ((n ≡ length r.texts + 1) × IsRawFault n r.text (is_closed r.afterwards) cause) ⊎ (IsRawLine (length r.texts + 1) r.text (is_closed r.afterwards) × RefusesAnswer r.lines r.text (bad.At n cause)) → IsFirstBadAnswer input n cause
     by_fault (inl raw) = made raw.0 (inl raw.1)
     by_fault (inr refused) = by_line (omega (arith, refused.1.0, r.taken_are.count)) refused.0 refused.1.1
 
@@ -230,7 +230,7 @@ gives_none left left' n m fault.ReadFailed s = record {
   input = s.input;
   read = s.read;
   failed = s.failed;
-  front = record {
+  prefix = record {
     texts = s.texts;
     answers = s.lines.answers;
     rest = s.rest;
@@ -247,7 +247,7 @@ gives_none left left' n m fault.Empty s = absurd s
 times_cons : (path : List ℕ) (a : AnswerLine) (answers : List AnswerLine) → times path (a ∷ answers) ≡ answer_count (line.Answer a) path + times path answers
 times_cons path a answers = sum_by-cons (λ (x : AnswerLine). cond (bytes_eq x.path path) 1 0) a answers
 
--- the number of each answer, behind those in front of it
+-- the number of each answer, after those before it
 numbers : (answered : Answered) (n : ℕ) (texts : List (List ℕ)) (answers : List AnswerLine) → AreAnswers answered n texts answers → (i : ℕ) (d : AnswerLine) → i < length answers → (slice_index_or answers i d).n ≡ count_of answered (slice_index_or answers i d).path + times (slice_index_or answers i d).path (take i answers) + 1
 numbers answered n [] [] lines i d within = absurd (omega (arith, within))
 numbers answered n [] (a ∷ answers) lines i d within = absurd lines
@@ -268,7 +268,7 @@ numbers answered n (t ∷ texts) (a ∷ answers) lines (suc i) d within =
 pub is_valid : (s : AnswerLines) (texts : List (List ℕ)) (script : ServerScript) → script.answers ≡ s.answers → HasTakenAnswers s texts → IsServerScript script
 is_valid s texts script same h = record {
   answers_are = subst (All IsAnswer) (sym same) h.rules;
-  numbered = subst AreNumbered (sym same) (λ i d within. (
+  numbered = subst AnswersAreNumbered (sym same) (λ i d within. (
       let number : (slice_index_or s.answers i d).n ≡ count_of [] (slice_index_or s.answers i d).path + times (slice_index_or s.answers i d).path (take i s.answers) + 1 = numbers [] 1 texts s.answers h.lines i d within in
       let none : count_of [] (slice_index_or s.answers i d).path ≡ 0 = refl in
       omega (arith, number, none)

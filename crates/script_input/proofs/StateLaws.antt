@@ -9,16 +9,16 @@ use Rattle.script_fields.proofs.PartLaws.{pieces-blank, pieces-some}
 use Rattle.script_lines.specs.declared.line.ScriptLine.{ScriptLine}
 use Rattle.script_lines.specs.declared.reader.ScriptKind.TheVariants as script
 use Rattle.script_lines.specs.Lines.{IsRawLine, script_limit}
-use Rattle.script_lines.specs.Reader.{IsBehind, ReaderSeen}
+use Rattle.script_lines.specs.Reader.{IsStateAfter, ReaderSeen}
 use Rattle.script_input.specs.declared.collected.Channel.{Channel}
 use Rattle.script_input.specs.declared.collected.Collected.{Collected}
 use Rattle.script_input.specs.declared.fault.InputFault.{InputFault}
 use Rattle.script_input.specs.declared.fault.InputFault.TheVariants as fault
 use Rattle.script_input.specs.declared.form.Form.{Form}
-use Rattle.script_input.specs.Collecting.{HasRead, HasTaken, IsBadInput, IsDecided, IsKept, IsRead, IsTold, IsToldOpen, IsUnscript, Leads, reads_of}
+use Rattle.script_input.specs.Collecting.{HasRead, HasTaken, IsBadInput, IsDecided, IsKept, IsRead, IsReported, IsReportedOpen, IsUnscript, Leads, reads_of}
 use Rattle.script_input.specs.Scripts.{AreLines, AreRecords, IsFaultAt, IsRecord, IsScript, SaysAt, is_closed}
 use Rattle.script_input.proofs.LineLaws.{long_stays, no_events, no_records, reads_next, records_more}
-use Rattle.script_input.proofs.PartLaws.{closed_some, pieces_append, parts_ended, parts_longer, some_behind}
+use Rattle.script_input.proofs.PartLaws.{closed_some, pieces_append, parts_ended, parts_longer, some_after}
 
 -- the number of the next line
 number : (input : List ℕ) (s : Collected) → (h : HasRead input s) → s.reader.lines + s.records + 1 ≡ length h.texts + length h.recorded + 1
@@ -31,7 +31,7 @@ nothing_read s events blank none records kind lines = record {
   recorded = [];
   parts = ap (λ (w : List ℕ). w ∷ []) (sym blank);
   lines = subst (AreLines s.form 1 []) (sym (ap (λ (o : Option Channel). reads_of o s.events.items) none ∙ ap (λ (es : List Stamped). reads_of None es) events)) tt;
-  behind = tt;
+  afterwards = tt;
   kind = kind;
   count = lines;
   counted = records;
@@ -83,7 +83,7 @@ taken_line old new input text whole None free joined is kept blank form h =
             ended_parts old input text whole h free joined ∙ record_parts h.texts h.recorded whole []
             ∙ ap (λ (w : List ℕ). (h.texts ++ (h.recorded ++ whole ∷ [])) ++ w ∷ []) (sym blank);
         lines = subst (λ (f : Form). AreLines f 1 h.texts (reads_of new.channel new.events.items)) (sym form) (subst (AreLines old.form 1 h.texts) (sym reads) h.lines);
-        behind = subst (λ (f : Form). AreRecords f (length h.texts + 1) (h.recorded ++ whole ∷ [])) (sym form) (records_more old.form (length h.texts + 1) h.recorded whole h.behind raw one);
+        afterwards = subst (λ (f : Form). AreRecords f (length h.texts + 1) (h.recorded ++ whole ∷ [])) (sym form) (records_more old.form (length h.texts + 1) h.recorded whole h.afterwards raw one);
         kind = ap (λ (r : ReaderSeen). r.kind) is.2 ∙ h.kind;
         count = lines ∙ h.count;
         counted = omega (arith, kept.2, h.counted, size);
@@ -112,7 +112,7 @@ taken_line old new input text whole (Some read) free joined is kept blank form h
             ∙ ap (λ (w : List ℕ). ((h.texts ++ whole ∷ []) ++ []) ++ w ∷ []) (sym blank);
         lines = subst (λ (f : Form). AreLines f 1 (h.texts ++ whole ∷ []) (reads_of new.channel new.events.items)) (sym form)
             (reads_next old.form h.texts old.channel new.channel old.events.items new.events.items whole read h.lines says kept.0);
-        behind = tt;
+        afterwards = tt;
         kind = is.2.kind ∙ h.kind;
         count = omega (arith, is.2.lines, h.count, size);
         counted = omega (arith, kept.1, is.0);
@@ -123,31 +123,31 @@ taken_line old new input text whole (Some read) free joined is kept blank form h
       form = form;
     }
 
-pub decided_line : (old : Collected) (text whole : List ℕ) (e : InputFault) → All (λ b. b ≢ 10) text → whole ≡ old.line.items ++ text → IsTold old.form old.reader old.records whole true e → IsDecided old (text ++ 10 ∷ []) e
-decided_line old text whole (fault.BadLine n cause) free joined told input h more =
+pub decided_line : (old : Collected) (text whole : List ℕ) (e : InputFault) → All (λ b. b ≢ 10) text → whole ≡ old.line.items ++ text → IsReported old.form old.reader old.records whole true e → IsDecided old (text ++ 10 ∷ []) e
+decided_line old text whole (fault.BadLine n cause) free joined reported input h more =
     record {
       before = h.texts;
       records = h.recorded;
       reads = reads_of old.channel old.events.items;
       text = whole;
-      behind = pieces 10 more;
+      afterwards = pieces 10 more;
       parts =
           parts_ended input text more (h.texts ++ h.recorded) old.line.items h.parts free
           ∙ ap (λ (w : List ℕ). (h.texts ++ h.recorded) ++ w ∷ pieces 10 more) (sym joined);
       lines = h.lines;
-      recorded = h.behind;
-      number = told.0 ∙ number input old h;
-      there = λ none. absurd (some_behind more none);
+      recorded = h.afterwards;
+      number = reported.0 ∙ number input old h;
+      there = λ none. absurd (some_after more none);
       fault = subst (λ (b : Bool). IsFaultAt old.form (length h.recorded) n whole b cause) (sym (closed_some more))
-          (subst (λ (k : ℕ). IsFaultAt old.form k n whole true cause) h.counted told.1);
+          (subst (λ (k : ℕ). IsFaultAt old.form k n whole true cause) h.counted reported.1);
     }
-decided_line old text whole fault.NoMemory free joined told input h more = tt
-decided_line old text whole e free joined told input h more = absurd told
+decided_line old text whole fault.NoMemory free joined reported input h more = tt
+decided_line old text whole e free joined reported input h more = absurd reported
 
 -- ---- bytes without a line feed
 
-pub taken_front : (old new : Collected) (input text : List ℕ) → All (λ b. b ≢ 10) text → new.line.items ≡ old.line.items ++ text → length new.line.items ≤ line_limit → new.reader ≡ old.reader → new.records ≡ old.records → new.form ≡ old.form → new.channel ≡ old.channel → new.events.items ≡ old.events.items → HasRead input old → HasTaken input text old new
-taken_front old new input text free joined short reader records form channel events h =
+pub taken_prefix : (old new : Collected) (input text : List ℕ) → All (λ b. b ≢ 10) text → new.line.items ≡ old.line.items ++ text → length new.line.items ≤ line_limit → new.reader ≡ old.reader → new.records ≡ old.records → new.form ≡ old.form → new.channel ≡ old.channel → new.events.items ≡ old.events.items → HasRead input old → HasTaken input text old new
+taken_prefix old new input text free joined short reader records form channel events h =
     let long : length new.line.items ≡ length old.line.items + length text = ap length joined ∙ length-append old.line.items text in
     let lines : new.reader.lines ≡ old.reader.lines = ap (λ (r : ReaderSeen). r.lines) reader in
     let reads : reads_of new.channel new.events.items ≡ reads_of old.channel old.events.items =
@@ -160,7 +160,7 @@ taken_front old new input text free joined short reader records form channel eve
             parts_longer input text (h.texts ++ h.recorded) old.line.items h.parts free
             ∙ ap (λ (w : List ℕ). (h.texts ++ h.recorded) ++ w ∷ []) (sym joined);
         lines = subst (λ (f : Form). AreLines f 1 h.texts (reads_of new.channel new.events.items)) (sym form) (subst (AreLines old.form 1 h.texts) (sym reads) h.lines);
-        behind = subst (λ (f : Form). AreRecords f (length h.texts + 1) h.recorded) (sym form) h.behind;
+        afterwards = subst (λ (f : Form). AreRecords f (length h.texts + 1) h.recorded) (sym form) h.afterwards;
         kind = ap (λ (r : ReaderSeen). r.kind) reader ∙ h.kind;
         count = lines ∙ h.count;
         counted = records ∙ h.counted;
@@ -171,8 +171,8 @@ taken_front old new input text free joined short reader records form channel eve
       form = form;
     }
 
-pub decided_front : (old : Collected) (text whole : List ℕ) (e : InputFault) → All (λ b. b ≢ 10) text → whole ≡ old.line.items ++ text → line_limit < length whole → IsToldOpen old.reader old.records whole e → IsDecided old text e
-decided_front old text whole (fault.BadLine n cause) free joined long told input h more =
+pub decided_prefix : (old : Collected) (text whole : List ℕ) (e : InputFault) → All (λ b. b ≢ 10) text → whole ≡ old.line.items ++ text → line_limit < length whole → IsReportedOpen old.reader old.records whole e → IsDecided old text e
+decided_prefix old text whole (fault.BadLine n cause) free joined long reported input h more =
     let q : (part : List ℕ) × (parts : List (List ℕ)) × (pieces 10 more ≡ part ∷ parts) = pieces-some 10 more in
     let parts : pieces 10 ((input ++ text) ++ more) ≡ (h.texts ++ h.recorded) ++ ((old.line.items ++ text) ++ q.0) ∷ q.1 =
     pieces_append 10 (input ++ text) more (h.texts ++ h.recorded) (old.line.items ++ text) q.0 q.1 (parts_longer input text (h.texts ++ h.recorded) old.line.items h.parts free) q.2 in
@@ -182,18 +182,18 @@ decided_front old text whole (fault.BadLine n cause) free joined long told input
       records = h.recorded;
       reads = reads_of old.channel old.events.items;
       text = whole ++ q.0;
-      behind = q.1;
+      afterwards = q.1;
       parts = parts ∙ ap (λ (w : List ℕ). (h.texts ++ h.recorded) ++ (w ++ q.0) ∷ q.1) (sym joined);
       lines = h.lines;
-      recorded = h.behind;
-      number = told.0 ∙ number input old h;
+      recorded = h.afterwards;
+      number = reported.0 ∙ number input old h;
       there = λ none blank. absurd (omega (arith, ap length blank, size, long));
-      fault = long_stays old.form (length h.recorded) n whole (whole ++ q.0) false (is_closed q.1) cause long (omega (arith, size)) (inl told.1);
+      fault = long_stays old.form (length h.recorded) n whole (whole ++ q.0) false (is_closed q.1) cause long (omega (arith, size)) (inl reported.1);
     }
-decided_front old text whole fault.NoMemory free joined long told input h more = tt
-decided_front old text whole e free joined long told input h more = absurd told
+decided_prefix old text whole fault.NoMemory free joined long reported input h more = tt
+decided_prefix old text whole e free joined long reported input h more = absurd reported
 
--- ---- pieces behind one another
+-- ---- pieces after one another
 
 pub leads_none : (s : Collected) → Leads s s []
 leads_none s input h = record { read = subst (λ (t : List ℕ). HasRead t s) (sym (append-nil input)) h; room = omega arith; form = refl }
@@ -217,29 +217,29 @@ decided_on a b p q rest e first decided input h more =
 
 -- ---- the end
 
-pub unscript_open : (s : Collected) (text : List ℕ) (e : InputFault) → text ≡ s.line.items → (text ≡ [] → ⊥) → IsToldOpen s.reader s.records text e → (input : List ℕ) → HasRead input s → IsUnscript s.form input e
-unscript_open s text (fault.BadLine n cause) same filled told input h =
+pub unscript_open : (s : Collected) (text : List ℕ) (e : InputFault) → text ≡ s.line.items → (text ≡ [] → ⊥) → IsReportedOpen s.reader s.records text e → (input : List ℕ) → HasRead input s → IsUnscript s.form input e
+unscript_open s text (fault.BadLine n cause) same filled reported input h =
     record {
       before = h.texts;
       records = h.recorded;
       reads = reads_of s.channel s.events.items;
       text = text;
-      behind = [];
+      afterwards = [];
       parts = h.parts ∙ ap (λ (w : List ℕ). (h.texts ++ h.recorded) ++ w ∷ []) (sym same);
       lines = h.lines;
-      recorded = h.behind;
-      number = told.0 ∙ number input s h;
+      recorded = h.afterwards;
+      number = reported.0 ∙ number input s h;
       there = λ none. filled;
-      fault = inl told.1;
+      fault = inl reported.1;
     }
-unscript_open s text fault.NoMemory same filled told input h = tt
-unscript_open s text e same filled told input h = absurd told
+unscript_open s text fault.NoMemory same filled reported input h = tt
+unscript_open s text e same filled reported input h = absurd reported
 
 pub unscript_empty : (s : Collected) → s.line.items ≡ [] → s.channel ≡ None → (input : List ℕ) → HasRead input s → input ≡ []
 unscript_empty s blank none input h =
     let lines : AreLines s.form 1 h.texts (reads_of None s.events.items) = subst (λ (o : Option Channel). AreLines s.form 1 h.texts (reads_of o s.events.items)) none h.lines in
     let texts : h.texts ≡ [] = (no_events s.form h.texts s.events.items lines).0 in
-    let recorded : h.recorded ≡ [] = no_records s.form h.recorded (subst (λ (ts : List (List ℕ)). AreRecords s.form (length ts + 1) h.recorded) texts h.behind) in
+    let recorded : h.recorded ≡ [] = no_records s.form h.recorded (subst (λ (ts : List (List ℕ)). AreRecords s.form (length ts + 1) h.recorded) texts h.afterwards) in
     pieces-blank 10 input (h.parts ∙ ap (λ (ts : List (List ℕ)). (ts ++ h.recorded) ++ s.line.items ∷ []) texts ∙ ap (λ (rs : List (List ℕ)). rs ++ s.line.items ∷ []) recorded ∙ ap (λ (w : List ℕ). w ∷ []) blank)
 
 pub finished : (s : Collected) (channel : Channel) → s.line.items ≡ [] → s.channel ≡ Some channel → (input : List ℕ) → HasRead input s → IsScript s.form input channel.target channel.value s.events.items
@@ -248,7 +248,7 @@ finished s channel blank some input h = record {
   records = h.recorded;
   parts = h.parts ∙ ap (λ (w : List ℕ). (h.texts ++ h.recorded) ++ w ∷ []) blank;
   lines = subst (λ (o : Option Channel). AreLines s.form 1 h.texts (reads_of o s.events.items)) some h.lines;
-  behind = h.behind;
+  afterwards = h.afterwards;
 }
 
 -- what a test for emptiness says

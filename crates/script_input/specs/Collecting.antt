@@ -9,7 +9,7 @@ use Rattle.script_lines.specs.declared.reader.BadLine.{BadLine}
 use Rattle.script_lines.specs.declared.reader.BadLine.TheVariants as bad
 use Rattle.script_lines.specs.declared.reader.ScriptKind.TheVariants as script
 use Rattle.script_lines.specs.Lines.{IsRawFault, IsRawLine, script_limit}
-use Rattle.script_lines.specs.Reader.{IsBehind, ReaderSeen}
+use Rattle.script_lines.specs.Reader.{IsStateAfter, ReaderSeen}
 use Rattle.script_input.specs.declared.collected.Channel.{Channel}
 use Rattle.script_input.specs.declared.collected.Collected.{Collected}
 use Rattle.script_input.specs.declared.fault.InputFault.{InputFault}
@@ -23,13 +23,13 @@ abbrev pub reads_of : Option Channel → List Stamped → List ScriptLine
 reads_of None events = map (λ s. line.Event s) events
 reads_of (Some channel) events = script_reads channel.target channel.value events
 
--- these bytes were read: whole lines, and the front of another
+-- these bytes were read: whole lines, and the prefix of another
 pub record HasRead (input : List ℕ) (s : Collected) : Type 0 where
   pub texts : List (List ℕ)
   pub recorded : List (List ℕ)
   pub parts : pieces 10 input ≡ (texts ++ recorded) ++ s.line.items ∷ []
   pub lines : AreLines s.form 1 texts (reads_of s.channel s.events.items)
-  pub behind : AreRecords s.form (length texts + 1) recorded
+  pub afterwards : AreRecords s.form (length texts + 1) recorded
   pub kind : s.reader.kind ≡ script.Replay
   pub count : s.reader.lines ≡ length texts
   pub counted : s.records ≡ length recorded
@@ -44,7 +44,7 @@ IsReady s = (s.reader.kind ≡ script.Replay) × (s.records ≤ script_limit)
 abbrev pub room_of : Collected → ℕ
 room_of s = (script_limit + 1 - (s.reader.lines + s.records)) * (line_limit + 1) - length s.line.items
 
--- these bytes are read behind any others
+-- these bytes are read after any others
 pub record HasTaken (input piece : List ℕ) (old new : Collected) : Type 0 where
   pub read : HasRead (input ++ piece) new
   pub room : room_of new + length piece ≤ room_of old
@@ -59,7 +59,7 @@ IsBadInput f input (fault.BadLine n cause) = IsFirstBad f input n cause
 IsBadInput f input fault.NoMemory = Unit {0}
 IsBadInput f input e = ⊥
 
--- behind these bytes it is the fault, whatever follows
+-- after these bytes it is the fault, whatever follows
 abbrev pub IsDecided : Collected → List ℕ → InputFault → Type 0
 IsDecided old piece e = (input : List ℕ) → HasRead input old → (more : List ℕ) → IsBadInput old.form ((input ++ piece) ++ more) e
 
@@ -69,10 +69,10 @@ IsReplayRead (line.Channel target value) = Unit {0}
 IsReplayRead (line.Event s) = Unit {0}
 IsReplayRead read = ⊥
 
--- the next line, behind so many that stand behind the entries: one of the script, or one more behind the entries
+-- the next line, after so many that stand after the entries: one of the script, or one more after the entries
 abbrev pub IsRead : Form → ReaderSeen → ℕ → List ℕ → Option ScriptLine → ReaderSeen → Type 0
 IsRead f r records text None r' = IsRawLine (r.lines + records + 1) text true × IsRecord f (r.lines + records + 1) text × (r' ≡ r)
-IsRead f r records text (Some read) r' = (records ≡ 0) × SaysAt f (r.lines + 1) text read × IsBehind r read r'
+IsRead f r records text (Some read) r' = (records ≡ 0) × SaysAt f (r.lines + 1) text read × IsStateAfter r read r'
 
 -- what a line said is kept
 abbrev pub IsKeptLine : Option Channel → List Stamped → ScriptLine → Option Channel → List Stamped → Type 0
@@ -85,22 +85,22 @@ abbrev pub IsKept : Option Channel → List Stamped → ℕ → Option ScriptLin
 IsKept channel events records None channel' events' records' = (channel' ≡ channel) × (events' ≡ events) × (records' ≡ records + 1)
 IsKept channel events records (Some read) channel' events' records' = IsKeptLine channel events read channel' events' × (records' ≡ records)
 
--- the fault that tells a bad line
+-- the fault that reports a bad line
 abbrev pub input_fault : BadLine → InputFault
 input_fault (bad.At n cause) = fault.BadLine n cause
 input_fault bad.NoMemory = fault.NoMemory
 
 -- a fault that names the next line and its first cause, or out of memory
-abbrev pub IsTold : Form → ReaderSeen → ℕ → List ℕ → Bool → InputFault → Type 0
-IsTold f r records text closed (fault.BadLine n cause) = (n ≡ r.lines + records + 1) × IsFaultAt f records n text closed cause
-IsTold f r records text closed fault.NoMemory = Unit {0}
-IsTold f r records text closed e = ⊥
+abbrev pub IsReported : Form → ReaderSeen → ℕ → List ℕ → Bool → InputFault → Type 0
+IsReported f r records text closed (fault.BadLine n cause) = (n ≡ r.lines + records + 1) × IsFaultAt f records n text closed cause
+IsReported f r records text closed fault.NoMemory = Unit {0}
+IsReported f r records text closed e = ⊥
 
 -- the same of a line that no line feed ended
-abbrev pub IsToldOpen : ReaderSeen → ℕ → List ℕ → InputFault → Type 0
-IsToldOpen r records text (fault.BadLine n cause) = (n ≡ r.lines + records + 1) × IsRawFault n text false cause
-IsToldOpen r records text fault.NoMemory = Unit {0}
-IsToldOpen r records text e = ⊥
+abbrev pub IsReportedOpen : ReaderSeen → ℕ → List ℕ → InputFault → Type 0
+IsReportedOpen r records text (fault.BadLine n cause) = (n ≡ r.lines + records + 1) × IsRawFault n text false cause
+IsReportedOpen r records text fault.NoMemory = Unit {0}
+IsReportedOpen r records text e = ⊥
 
 -- the script of these bytes, which are the whole input
 abbrev pub IsFinished : Collected → Script → Type 0

@@ -1,4 +1,4 @@
--- The lines of an input, given one behind another to what takes them.
+-- The lines of an input, given one after another to what takes them.
 use Rattle.std.specs.Prelude.{◌≡◌, ◌≢◌, ◌<◌, ◌≤◌, ◌⊎◌, ℕ, ◌+◌, ◌-◌, ◌*◌, Bool, false, Option, List, [], ◌∷◌, ◌++◌, length}
 use Rattle.grpc_base.specs.Limits.{line_limit}
 use Rattle.grpc_base.specs.Pieces.{pieces}
@@ -11,7 +11,7 @@ use Rattle.script_input.specs.declared.fault.InputFault.TheVariants as fault
 use Rattle.script_input.specs.declared.feed.Feed.{Feed}
 use Rattle.script_input.specs.Scripts.{is_closed}
 
--- these bytes were read: whole lines, which were taken, and the front of another
+-- these bytes were read: whole lines, which were taken, and the prefix of another
 pub record HasFed {T : Type 0} (taken : T → List (List ℕ) → Type 0) (input : List ℕ) (feed : Feed) (lines : T) : Type 0 where
   pub texts : List (List ℕ)
   pub parts : pieces 10 input ≡ texts ++ feed.line.items ∷ []
@@ -23,41 +23,41 @@ pub record HasFed {T : Type 0} (taken : T → List (List ℕ) → Type 0) (input
 abbrev pub room_of : Feed → ℕ
 room_of feed = (script_limit + 1 - feed.count) * (line_limit + 1) - length feed.line.items
 
--- these bytes are read behind any others
-pub record FeedsBehind {T : Type 0} (taken : T → List (List ℕ) → Type 0) (input piece : List ℕ) (old new : Feed) (lines : T) : Type 0 where
+-- these bytes are read after any others
+pub record FeedsAfter {T : Type 0} (taken : T → List (List ℕ) → Type 0) (input piece : List ℕ) (old new : Feed) (lines : T) : Type 0 where
   pub read : HasFed taken (input ++ piece) new lines
   pub room : room_of new + length piece ≤ room_of old
 
 abbrev pub LeadsBy : {T : Type 0} → (T → List (List ℕ) → Type 0) → Feed → T → Feed → T → List ℕ → Type 0
-LeadsBy taken old lines new lines' piece = (input : List ℕ) → HasFed taken input old lines → FeedsBehind taken input piece old new lines'
+LeadsBy taken old lines new lines' piece = (input : List ℕ) → HasFed taken input old lines → FeedsAfter taken input piece old new lines'
 
 -- the first bad line of a text, by its number, and its cause: lines before it were taken, and it fails a test that each line of each
--- script passes first, or is refused; what stands behind the last line feed is a line where it has a byte
+-- script passes first, or is refused; what stands after the last line feed is a line where it has a byte
 pub record RefusesLine {T : Type 0} (taken : T → List (List ℕ) → Type 0) (refuses : T → List ℕ → BadLine → Type 0) (input : List ℕ) (n cause : ℕ) : Type 0 where
   pub lines : T
   pub texts : List (List ℕ)
   pub text : List ℕ
-  pub behind : List (List ℕ)
-  pub parts : pieces 10 input ≡ texts ++ text ∷ behind
+  pub afterwards : List (List ℕ)
+  pub parts : pieces 10 input ≡ texts ++ text ∷ afterwards
   pub taken_are : taken lines texts
-  pub there : behind ≡ [] → text ≢ []
-  pub fault : ((n ≡ length texts + 1) × IsRawFault n text (is_closed behind) cause)
-      ⊎ (IsRawLine (length texts + 1) text (is_closed behind) × refuses lines text (bad.At n cause))
+  pub there : afterwards ≡ [] → text ≢ []
+  pub fault : ((n ≡ length texts + 1) × IsRawFault n text (is_closed afterwards) cause)
+      ⊎ (IsRawLine (length texts + 1) text (is_closed afterwards) × refuses lines text (bad.At n cause))
 
 abbrev pub IsBadBy : {T : Type 0} → (T → List (List ℕ) → Type 0) → (T → List ℕ → BadLine → Type 0) → List ℕ → InputFault → Type 0
 IsBadBy taken refuses input (fault.BadLine n cause) = RefusesLine taken refuses input n cause
 IsBadBy taken refuses input fault.NoMemory = Unit {0}
 IsBadBy taken refuses input e = ⊥
 
--- behind these bytes it is the fault, whatever follows
+-- after these bytes it is the fault, whatever follows
 abbrev pub IsDecidedBy : {T : Type 0} → (T → List (List ℕ) → Type 0) → (T → List ℕ → BadLine → Type 0) → Feed → T → List ℕ → InputFault → Type 0
 IsDecidedBy taken refuses old lines piece e = (input : List ℕ) → HasFed taken input old lines → (more : List ℕ) → IsBadBy taken refuses ((input ++ piece) ++ more) e
 
--- why the line behind so many others is bad
-abbrev pub IsToldFor : ℕ → List ℕ → Bool → InputFault → Type 0
-IsToldFor count text closed (fault.BadLine n cause) = (n ≡ count + 1) × IsRawFault n text closed cause
-IsToldFor count text closed fault.NoMemory = Unit {0}
-IsToldFor count text closed e = ⊥
+-- why the line after so many others is bad
+abbrev pub IsReportedFor : ℕ → List ℕ → Bool → InputFault → Type 0
+IsReportedFor count text closed (fault.BadLine n cause) = (n ≡ count + 1) × IsRawFault n text closed cause
+IsReportedFor count text closed fault.NoMemory = Unit {0}
+IsReportedFor count text closed e = ⊥
 
 -- the same of one that is too long already
 abbrev pub IsTooLong : ℕ → List ℕ → InputFault → Type 0
@@ -65,7 +65,7 @@ IsTooLong count text (fault.BadLine n cause) = (n ≡ count + 1) × (line_limit 
 IsTooLong count text fault.NoMemory = Unit {0}
 IsTooLong count text e = ⊥
 
--- the input was read to its end: all its lines were taken, and behind the last line feed there is nothing
+-- the input was read to its end: all its lines were taken, and after the last line feed there is nothing
 pub record ReadsLines {T : Type 0} (taken : T → List (List ℕ) → Type 0) (left left' : Option (List ℕ)) (lines : T) : Type 0 where
   pub input : List ℕ
   pub texts : List (List ℕ)
@@ -80,7 +80,7 @@ pub record FindsLine {T : Type 0} (taken : T → List (List ℕ) → Type 0) (re
   pub read : Takes left left' input
   pub bad : (IsAtEnd left' × RefusesLine taken refuses input n cause) ⊎ ((more : List ℕ) → RefusesLine taken refuses (input ++ more) n cause)
 
--- a read failed behind lines that were taken and the front of another
+-- a read failed after lines that were taken and the prefix of another
 pub record StopsLines {T : Type 0} (taken : T → List (List ℕ) → Type 0) (left left' : Option (List ℕ)) (faults faults' : ℕ) : Type 0 where
   pub input : List ℕ
   pub lines : T

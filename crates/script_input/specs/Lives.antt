@@ -22,13 +22,13 @@ config_reads (Some config) = line.Config config ∷ []
 abbrev pub live_reads : LiveScript → List ScriptLine
 live_reads s = line.Channel s.target s.value ∷ config_reads s.config ++ map (λ c. line.Call c.worker c.line) s.calls.items
 
--- lines one behind another, and what each says; n is the number of the first
+-- lines one after another, and what each says; n is the number of the first
 abbrev pub AreLiveLines : ℕ → List (List ℕ) → List ScriptLine → Type 0
 AreLiveLines n [] [] = Unit {0}
 AreLiveLines n (text ∷ texts) (read ∷ reads) = (IsRawLine n text true × IsLiveLine n (fields text) read) × AreLiveLines (n + 1) texts reads
 AreLiveLines n texts reads = ⊥
 
--- a live script: what stands between its line feeds are its lines, and behind the last line feed there is nothing
+-- a live script: what stands between its line feeds are its lines, and after the last line feed there is nothing
 pub record IsLive (input : List ℕ) (script : LiveScript) : Type 0 where
   pub texts : List (List ℕ)
   pub parts : pieces 10 input ≡ texts ++ [] ∷ []
@@ -38,24 +38,24 @@ pub record IsLive (input : List ℕ) (script : LiveScript) : Type 0 where
 abbrev pub IsOnlyLive : List ℕ → LiveScript → Type 0
 IsOnlyLive input script = (other : LiveScript) → IsLive input other → live_reads other ≡ live_reads script
 
--- the first bad line of a text, by its number, and its cause; what stands behind the last line feed is a line where it has a byte
+-- the first bad line of a text, by its number, and its cause; what stands after the last line feed is a line where it has a byte
 pub record IsFirstBadLive (input : List ℕ) (n cause : ℕ) : Type 0 where
   pub before : List (List ℕ)
   pub reads : List ScriptLine
   pub text : List ℕ
-  pub behind : List (List ℕ)
-  pub parts : pieces 10 input ≡ before ++ text ∷ behind
+  pub afterwards : List (List ℕ)
+  pub parts : pieces 10 input ≡ before ++ text ∷ afterwards
   pub lines : AreLiveLines 1 before reads
   pub number : n ≡ length before + 1
-  pub there : behind ≡ [] → text ≢ []
-  pub fault : IsRawFault n text (is_closed behind) cause ⊎ (IsRawLine n text (is_closed behind) × IsLiveFault n (fields text) cause)
+  pub there : afterwards ≡ [] → text ≢ []
+  pub fault : IsRawFault n text (is_closed afterwards) cause ⊎ (IsRawLine n text (is_closed afterwards) × IsLiveFault n (fields text) cause)
 
 -- no bytes have no channel line
 abbrev pub IsNothing : List ℕ → ℕ → ℕ → Type 0
 IsNothing input n cause = (input ≡ []) × (n ≡ 1) × (cause ≡ no_channel)
 
--- good lines, and behind them the front of a line that is not too long yet
-pub record IsLiveFront (input : List ℕ) : Type 0 where
+-- good lines, and after them the prefix of a line that is not too long yet
+pub record IsLivePrefix (input : List ℕ) : Type 0 where
   pub texts : List (List ℕ)
   pub reads : List ScriptLine
   pub rest : List ℕ
@@ -63,7 +63,7 @@ pub record IsLiveFront (input : List ℕ) : Type 0 where
   pub lines : AreLiveLines 1 texts reads
   pub short : length rest ≤ line_limit
 
--- a live script with nothing left behind it, and its bytes spell nothing else
+-- a live script with nothing left over it, and its bytes spell nothing else
 pub record ReadsLive (left left' : Option (List ℕ)) (script : LiveScript) : Type 0 where
   pub input : List ℕ
   pub read : Takes left left' input
@@ -77,12 +77,12 @@ pub record FindsBadLive (left left' : Option (List ℕ)) (n cause : ℕ) : Type 
   pub read : Takes left left' input
   pub bad : (IsAtEnd left' × (IsFirstBadLive input n cause ⊎ IsNothing input n cause)) ⊎ ((more : List ℕ) → IsFirstBadLive (input ++ more) n cause)
 
--- a read failed behind good lines and the front of another
+-- a read failed after good lines and the prefix of another
 pub record StopsInLive (left left' : Option (List ℕ)) (faults faults' : ℕ) : Type 0 where
   pub input : List ℕ
   pub read : Takes left left' input
   pub failed : Rises faults faults'
-  pub front : IsLiveFront input
+  pub prefix : IsLivePrefix input
 
 -- why the reading of a source gave no live script
 abbrev pub GivesNoLive : Option (List ℕ) → Option (List ℕ) → ℕ → ℕ → InputFault → Type 0

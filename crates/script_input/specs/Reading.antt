@@ -6,9 +6,9 @@ use Rattle.resolver_core.specs.declared.any_target.Target.{Target}
 use Rattle.script_input.specs.declared.form.Form.{Form}
 use Rattle.script_input.specs.declared.fault.InputFault.{InputFault}
 use Rattle.script_input.specs.declared.fault.InputFault.TheVariants as fault
-use Rattle.script_input.specs.Scripts.{IsFirstBad, IsFront, IsOnlyScript, IsScript}
+use Rattle.script_input.specs.Scripts.{IsFirstBad, IsPrefix, IsOnlyScript, IsScript}
 
--- a script, or the report that holds it, with nothing left behind it, and the only one that its bytes spell
+-- a script, or the report that holds it, with nothing left over it, and the only one that its bytes spell
 pub record ReadsScript (f : Form) (left left' : Option (List ℕ)) (target : List ℕ) (value : Target) (events : List Stamped) : Type 0 where
   pub input : List ℕ
   pub read : Takes left left' input
@@ -22,12 +22,12 @@ pub record FindsBad (f : Form) (left left' : Option (List ℕ)) (n cause : ℕ) 
   pub read : Takes left left' input
   pub bad : (IsAtEnd left' × IsFirstBad f input n cause) ⊎ ((more : List ℕ) → IsFirstBad f (input ++ more) n cause)
 
--- a read failed behind good lines and the front of another
+-- a read failed after good lines and the prefix of another
 pub record StopsReading (f : Form) (left left' : Option (List ℕ)) (faults faults' : ℕ) : Type 0 where
   pub input : List ℕ
   pub read : Takes left left' input
   pub failed : Rises faults faults'
-  pub front : IsFront f input
+  pub prefix : IsPrefix f input
 
 -- why the reading of a source gave no script
 abbrev pub GivesNone : Form → Option (List ℕ) → Option (List ℕ) → ℕ → ℕ → InputFault → Type 0

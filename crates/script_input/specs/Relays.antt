@@ -31,21 +31,21 @@ NoneCalls n (text ∷ texts) = (IsCallAt n (fields text) → ⊥) × NoneCalls (
 abbrev pub IsRelayFault : ℕ → List (List ℕ) → ℕ → Type 0
 IsRelayFault n texts c = (IsCallAt n texts × (c ≡ unknown_kind)) ⊎ ((IsCallAt n texts → ⊥) × IsLiveFault n texts c)
 
--- the first bad line of a text, by its number, and its cause; what stands behind the last line feed is a line where it has a byte
+-- the first bad line of a text, by its number, and its cause; what stands after the last line feed is a line where it has a byte
 pub record IsFirstBadRelay (input : List ℕ) (n cause : ℕ) : Type 0 where
   pub before : List (List ℕ)
   pub reads : List ScriptLine
   pub text : List ℕ
-  pub behind : List (List ℕ)
-  pub parts : pieces 10 input ≡ before ++ text ∷ behind
+  pub afterwards : List (List ℕ)
+  pub parts : pieces 10 input ≡ before ++ text ∷ afterwards
   pub lines : AreLiveLines 1 before reads
   pub calls : NoneCalls 1 before
   pub number : n ≡ length before + 1
-  pub there : behind ≡ [] → text ≢ []
-  pub fault : IsRawFault n text (is_closed behind) cause ⊎ (IsRawLine n text (is_closed behind) × IsRelayFault n (fields text) cause)
+  pub there : afterwards ≡ [] → text ≢ []
+  pub fault : IsRawFault n text (is_closed afterwards) cause ⊎ (IsRawLine n text (is_closed afterwards) × IsRelayFault n (fields text) cause)
 
--- good lines, and behind them the front of a line that is not too long yet
-pub record IsRelayFront (input : List ℕ) : Type 0 where
+-- good lines, and after them the prefix of a line that is not too long yet
+pub record IsRelayPrefix (input : List ℕ) : Type 0 where
   pub texts : List (List ℕ)
   pub reads : List ScriptLine
   pub rest : List ℕ
@@ -54,7 +54,7 @@ pub record IsRelayFront (input : List ℕ) : Type 0 where
   pub calls : NoneCalls 1 texts
   pub short : length rest ≤ line_limit
 
--- a live script without calls, with nothing left behind it
+-- a live script without calls, with nothing left over it
 pub record ReadsRelay (left left' : Option (List ℕ)) (script : LiveScript) : Type 0 where
   pub live : ReadsLive left left' script
   pub none : script.calls.items ≡ []
@@ -65,12 +65,12 @@ pub record FindsBadRelay (left left' : Option (List ℕ)) (n cause : ℕ) : Type
   pub read : Takes left left' input
   pub bad : (IsAtEnd left' × (IsFirstBadRelay input n cause ⊎ IsNothing input n cause)) ⊎ ((more : List ℕ) → IsFirstBadRelay (input ++ more) n cause)
 
--- a read failed behind good lines and the front of another
+-- a read failed after good lines and the prefix of another
 pub record StopsInRelay (left left' : Option (List ℕ)) (faults faults' : ℕ) : Type 0 where
   pub input : List ℕ
   pub read : Takes left left' input
   pub failed : Rises faults faults'
-  pub front : IsRelayFront input
+  pub prefix : IsRelayPrefix input
 
 -- why the reading of a source gave no script of a relay
 abbrev pub GivesNoRelay : Option (List ℕ) → Option (List ℕ) → ℕ → ℕ → InputFault → Type 0

@@ -22,12 +22,12 @@ abbrev pub before_sign : List ℕ → List ℕ
 before_sign [] = []
 before_sign (b ∷ text) = if begins (b ∷ text) (codes " = ") then [] else b ∷ before_sign text
 
--- what is read of the line of a number: all of it; of a line of a report behind the first, what stands before the first ` = `
+-- what is read of the line of a number: all of it; of a line of a report after the first, what stands before the first ` = `
 abbrev pub read_part : Form → ℕ → List ℕ → List ℕ
 read_part form.Script n text = text
 read_part form.Report n text = if n == 1 then text else before_sign text
 
--- how the lines behind the entries of a report begin: rows, the end, or a fault; a script has none
+-- how the lines after the entries of a report begin: rows, the end, or a fault; a script has none
 abbrev pub is_record : List ℕ → Bool
 is_record text = begins text (codes "row ") || begins text (codes "end ") || begins text (codes "fault ")
 
@@ -39,18 +39,18 @@ IsRecord form.Report n text = (n ≢ 1) × IsTrue (is_record text)
 abbrev pub SaysAt : Form → ℕ → List ℕ → ScriptLine → Type 0
 SaysAt f n text read = IsRawLine n text true × (IsRecord f n text → ⊥) × IsReplayLine n (fields (read_part f n text)) read
 
--- lines one behind another, and what each says; n is the number of the first
+-- lines one after another, and what each says; n is the number of the first
 abbrev pub AreLines : Form → ℕ → List (List ℕ) → List ScriptLine → Type 0
 AreLines f n [] [] = Unit {0}
 AreLines f n (text ∷ texts) (read ∷ reads) = SaysAt f n text read × AreLines f (n + 1) texts reads
 AreLines f n texts reads = ⊥
 
--- lines behind the entries, which say nothing of the script
+-- lines after the entries, which say nothing of the script
 abbrev pub AreRecords : Form → ℕ → List (List ℕ) → Type 0
 AreRecords f n [] = Unit {0}
 AreRecords f n (text ∷ texts) = (IsRawLine n text true × IsRecord f n text) × AreRecords f (n + 1) texts
 
--- the first cause why the line of a number is bad, behind so many lines that stand behind the entries: it has to be one too, where
+-- the first cause why the line of a number is bad, after so many lines that stand after the entries: it has to be one too, where
 -- there is one before it
 abbrev pub IsFaultAt : Form → ℕ → ℕ → List ℕ → Bool → ℕ → Type 0
 IsFaultAt f records n text closed c =
@@ -58,18 +58,18 @@ IsFaultAt f records n text closed c =
     ⊎ (IsRawLine n text closed × (IsRecord f n text → ⊥)
     × (((records ≡ 0) × IsReplayFault n (fields (read_part f n text)) c) ⊎ ((records ≢ 0) × (c ≡ unknown_kind))))
 
--- what the lines of a script say: the channel line first, and events behind it
+-- what the lines of a script say: the channel line first, and events after it
 abbrev pub script_reads : List ℕ → Target → List Stamped → List ScriptLine
 script_reads target value events = line.Channel target value ∷ map (λ s. line.Event s) events
 
--- a script, or the report that holds it: what stands between its line feeds are its lines, and behind the last line feed there is
+-- a script, or the report that holds it: what stands between its line feeds are its lines, and after the last line feed there is
 -- nothing
 pub record IsScript (f : Form) (input target : List ℕ) (value : Target) (events : List Stamped) : Type 0 where
   pub texts : List (List ℕ)
   pub records : List (List ℕ)
   pub parts : pieces 10 input ≡ (texts ++ records) ++ [] ∷ []
   pub lines : AreLines f 1 texts (script_reads target value events)
-  pub behind : AreRecords f (length texts + 1) records
+  pub afterwards : AreRecords f (length texts + 1) records
 
 -- no other script is spelled so
 abbrev pub IsOnlyScript : Form → List ℕ → List ℕ → Target → List Stamped → Type 0
@@ -77,27 +77,27 @@ IsOnlyScript f input target value events =
     (other : List ℕ) (another : Target) (more : List Stamped) → IsScript f input other another more
     → (other ≡ target) × (another ≡ value) × (more ≡ events)
 
--- whether a line feed stands behind a line: another part follows
+-- whether a line feed stands after a line: another part follows
 abbrev pub is_closed : List (List ℕ) → Bool
 is_closed [] = false
 is_closed (part ∷ parts) = true
 
--- the first bad line of a text, by its number, and its cause; what stands behind the last line feed is a line where it has a byte
+-- the first bad line of a text, by its number, and its cause; what stands after the last line feed is a line where it has a byte
 pub record IsFirstBad (f : Form) (input : List ℕ) (n cause : ℕ) : Type 0 where
   pub before : List (List ℕ)
   pub records : List (List ℕ)
   pub reads : List ScriptLine
   pub text : List ℕ
-  pub behind : List (List ℕ)
-  pub parts : pieces 10 input ≡ (before ++ records) ++ text ∷ behind
+  pub afterwards : List (List ℕ)
+  pub parts : pieces 10 input ≡ (before ++ records) ++ text ∷ afterwards
   pub lines : AreLines f 1 before reads
   pub recorded : AreRecords f (length before + 1) records
   pub number : n ≡ length before + length records + 1
-  pub there : behind ≡ [] → text ≢ []
-  pub fault : IsFaultAt f (length records) n text (is_closed behind) cause
+  pub there : afterwards ≡ [] → text ≢ []
+  pub fault : IsFaultAt f (length records) n text (is_closed afterwards) cause
 
--- good lines, and behind them the front of a line that is not too long yet
-pub record IsFront (f : Form) (input : List ℕ) : Type 0 where
+-- good lines, and after them the prefix of a line that is not too long yet
+pub record IsPrefix (f : Form) (input : List ℕ) : Type 0 where
   pub texts : List (List ℕ)
   pub records : List (List ℕ)
   pub reads : List ScriptLine

@@ -13,19 +13,19 @@ use Rattle.script_input.specs.declared.fault.InputFault.{InputFault}
 use Rattle.script_input.specs.declared.fault.InputFault.TheVariants as fault
 use Rattle.script_input.specs.Scripts.{is_closed}
 
--- how often each path was answered behind these answers: the number of its last one
+-- how often each path was answered after these answers: the number of its last one
 abbrev pub answered_by : Answered → List AnswerLine → Answered
 answered_by answered [] = answered
 answered_by answered (answer ∷ answers) = answered_by ((answer.path, answer.n) ∷ answered) answers
 
--- lines one behind another, and the answer of each; n is the number of the first
+-- lines one after another, and the answer of each; n is the number of the first
 abbrev pub AreAnswers : Answered → ℕ → List (List ℕ) → List AnswerLine → Type 0
 AreAnswers answered n [] [] = Unit {0}
 AreAnswers answered n (text ∷ texts) (answer ∷ answers) =
     (IsRawLine n text true × IsAnswerText answered (fields text) answer) × AreAnswers ((answer.path, answer.n) ∷ answered) (n + 1) texts answers
 AreAnswers answered n texts answers = ⊥
 
--- a server script: what stands between its line feeds are its lines, and behind the last line feed there is nothing
+-- a server script: what stands between its line feeds are its lines, and after the last line feed there is nothing
 pub record IsServer (input : List ℕ) (answers : List AnswerLine) : Type 0 where
   pub texts : List (List ℕ)
   pub parts : pieces 10 input ≡ texts ++ [] ∷ []
@@ -35,21 +35,21 @@ pub record IsServer (input : List ℕ) (answers : List AnswerLine) : Type 0 wher
 abbrev pub IsOnlyServer : List ℕ → List AnswerLine → Type 0
 IsOnlyServer input answers = (others : List AnswerLine) → IsServer input others → others ≡ answers
 
--- the first bad line of a text, by its number, and its cause; what stands behind the last line feed is a line where it has a byte
+-- the first bad line of a text, by its number, and its cause; what stands after the last line feed is a line where it has a byte
 pub record IsFirstBadAnswer (input : List ℕ) (n cause : ℕ) : Type 0 where
   pub before : List (List ℕ)
   pub answers : List AnswerLine
   pub text : List ℕ
-  pub behind : List (List ℕ)
-  pub parts : pieces 10 input ≡ before ++ text ∷ behind
+  pub afterwards : List (List ℕ)
+  pub parts : pieces 10 input ≡ before ++ text ∷ afterwards
   pub lines : AreAnswers [] 1 before answers
   pub number : n ≡ length before + 1
-  pub there : behind ≡ [] → text ≢ []
-  pub fault : IsRawFault n text (is_closed behind) cause
-      ⊎ (IsRawLine n text (is_closed behind) × IsAnswerFault (answered_by [] answers) (fields text) cause)
+  pub there : afterwards ≡ [] → text ≢ []
+  pub fault : IsRawFault n text (is_closed afterwards) cause
+      ⊎ (IsRawLine n text (is_closed afterwards) × IsAnswerFault (answered_by [] answers) (fields text) cause)
 
--- good lines, and behind them the front of a line that is not too long yet
-pub record IsServerFront (input : List ℕ) : Type 0 where
+-- good lines, and after them the prefix of a line that is not too long yet
+pub record IsServerPrefix (input : List ℕ) : Type 0 where
   pub texts : List (List ℕ)
   pub answers : List AnswerLine
   pub rest : List ℕ
@@ -57,7 +57,7 @@ pub record IsServerFront (input : List ℕ) : Type 0 where
   pub lines : AreAnswers [] 1 texts answers
   pub short : length rest ≤ line_limit
 
--- a server script with nothing left behind it; its bytes spell these answers and no others
+-- a server script with nothing left over it; its bytes spell these answers and no others
 pub record ReadsServer (left left' : Option (List ℕ)) (answers : List AnswerLine) : Type 0 where
   pub input : List ℕ
   pub read : Takes left left' input
@@ -71,12 +71,12 @@ pub record FindsBadAnswer (left left' : Option (List ℕ)) (n cause : ℕ) : Typ
   pub read : Takes left left' input
   pub bad : (IsAtEnd left' × IsFirstBadAnswer input n cause) ⊎ ((more : List ℕ) → IsFirstBadAnswer (input ++ more) n cause)
 
--- a read failed behind good lines and the front of another
+-- a read failed after good lines and the prefix of another
 pub record StopsInAnswers (left left' : Option (List ℕ)) (faults faults' : ℕ) : Type 0 where
   pub input : List ℕ
   pub read : Takes left left' input
   pub failed : Rises faults faults'
-  pub front : IsServerFront input
+  pub prefix : IsServerPrefix input
 
 -- why the reading of a source gave no server script
 abbrev pub GivesNoServer : Option (List ℕ) → Option (List ℕ) → ℕ → ℕ → InputFault → Type 0

@@ -1,6 +1,6 @@
 // What has been read of a script: its whole lines, and the bytes of the line that is not whole yet.
 ghost use Rattle.std.specs.Prelude.{◌≡◌, ◌≢◌, ◌≤◌, ◌++◌, ◌∷◌, [], true, false, None, List, ℕ, IfOk, IfErr, IfSome, OnOk, All};
-ghost use Rattle.script_input.specs.Collecting.{HasRead, IsDecided, IsFinished, IsKept, IsKeptLine, IsRead, IsReady, IsReplayRead, IsTold, IsToldOpen, IsUnfinished, Leads};
+ghost use Rattle.script_input.specs.Collecting.{HasRead, IsDecided, IsFinished, IsKept, IsKeptLine, IsRead, IsReady, IsReplayRead, IsReported, IsReportedOpen, IsUnfinished, Leads};
 ghost use Rattle.script_lines.specs.Lines.{script_limit};
 
 use crate::fault::{InputFault, fault_at, fault_of};
@@ -20,14 +20,14 @@ pub struct Channel {
     value: Target,
 }
 
-/// The whole lines, and the front of the next one.
+/// The whole lines, and the prefix of the next one.
 #[derive(Drop)]
 pub struct Collected {
     form: Form,
     reader: ScriptReader,
     channel: Option<Channel>,
     events: Vec<Stamped>,
-    /// How many lines stood behind the entries of a report.
+    /// How many lines stood after the entries of a report.
     records: u64,
     line: Vec<u8>,
 }
@@ -57,11 +57,11 @@ impl Collected {
         ensures bad { IfErr result (IsDecided self.old piece.now) }
     {
         let mut rest = piece;
-        while let Some((text, behind)) = split_at_byte(rest, b'\n') {
+        while let Some((text, afterwards)) = split_at_byte(rest, b'\n') {
             self.take_line(text)?;
-            rest = behind;
+            rest = afterwards;
         }
-        self.take_front(rest)?;
+        self.take_prefix(rest)?;
         Ok(())
     }
 
@@ -88,8 +88,8 @@ impl Collected {
         Ok(())
     }
 
-    /// Takes bytes of a line that goes on behind them.
-    fn take_front(&mut self, text: &[u8]) -> Result<(), InputFault>
+    /// Takes bytes of a line that goes on after them.
+    fn take_prefix(&mut self, text: &[u8]) -> Result<(), InputFault>
         requires free { All (λ b. b ≢ 10) text.now }
         requires ready { IsReady self.old }
         ensures ok { OnOk result (Leads self.old self.new text.now) }
@@ -131,7 +131,7 @@ impl Collected {
     }
 }
 
-/// What the next line says of the script, or nothing where it stands behind the entries of a report.
+/// What the next line says of the script, or nothing where it stands after the entries of a report.
 fn read_line(
     form: Form,
     reader: &mut ScriptReader,
@@ -141,7 +141,7 @@ fn read_line(
     requires kind { reader.old.kind ≡ ScriptKind.Replay }
     requires few { records ≤ script_limit }
     ensures ok { IfOk result (λ read. IsRead form reader.old records text.now read reader.new) }
-    ensures bad { IfErr result (IsTold form reader.old records text.now true) }
+    ensures bad { IfErr result (IsReported form reader.old records text.now true) }
 {
     let number = reader.lines() + records + 1;
     if let Err(fault) = test_line(number, text, true) {
@@ -206,7 +206,7 @@ fn keep_line(
 /// Why a line is bad that no line feed ended.
 fn open_fault(reader: &ScriptReader, records: u64, text: &[u8]) -> InputFault
     requires { records ≤ script_limit }
-    ensures { IsToldOpen reader.now records text.now result }
+    ensures { IsReportedOpen reader.now records text.now result }
 {
     let number = reader.lines() + records + 1;
     match test_line(number, text, false) {

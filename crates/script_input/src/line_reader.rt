@@ -1,8 +1,8 @@
-// The lines of an input, read from a source one behind another.
+// The lines of an input, read from a source one after another.
 ghost use Rattle.std.specs.Prelude.{◌≡◌, ◌≢◌, ◌≤◌, ◌++◌, ◌∷◌, [], List, ℕ, IfErr, OnOk, All, false, length};
 ghost use Rattle.grpc_base.specs.Limits.{line_limit};
 ghost use Rattle.script_lines.specs.declared.reader.BadLine.{BadLine};
-ghost use Rattle.script_input.specs.Feeding.{IsDecidedBy, IsToldFor, IsTooLong, LeadsBy, ReadsLines, StopsBy};
+ghost use Rattle.script_input.specs.Feeding.{IsDecidedBy, IsReportedFor, IsTooLong, LeadsBy, ReadsLines, StopsBy};
 
 use crate::fault::{InputFault, fault_at, fault_of};
 use crate::feed::Feed;
@@ -33,11 +33,11 @@ impl Feed {
         ensures bad { IfErr result (IsDecidedBy T.has_taken T.refuses self.old lines.old piece.now) }
     {
         let mut rest = piece;
-        while let Some((text, behind)) = split_at_byte(rest, b'\n') {
+        while let Some((text, afterwards)) = split_at_byte(rest, b'\n') {
             self.take_line(lines, text)?;
-            rest = behind;
+            rest = afterwards;
         }
-        self.take_front(rest)?;
+        self.take_prefix(rest)?;
         Ok(())
     }
 
@@ -60,8 +60,8 @@ impl Feed {
         Ok(())
     }
 
-    /// Takes bytes of a line that goes on behind them.
-    fn take_front(&mut self, text: &[u8]) -> Result<(), InputFault>
+    /// Takes bytes of a line that goes on after them.
+    fn take_prefix(&mut self, text: &[u8]) -> Result<(), InputFault>
         ensures line { OnOk result (self.new.line.items ≡ self.old.line.items ++ text.now) }
         ensures count { OnOk result (self.new.count ≡ self.old.count) }
         ensures short { OnOk result (length self.new.line.items ≤ line_limit) }
@@ -76,7 +76,7 @@ impl Feed {
 
     /// Why the line is bad that no line feed ended.
     fn open_fault(&self) -> InputFault
-        ensures { IsToldFor self.now.count self.now.line.items false result }
+        ensures { IsReportedFor self.now.count self.now.line.items false result }
     {
         let number = self.count + 1;
         match test_line(number, self.line.as_slice(), false) {
@@ -88,7 +88,7 @@ impl Feed {
     /// The end of the input.
     fn finish(&self) -> Result<(), InputFault>
         ensures ok { OnOk result (self.now.line.items ≡ []) }
-        ensures bad { IfErr result (λ e. IsToldFor self.now.count self.now.line.items false e × (self.now.line.items ≢ [])) }
+        ensures bad { IfErr result (λ e. IsReportedFor self.now.count self.now.line.items false e × (self.now.line.items ≢ [])) }
     {
         if self.line.is_empty() {
             return Ok(());
@@ -98,7 +98,7 @@ impl Feed {
 }
 
 /// Reads lines to the input's end, and gives each to `lines`. It stops before the end where a line is bad or a read fails,
-/// whichever comes first; more than the bytes of one read may then have been taken behind that line.
+/// whichever comes first; more than the bytes of one read may then have been taken after that line.
 pub fn read_lines<S: Source, T: Lines>(
     alloc: Global,
     source: &mut S,

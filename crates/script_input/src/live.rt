@@ -49,7 +49,7 @@ pub fn no_lines(alloc: Global) -> LiveLines
 }
 
 /// Reads a live script to the input's end. It stops before it where a line is bad or a read fails, whichever comes
-/// first; more than the bytes of one read may then have been taken behind that line. In an input of no bytes the first line is bad.
+/// first; more than the bytes of one read may then have been taken after that line. In an input of no bytes the first line is bad.
 pub fn read_live<S: Source>(alloc: Global, source: &mut S) -> Result<LiveScript, InputFault>
     ensures ok { IfOk result (ReadsLive (S.left source.old) (S.left source.new)) }
     ensures bad { IfErr result (GivesNoLive (S.left source.old) (S.left source.new) (S.faults source.old) (S.faults source.new)) }

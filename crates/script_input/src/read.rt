@@ -10,7 +10,7 @@ use gate_io::{ReadAnswer, Source};
 use std::alloc::Global;
 
 /// Reads a replay script to the input's end. It stops before it where a line is bad or a read fails, whichever comes
-/// first; more than the bytes of one read may then have been taken behind that line.
+/// first; more than the bytes of one read may then have been taken after that line.
 pub fn read_replay<S: Source>(alloc: Global, source: &mut S) -> Result<Script, InputFault>
     ensures ok { IfOk result (λ s. ReadsScript Form.Script (S.left source.old) (S.left source.new) s.target s.value s.events.items) }
     ensures bad { IfErr result (GivesNone Form.Script (S.left source.old) (S.left source.new) (S.faults source.old) (S.faults source.new)) }
@@ -19,7 +19,7 @@ pub fn read_replay<S: Source>(alloc: Global, source: &mut S) -> Result<Script, I
     read_form(alloc, Form::Script, source)
 }
 
-/// Reads the script of a report, or a script, as `read_replay` does: of each line behind the first what stands before the
+/// Reads the script of a report, or a script, as `read_replay` does: of each line after the first what stands before the
 /// first ` = `, up to the lines of rows.
 pub fn read_report<S: Source>(alloc: Global, source: &mut S) -> Result<Script, InputFault>
     ensures ok { IfOk result (λ s. ReadsScript Form.Report (S.left source.old) (S.left source.new) s.target s.value s.events.items) }

@@ -4,7 +4,7 @@ ghost use Rattle.script_input.specs.Scripts.{IsRecord, before_sign, begins, is_r
 
 use crate::form::Form;
 
-/// Whether the line of a number stands behind the entries of a report: a row, the end, or a fault.
+/// Whether the line of a number stands after the entries of a report: a row, the end, or a fault.
 pub fn is_record_at(form: Form, number: u64, text: &[u8]) -> bool
     ensures { IsTrue result ↔ IsRecord form number text.now }
 {
@@ -14,7 +14,7 @@ pub fn is_record_at(form: Form, number: u64, text: &[u8]) -> bool
     }
 }
 
-/// Whether a line begins as those behind the entries of a report do.
+/// Whether a line begins as those after the entries of a report do.
 fn is_record(text: &[u8]) -> bool
     ensures { result ≡ is_record text.now }
 {

@@ -57,7 +57,7 @@ impl Lines for RelayLines {
 
 /// Reads a live script without calls to the input's end: a line that is named `call` is bad, since the script of a relay has none such. It
 /// stops before the end where a line is bad or a read fails, whichever comes first; more than the bytes of one read may then have been
-/// taken behind that line. In an input of no bytes the first line is bad.
+/// taken after that line. In an input of no bytes the first line is bad.
 pub fn read_relay<S: Source>(alloc: Global, source: &mut S) -> Result<LiveScript, InputFault>
     ensures ok { IfOk result (ReadsRelay (S.left source.old) (S.left source.new)) }
     ensures bad { IfErr result (GivesNoRelay (S.left source.old) (S.left source.new) (S.faults source.old) (S.faults source.new)) }

@@ -50,7 +50,7 @@ fn keep_answer(answers: &mut Items<AnswerLine>, read: ScriptLine) -> Result<(), 
 }
 
 /// Reads a server script to the input's end. It stops before it where a line is bad or a read fails, whichever comes
-/// first; more than the bytes of one read may then have been taken behind that line. An input of no bytes has no answers.
+/// first; more than the bytes of one read may then have been taken after that line. An input of no bytes has no answers.
 pub fn read_server<S: Source>(alloc: Global, source: &mut S) -> Result<ServerScript, InputFault>
     ensures ok { IfOk result (λ s. ReadsServer (S.left source.old) (S.left source.new) s.answers) }
     ensures valid { IfOk result IsServerScript }

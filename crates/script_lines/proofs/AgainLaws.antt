@@ -201,7 +201,7 @@ version_long : (version : List ℕ) → IsVersion version → length version ≡
 version_long version (inl e) = ap length e
 version_long version (inr e) = ap length e
 
--- behind the word and the version stand the fields of the target
+-- after the word and the version stand the fields of the target
 version_parted : (version target : List ℕ) → IsVersion version → fields (words (channel_words version target)) ≡ codes "channel" ∷ version ∷ fields target
 version_parted version target is =
     pieces-parted 32 (words (channel_words version target)) (codes "channel") (version ++ 32 ∷ target) refl (All-from_recursion IsNoSpace (codes "channel") (no_space (codes "channel") channel_tested))
@@ -219,17 +219,17 @@ target_alone : (version text target : List ℕ) → IsVersion version → fields
 target_alone version text target is e =
     one_tail version target (fields target) (sym (version_parted version target is) ∙ ap fields (sym (channel_is version text target e)) ∙ e)
 
-printable_behind : (w rest : List ℕ) → AllByRecursion IsPrintable (w ++ rest) → AllByRecursion IsPrintable rest
-printable_behind [] rest p = p
-printable_behind (b ∷ w) rest p = printable_behind w rest p.1
+printable_after : (w rest : List ℕ) → AllByRecursion IsPrintable (w ++ rest) → AllByRecursion IsPrintable rest
+printable_after [] rest p = p
+printable_after (b ∷ w) rest p = printable_after w rest p.1
 
 -- so it is printable and no longer in version 2
 channel_raw : (n : ℕ) (version text target : List ℕ) (closed : Bool) → IsVersion version → text ≡ words (channel_words version target) → IsRawLine n text closed → IsRawLine 1 (channel_text target) true
 channel_raw n version text target closed is e t =
     let whole : AllByRecursion IsPrintable (codes "channel" ++ 32 ∷ (version ++ 32 ∷ target)) =
     recursion_from_All IsPrintable (words (channel_words version target)) (subst (All IsPrintable) e t.2.0) in
-    let behind : AllByRecursion IsPrintable (version ++ 32 ∷ target) = (printable_behind (codes "channel") (32 ∷ (version ++ 32 ∷ target)) whole).1 in
-    let last : AllByRecursion IsPrintable (32 ∷ target) = printable_behind version (32 ∷ target) behind in
+    let afterwards : AllByRecursion IsPrintable (version ++ 32 ∷ target) = (printable_after (codes "channel") (32 ∷ (version ++ 32 ∷ target)) whole).1 in
+    let last : AllByRecursion IsPrintable (32 ∷ target) = printable_after version (32 ∷ target) afterwards in
     let made : AllByRecursion IsPrintable (codes "channel" ++ 32 ∷ (codes "2" ++ 32 ∷ target)) =
     printable_before (codes "channel") (32 ∷ (codes "2" ++ 32 ∷ target)) channel_tested ((omega arith, omega arith), printable_before (codes "2") (32 ∷ target) (tested (codes "2") refl) last) in
     let size : length (channel_text target) ≡ length text =

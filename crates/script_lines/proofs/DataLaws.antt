@@ -67,7 +67,7 @@ parts_kept ended texts [] h are within = tt
 parts_kept ended [] (p ∷ ps) h are within = absurd are
 parts_kept ended (text ∷ texts) (p ∷ ps) h are within = (part_kept ended text p h.0 are.0 within.0, parts_kept (ended || ends_stream p) texts ps h.1 are.1 within.1)
 
--- behind a status or a reset there is only GOAWAY
+-- after a status or a reset there is only GOAWAY
 goaway_alone : (text : List ℕ) (p : AnswerPart) → IsPart true text p → is_goaway p ≡ true
 goaway_alone text part.Goaway is = refl
 goaway_alone text part.Head is = absurd (true≢false is.1.2)

@@ -153,11 +153,11 @@ read_stamped [] s c t h = t
 read_stamped (m ∷ []) s c t h = t
 read_stamped (m ∷ (w ∷ [])) s c t h = no_event s.event t.2
 read_stamped (m ∷ (w ∷ (n ∷ others))) s c t (inl h) = good_field moment_field m c (s.moment, t.0) h
-read_stamped (m ∷ (w ∷ (n ∷ others))) s c t (inr h) = behind h.1
+read_stamped (m ∷ (w ∷ (n ∷ others))) s c t (inr h) = afterwards h.1
   where
-    behind : IsFieldFault word_field w c ⊎ (IsGood word_field w × IsEventFault (n ∷ others) c) → ⊥
-    behind (inl f) = good_field word_field w c (s.word, t.1) f
-    behind (inr f) = read_event (n ∷ others) s.event c t.2 f.1
+    afterwards : IsFieldFault word_field w c ⊎ (IsGood word_field w × IsEventFault (n ∷ others) c) → ⊥
+    afterwards (inl f) = good_field word_field w c (s.word, t.1) f
+    afterwards (inr f) = read_event (n ∷ others) s.event c t.2 f.1
 
 pub one_target : (v w x y : List ℕ) → channel_words v x ≡ channel_words w y → x ≡ y
 one_target v w x y e = (cc)

@@ -1,4 +1,4 @@
--- Fields of a text, and first faults behind what passed.
+-- Fields of a text, and first faults after what passed.
 use Rattle.std.proofs.Common.{◌≡◌, ℕ, List, [], ◌∷◌, length, refl, ap, sym, subst, inl, inr, arith, ◌∙◌, Result, Ok, Err, IfErr, IsErrAnd}
 use Rattle.script_fields.specs.Spelling.{fields}
 use Rattle.script_fields.proofs.PartLaws.{pieces-some}
@@ -7,7 +7,7 @@ use Rattle.script_lines.specs.declared.cause.LineFault.TheVariants as fault
 use Rattle.script_lines.specs.Causes.{bad_count}
 use Rattle.script_lines.specs.Events.{IsEventFault}
 use Rattle.script_lines.specs.Fields.{AreArgumentsFault, FieldKind, IsFieldFault, IsGood, moment_field, word_field}
-use Rattle.script_lines.specs.Lines.{IsStampedFault, IsToldBy}
+use Rattle.script_lines.specs.Lines.{IsStampedFault, IsReportedBy}
 
 -- a text has a field, be it empty
 pub some_field : (text : List ℕ) → (first : List ℕ) × (others : List (List ℕ)) × (fields text ≡ first ∷ others)
@@ -19,41 +19,41 @@ not_one first text texts is one =
     let long : length texts ≡ length (first ∷ some.0 ∷ some.1) = ap length is ∙ ap (λ t. length (first ∷ t)) some.2 in
     omega (arith, long, one)
 
-pub none_left : (text : List ℕ) (e : LineFault) → e ≡ fault.Bad bad_count → IsToldBy (AreArgumentsFault [] (fields text)) e
+pub none_left : (text : List ℕ) (e : LineFault) → e ≡ fault.Bad bad_count → IsReportedBy (AreArgumentsFault [] (fields text)) e
 none_left text e is =
     let some : (a : List ℕ) × (others : List (List ℕ)) × (fields text ≡ a ∷ others) = some_field text in
     let long : length (fields text) ≡ length (some.0 ∷ some.1) = ap length some.2 in
     rw is (inl ((λ none. omega (arith, long, none)), refl))
 
 -- what a `?` hands on
-pub told_exit : {X : Type 0} (r : Result X LineFault) (causes : ℕ → Type 0) (e : LineFault) → IsErrAnd r (λ y. y ≡ e) → IsToldBy causes e → IfErr r (IsToldBy causes)
-told_exit (Ok x) causes e h told = tt
-told_exit (Err y) causes e h told = subst (IsToldBy causes) (sym h) told
+pub reported_exit : {X : Type 0} (r : Result X LineFault) (causes : ℕ → Type 0) (e : LineFault) → IsErrAnd r (λ y. y ≡ e) → IsReportedBy causes e → IfErr r (IsReportedBy causes)
+reported_exit (Ok x) causes e h reported = tt
+reported_exit (Err y) causes e h reported = subst (IsReportedBy causes) (sym h) reported
 
-pub told_by : (P Q : ℕ → Type 0) (e : LineFault) → ((c : ℕ) → P c → Q c) → IsToldBy P e → IsToldBy Q e
-told_by P Q (fault.Bad cause) f told = f cause told
-told_by P Q fault.NoMemory f told = tt
+pub reported_by : (P Q : ℕ → Type 0) (e : LineFault) → ((c : ℕ) → P c → Q c) → IsReportedBy P e → IsReportedBy Q e
+reported_by P Q (fault.Bad cause) f reported = f cause reported
+reported_by P Q fault.NoMemory f reported = tt
 
-pub second_fault : (a b : FieldKind) (x y : List ℕ) (texts : List (List ℕ)) (e : LineFault) → texts ≡ x ∷ y ∷ [] → IsGood a x → IsToldBy (IsFieldFault b y) e → IsToldBy (AreArgumentsFault (a ∷ b ∷ []) texts) e
-second_fault a b x y texts e is good told =
-    rw is (told_by (IsFieldFault b y) (AreArgumentsFault (a ∷ b ∷ []) (x ∷ y ∷ [])) e (λ c h. inr (refl, inr (good, inl h))) told)
+pub second_fault : (a b : FieldKind) (x y : List ℕ) (texts : List (List ℕ)) (e : LineFault) → texts ≡ x ∷ y ∷ [] → IsGood a x → IsReportedBy (IsFieldFault b y) e → IsReportedBy (AreArgumentsFault (a ∷ b ∷ []) texts) e
+second_fault a b x y texts e is good reported =
+    rw is (reported_by (IsFieldFault b y) (AreArgumentsFault (a ∷ b ∷ []) (x ∷ y ∷ [])) e (λ c h. inr (refl, inr (good, inl h))) reported)
 
--- the first fault of a line behind the first, where it has a moment, a word and more
-pub moment_fault : (moment word text : List ℕ) (texts : List (List ℕ)) (e : LineFault) → texts ≡ moment ∷ word ∷ fields text → IsToldBy (IsFieldFault moment_field moment) e → IsToldBy (IsStampedFault texts) e
-moment_fault moment word text texts e is told =
+-- the first fault of a line after the first, where it has a moment, a word and more
+pub moment_fault : (moment word text : List ℕ) (texts : List (List ℕ)) (e : LineFault) → texts ≡ moment ∷ word ∷ fields text → IsReportedBy (IsFieldFault moment_field moment) e → IsReportedBy (IsStampedFault texts) e
+moment_fault moment word text texts e is reported =
     let some : (a : List ℕ) × (others : List (List ℕ)) × (fields text ≡ a ∷ others) = some_field text in
     let all : texts ≡ moment ∷ word ∷ some.0 ∷ some.1 = is ∙ ap (λ t. moment ∷ word ∷ t) some.2 in
-    rw all (told_by (IsFieldFault moment_field moment) (IsStampedFault (moment ∷ word ∷ some.0 ∷ some.1)) e (λ c h. inl h) told)
+    rw all (reported_by (IsFieldFault moment_field moment) (IsStampedFault (moment ∷ word ∷ some.0 ∷ some.1)) e (λ c h. inl h) reported)
 
-pub word_fault : (moment word text : List ℕ) (texts : List (List ℕ)) (e : LineFault) → texts ≡ moment ∷ word ∷ fields text → IsGood moment_field moment → IsToldBy (IsFieldFault word_field word) e → IsToldBy (IsStampedFault texts) e
-word_fault moment word text texts e is good told =
+pub word_fault : (moment word text : List ℕ) (texts : List (List ℕ)) (e : LineFault) → texts ≡ moment ∷ word ∷ fields text → IsGood moment_field moment → IsReportedBy (IsFieldFault word_field word) e → IsReportedBy (IsStampedFault texts) e
+word_fault moment word text texts e is good reported =
     let some : (a : List ℕ) × (others : List (List ℕ)) × (fields text ≡ a ∷ others) = some_field text in
     let all : texts ≡ moment ∷ word ∷ some.0 ∷ some.1 = is ∙ ap (λ t. moment ∷ word ∷ t) some.2 in
-    rw all (told_by (IsFieldFault word_field word) (IsStampedFault (moment ∷ word ∷ some.0 ∷ some.1)) e (λ c h. inr (good, inl h)) told)
+    rw all (reported_by (IsFieldFault word_field word) (IsStampedFault (moment ∷ word ∷ some.0 ∷ some.1)) e (λ c h. inr (good, inl h)) reported)
 
-pub event_fault : (moment word text : List ℕ) (texts : List (List ℕ)) (e : LineFault) → texts ≡ moment ∷ word ∷ fields text → IsGood moment_field moment → IsGood word_field word → IsToldBy (IsEventFault (fields text)) e → IsToldBy (IsStampedFault texts) e
-event_fault moment word text texts e is good word_good told =
+pub event_fault : (moment word text : List ℕ) (texts : List (List ℕ)) (e : LineFault) → texts ≡ moment ∷ word ∷ fields text → IsGood moment_field moment → IsGood word_field word → IsReportedBy (IsEventFault (fields text)) e → IsReportedBy (IsStampedFault texts) e
+event_fault moment word text texts e is good word_good reported =
     let some : (a : List ℕ) × (others : List (List ℕ)) × (fields text ≡ a ∷ others) = some_field text in
     let all : texts ≡ moment ∷ word ∷ some.0 ∷ some.1 = is ∙ ap (λ t. moment ∷ word ∷ t) some.2 in
-    let there : IsToldBy (IsEventFault (some.0 ∷ some.1)) e = subst (λ t. IsToldBy (IsEventFault t) e) some.2 told in
-    rw all (told_by (IsEventFault (some.0 ∷ some.1)) (IsStampedFault (moment ∷ word ∷ some.0 ∷ some.1)) e (λ c h. inr (good, inr (word_good, h))) there)
+    let there : IsReportedBy (IsEventFault (some.0 ∷ some.1)) e = subst (λ t. IsReportedBy (IsEventFault t) e) some.2 reported in
+    rw all (reported_by (IsEventFault (some.0 ∷ some.1)) (IsStampedFault (moment ∷ word ∷ some.0 ∷ some.1)) e (λ c h. inr (good, inr (word_good, h))) there)

@@ -144,28 +144,28 @@ request_one r s path wait timeout meta p q =
 list_one : (xs ys : List Address) (text : List ℕ) → AreAddresses xs text → AreAddresses ys text → xs ≡ ys
 list_one xs ys text p q = p.3 ∙ ap listed (addresses_one text p.0 q.0 p.1 q.1) ∙ sym q.3
 
-one_behind : (name a b : List ℕ) → name ∷ a ∷ [] ≡ name ∷ b ∷ [] → a ≡ b
-one_behind name a b e = (cc)
+one_after : (name a b : List ℕ) → name ∷ a ∷ [] ≡ name ∷ b ∷ [] → a ≡ b
+one_after name a b e = (cc)
 
-two_behind : (name a b c d : List ℕ) → name ∷ a ∷ c ∷ [] ≡ name ∷ b ∷ d ∷ [] → (a ≡ b) × (c ≡ d)
-two_behind name a b c d e = ((cc), (cc))
+two_after : (name a b c d : List ℕ) → name ∷ a ∷ c ∷ [] ≡ name ∷ b ∷ d ∷ [] → (a ≡ b) × (c ≡ d)
+two_after name a b c d e = ((cc), (cc))
 
-four_behind : (name a b c d p q r s : List ℕ) → name ∷ a ∷ b ∷ c ∷ d ∷ [] ≡ name ∷ p ∷ q ∷ r ∷ s ∷ [] → (a ≡ p) × (b ≡ q) × (c ≡ r) × (d ≡ s)
-four_behind name a b c d p q r s e = ((cc), (cc), (cc), (cc))
+four_after : (name a b c d p q r s : List ℕ) → name ∷ a ∷ b ∷ c ∷ d ∷ [] ≡ name ∷ p ∷ q ∷ r ∷ s ∷ [] → (a ≡ p) × (b ≡ q) × (c ≡ r) × (d ≡ s)
+four_after name a b c d p q r s e = ((cc), (cc), (cc), (cc))
 
--- a number behind a name
-number_behind : (head : List ℕ) (texts : List (List ℕ)) (n m : ℕ) → (a : List ℕ) × (texts ≡ head ∷ a ∷ []) × IsNumber number_limit n a → (a : List ℕ) × (texts ≡ head ∷ a ∷ []) × IsNumber number_limit m a → n ≡ m
-number_behind head texts n m t u = call_one n m t.0 t.2 (subst (IsNumber number_limit m) (sym (one_behind head t.0 u.0 (sym t.1 ∙ u.1))) u.2)
+-- a number after a name
+number_after : (head : List ℕ) (texts : List (List ℕ)) (n m : ℕ) → (a : List ℕ) × (texts ≡ head ∷ a ∷ []) × IsNumber number_limit n a → (a : List ℕ) × (texts ≡ head ∷ a ∷ []) × IsNumber number_limit m a → n ≡ m
+number_after head texts n m t u = call_one n m t.0 t.2 (subst (IsNumber number_limit m) (sym (one_after head t.0 u.0 (sym t.1 ∙ u.1))) u.2)
 
--- a number and another value behind a name
-pair_behind : {X : Type 0} (head : List ℕ) (texts : List (List ℕ)) (IsValue : X → List ℕ → Type 0) (one : (x y : X) (text : List ℕ) → IsValue x text → IsValue y text → x ≡ y) (n m : ℕ) (x y : X) → (a b : List ℕ) × (texts ≡ head ∷ a ∷ b ∷ []) × IsNumber number_limit n a × IsValue x b → (a b : List ℕ) × (texts ≡ head ∷ a ∷ b ∷ []) × IsNumber number_limit m a × IsValue y b → (n ≡ m) × (x ≡ y)
-pair_behind head texts IsValue one n m x y t u =
-    let same : (t.0 ≡ u.0) × (t.1 ≡ u.1) = two_behind head t.0 u.0 t.1 u.1 (sym t.2 ∙ u.2) in
+-- a number and another value after a name
+pair_after : {X : Type 0} (head : List ℕ) (texts : List (List ℕ)) (IsValue : X → List ℕ → Type 0) (one : (x y : X) (text : List ℕ) → IsValue x text → IsValue y text → x ≡ y) (n m : ℕ) (x y : X) → (a b : List ℕ) × (texts ≡ head ∷ a ∷ b ∷ []) × IsNumber number_limit n a × IsValue x b → (a b : List ℕ) × (texts ≡ head ∷ a ∷ b ∷ []) × IsNumber number_limit m a × IsValue y b → (n ≡ m) × (x ≡ y)
+pair_after head texts IsValue one n m x y t u =
+    let same : (t.0 ≡ u.0) × (t.1 ≡ u.1) = two_after head t.0 u.0 t.1 u.1 (sym t.2 ∙ u.2) in
     (call_one n m t.0 t.3 (subst (IsNumber number_limit m) (sym same.0) u.3), one x y t.1 t.4 (subst (IsValue y) (sym same.1) u.4))
 
-addresses_behind : (head : List ℕ) (texts : List (List ℕ)) (xs ys : List Address) (c d : Option (List ℕ)) → (a b : List ℕ) × (texts ≡ head ∷ a ∷ b ∷ []) × AreAddresses xs a × IsConfigOrDash c b → (a b : List ℕ) × (texts ≡ head ∷ a ∷ b ∷ []) × AreAddresses ys a × IsConfigOrDash d b → (xs ≡ ys) × (c ≡ d)
-addresses_behind head texts xs ys c d t u =
-    let same : (t.0 ≡ u.0) × (t.1 ≡ u.1) = two_behind head t.0 u.0 t.1 u.1 (sym t.2 ∙ u.2) in
+addresses_after : (head : List ℕ) (texts : List (List ℕ)) (xs ys : List Address) (c d : Option (List ℕ)) → (a b : List ℕ) × (texts ≡ head ∷ a ∷ b ∷ []) × AreAddresses xs a × IsConfigOrDash c b → (a b : List ℕ) × (texts ≡ head ∷ a ∷ b ∷ []) × AreAddresses ys a × IsConfigOrDash d b → (xs ≡ ys) × (c ≡ d)
+addresses_after head texts xs ys c d t u =
+    let same : (t.0 ≡ u.0) × (t.1 ≡ u.1) = two_after head t.0 u.0 t.1 u.1 (sym t.2 ∙ u.2) in
     let there : IsConfigOrDash d t.1 = subst (IsConfigOrDash d) (sym same.1) u.4 in
     (list_one xs ys t.0 t.3 (subst (AreAddresses ys) (sym same.0) u.3), config_one t.1 c d t.4.0 there.0)
 
@@ -173,7 +173,7 @@ addresses_behind head texts xs ys c d t u =
 
 made_one : (k : EventName) (v w : Values) (texts : List (List ℕ)) → IsEventText texts (made k v) → IsEventText texts (made k w) → made k v ≡ made k w
 made_one name.Begin v w texts t u =
-    let same : (t.0 ≡ u.0) × (t.1 ≡ u.1) × (t.2 ≡ u.2) × (t.3 ≡ u.3) = four_behind (codes "begin") t.0 t.1 t.2 t.3 u.0 u.1 u.2 u.3 (sym t.4 ∙ u.4) in
+    let same : (t.0 ≡ u.0) × (t.1 ≡ u.1) × (t.2 ≡ u.2) × (t.3 ≡ u.3) = four_after (codes "begin") t.0 t.1 t.2 t.3 u.0 u.1 u.2 u.3 (sym t.4 ∙ u.4) in
     let there : IsRequestText w.request t.0 t.1 t.2 t.3 =
     subst (λ x. IsRequestText w.request x t.1 t.2 t.3) (sym same.0)
     (subst (λ x. IsRequestText w.request u.0 x t.2 t.3) (sym same.1)
@@ -181,27 +181,27 @@ made_one name.Begin v w texts t u =
     (subst (λ x. IsRequestText w.request u.0 u.1 u.2 x) (sym same.3) u.5))) in
     ap event.Begin (request_one v.request w.request t.0 t.1 t.2 t.3 t.5 there)
 made_one name.Send v w texts t u =
-    let same : (v.number ≡ w.number) × (v.bytes ≡ w.bytes) = pair_behind (codes "send") texts IsMessage (λ x y text p q. message_one text x y p.0 q.0) v.number w.number v.bytes w.bytes t u in
+    let same : (v.number ≡ w.number) × (v.bytes ≡ w.bytes) = pair_after (codes "send") texts IsMessage (λ x y text p q. message_one text x y p.0 q.0) v.number w.number v.bytes w.bytes t u in
     λ i. event.Send (same.0 i) (same.1 i)
-made_one name.Finish v w texts t u = ap event.Finish (number_behind (codes "finish") texts v.number w.number t u)
-made_one name.Take v w texts t u = ap event.Take (number_behind (codes "take") texts v.number w.number t u)
-made_one name.Cancel v w texts t u = ap event.Cancel (number_behind (codes "cancel") texts v.number w.number t u)
+made_one name.Finish v w texts t u = ap event.Finish (number_after (codes "finish") texts v.number w.number t u)
+made_one name.Take v w texts t u = ap event.Take (number_after (codes "take") texts v.number w.number t u)
+made_one name.Cancel v w texts t u = ap event.Cancel (number_after (codes "cancel") texts v.number w.number t u)
 made_one name.Resolved v w texts t u =
-    let same : (v.addresses ≡ w.addresses) × (v.config ≡ w.config) = addresses_behind (codes "resolved") texts v.addresses w.addresses v.config w.config t u in
+    let same : (v.addresses ≡ w.addresses) × (v.config ≡ w.config) = addresses_after (codes "resolved") texts v.addresses w.addresses v.config w.config t u in
     λ i. event.Resolved (same.0 i) (same.1 i)
 made_one name.Unresolved v w texts t u = refl
 made_one name.Dial v w texts t u = refl
-made_one name.Up v w texts t u = ap event.LinkUp (number_behind (codes "up") texts v.number w.number t u)
-made_one name.NoDial v w texts t u = ap event.DialFailed (number_behind (codes "nodial") texts v.number w.number t u)
+made_one name.Up v w texts t u = ap event.LinkUp (number_after (codes "up") texts v.number w.number t u)
+made_one name.NoDial v w texts t u = ap event.DialFailed (number_after (codes "nodial") texts v.number w.number t u)
 made_one name.Arrived v w texts t u =
-    let same : (v.number ≡ w.number) × (v.bytes ≡ w.bytes) = pair_behind (codes "arrived") texts IsPiece (λ x y text p q. piece_one text x y p q) v.number w.number v.bytes w.bytes t u in
+    let same : (v.number ≡ w.number) × (v.bytes ≡ w.bytes) = pair_after (codes "arrived") texts IsPiece (λ x y text p q. piece_one text x y p q) v.number w.number v.bytes w.bytes t u in
     λ i. event.Arrived (same.0 i) (same.1 i)
-made_one name.Lost v w texts t u = ap event.LinkLost (number_behind (codes "lost") texts v.number w.number t u)
+made_one name.Lost v w texts t u = ap event.LinkLost (number_after (codes "lost") texts v.number w.number t u)
 made_one name.Drain v w texts t u =
-    let same : (v.number ≡ w.number) × (v.second ≡ w.second) = pair_behind (codes "drain") texts (IsNumber number_limit) call_one v.number w.number v.second w.second t u in
+    let same : (v.number ≡ w.number) × (v.second ≡ w.second) = pair_after (codes "drain") texts (IsNumber number_limit) call_one v.number w.number v.second w.second t u in
     λ i. event.Drain (same.0 i) (same.1 i)
 made_one name.Ping v w texts t u =
-    let same : (v.number ≡ w.number) × (v.second ≡ w.second) = pair_behind (codes "ping") texts IsPing (λ x y text p q. word_one text x y p q) v.number w.number v.second w.second t u in
+    let same : (v.number ≡ w.number) × (v.second ≡ w.second) = pair_after (codes "ping") texts IsPing (λ x y text p q. word_one text x y p q) v.number w.number v.second w.second t u in
     λ i. event.Ping (same.0 i) (same.1 i)
 made_one name.Tick v w texts t u = refl
 made_one name.Shutdown v w texts t u = refl

@@ -162,7 +162,7 @@ live_text_one n (name ∷ others) read (line.Channel target x) t u = absurd u
 live_text_one n (name ∷ others) read (line.Event s) t u = absurd u
 live_text_one n (name ∷ others) read (line.Answer answer) t u = absurd u
 
--- a channel line, or a line behind the first
+-- a channel line, or a line after the first
 live_parts : (n : ℕ) (texts : List (List ℕ)) (read : ScriptLine) → IsLiveLine n texts read → ((target : List ℕ) × (x : Target) × (read ≡ line.Channel target x) × (n ≡ 1) × IsChannelText texts target x) ⊎ ((n ≢ 1) × IsLiveText n texts read)
 live_parts n texts (line.Channel target x) t = inl (target, x, refl, t.0, t.1)
 live_parts n texts (line.Event s) t = inr t

@@ -27,14 +27,14 @@ letter_of kind.Reset = 114
 letter_of kind.Goaway = 103
 letter_of kind.Hold = 119
 
--- what may stand behind the letter: nothing, 1 to 1,024 bytes of a pushback, or what spells a value
+-- what may stand after the letter: nothing, 1 to 1,024 bytes of a pushback, or what spells a value
 abbrev pub HasShape : PartKind → List ℕ → Type 0
 HasShape kind.Head rest = rest ≡ []
 HasShape kind.Goaway rest = rest ≡ []
 HasShape kind.Pushback rest = (1 ≤ length rest) × (length rest ≤ pushback_limit)
 HasShape k rest = Unit {0}
 
--- behind a status or a reset nothing but a GOAWAY may stand
+-- after a status or a reset nothing but a GOAWAY may stand
 abbrev pub MayStand : Bool → PartKind → Type 0
 MayStand ended kind.Goaway = Unit {0}
 MayStand ended k = ended ≡ false
@@ -53,7 +53,7 @@ part_kind (part.Reset code) = kind.Reset
 part_kind part.Goaway = kind.Goaway
 part_kind (part.Hold count) = kind.Hold
 
--- the value of a part, a message as its digits of hex, none for the empty one; and the cause where what stands behind the letter spells none
+-- the value of a part, a message as its digits of hex, none for the empty one; and the cause where what stands after the letter spells none
 abbrev pub IsValue : List ℕ → AnswerPart → Type 0
 IsValue rest part.Head = Unit {0}
 IsValue rest (part.Message message) = IsBytes message × (rest ≡ hex_digits message)
@@ -73,7 +73,7 @@ IsValueFault kind.Reset rest c = IsNoNumber rest × (c ≡ bad_number)
 IsValueFault kind.Hold rest c = IsNoNumber rest × (c ≡ bad_number)
 IsValueFault k rest c = ⊥
 
--- a part, behind a status or a reset or not, and its first fault: its form, and after it its value
+-- a part, after a status or a reset or not, and its first fault: its form, and after it its value
 abbrev pub IsPart : Bool → List ℕ → AnswerPart → Type 0
 IsPart ended text p = (rest : List ℕ) × IsPartOf ended (part_kind p) text rest × IsValue rest p
 

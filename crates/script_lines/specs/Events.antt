@@ -26,7 +26,7 @@ name_text name.Ping = codes "ping"
 name_text name.Tick = codes "tick"
 name_text name.Shutdown = codes "shutdown"
 
--- the fields behind the name
+-- the fields after the name
 abbrev pub event_fields : EventName → List FieldKind
 event_fields name.Begin = request_fields
 event_fields name.Send = number_field ∷ message_field ∷ []
@@ -71,7 +71,7 @@ IsEventText texts (event.Ping n w) =
 IsEventText texts event.Tick = texts ≡ codes "tick" ∷ []
 IsEventText texts event.Shutdown = texts ≡ codes "shutdown" ∷ []
 
--- the first fault of such fields: the name, and after it what stands behind it
+-- the first fault of such fields: the name, and after it what stands after it
 abbrev pub IsEventFault : List (List ℕ) → ℕ → Type 0
 IsEventFault (first ∷ others) c =
     (((name : EventName) → first ≢ name_text name) × (c ≡ unknown_kind))

@@ -150,7 +150,7 @@ abbrev pub AreFieldsFault : List FieldKind → List (List ℕ) → ℕ → Type 
 AreFieldsFault (kind ∷ kinds) (text ∷ texts) c = IsFieldFault kind text c ⊎ (IsGood kind text × AreFieldsFault kinds texts c)
 AreFieldsFault kinds texts c = ⊥
 
--- the first fault of what stands behind a name: the number of fields, and after it the fields
+-- the first fault of what stands after a name: the number of fields, and after it the fields
 abbrev pub AreArgumentsFault : List FieldKind → List (List ℕ) → ℕ → Type 0
 AreArgumentsFault kinds texts c = Before (length texts ≡ length kinds) bad_count c (AreFieldsFault kinds texts c)
 

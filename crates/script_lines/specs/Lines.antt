@@ -15,16 +15,16 @@ use Rattle.script_lines.specs.Causes.{Before, bad_address, bad_count, no_channel
 use Rattle.script_lines.specs.Events.{IsEventFault, IsEventText}
 use Rattle.script_lines.specs.Fields.{AreArgumentsFault, AreFieldsFault, AreMessages, FieldKind, IsConfig, IsFieldFault, IsGood, IsNumber, IsRequestText, IsWorker, config_field, message_field, moment_field, request_fields, word_field, word_limit, worker_field}
 
--- what stands behind the first field of a text, as fields
-abbrev pub fields_behind : Option (List ℕ) → List (List ℕ)
-fields_behind rest = pieces_of_rest 32 rest
+-- what stands after the first field of a text, as fields
+abbrev pub fields_after : Option (List ℕ) → List (List ℕ)
+fields_after rest = pieces_of_rest 32 rest
 
 -- a fault that names such a cause, or out of memory
-abbrev pub IsToldBy : (ℕ → Type 0) → LineFault → Type 0
-IsToldBy causes (fault.Bad cause) = causes cause
-IsToldBy causes fault.NoMemory = Unit {0}
+abbrev pub IsReportedBy : (ℕ → Type 0) → LineFault → Type 0
+IsReportedBy causes (fault.Bad cause) = causes cause
+IsReportedBy causes fault.NoMemory = Unit {0}
 
--- a line of a replay script behind the first: moment, random word and event
+-- a line of a replay script after the first: moment, random word and event
 abbrev pub IsStampedText : List (List ℕ) → Stamped → Type 0
 IsStampedText (moment ∷ word ∷ others) s = IsNumber moment_limit s.moment moment × IsNumber word_limit s.word word × IsEventText others s.event
 IsStampedText texts s = ⊥
@@ -93,7 +93,7 @@ IsCallText texts n line = ⊥
 abbrev pub IsCallFault : List (List ℕ) → ℕ → Type 0
 IsCallFault texts c = Before ((5 ≤ length texts) × (length texts ≤ 69)) bad_count c (AreFieldsFault (call_fields texts) texts c)
 
--- a line of a live script behind the first: a service config in the second line, or a call
+-- a line of a live script after the first: a service config in the second line, or a call
 abbrev pub IsLiveText : ℕ → List (List ℕ) → ScriptLine → Type 0
 IsLiveText n (name ∷ others) (line.Config config) =
     (name ≡ codes "config") × (n ≡ 2) × (text : List ℕ) × (others ≡ text ∷ []) × IsConfig config text

@@ -56,7 +56,7 @@ abbrev pub IsBadLine : ReaderSeen → List ℕ → Bool → BadLine → Type 0
 IsBadLine r text closed (bad.At number cause) = (number ≡ r.lines + 1) × IsLineFault r text closed cause
 IsBadLine r text closed bad.NoMemory = Unit {0}
 
--- where a line and its cause are told, no line is spelled so
+-- where a line and its cause are reported, no line is spelled so
 abbrev pub IsNoLine : ReaderSeen → List ℕ → Bool → BadLine → Type 0
 IsNoLine r text closed (bad.At number cause) = (read : ScriptLine) → IsLine r text closed read → ⊥
 IsNoLine r text closed bad.NoMemory = Unit {0}
@@ -66,8 +66,8 @@ abbrev pub answer_count : ScriptLine → List ℕ → ℕ
 answer_count (line.Answer answer) path = if pointwise nat_eq answer.path path then 1 else 0
 answer_count read path = 0
 
--- what a reader keeps behind a line
-pub record IsBehind (before : ReaderSeen) (read : ScriptLine) (after : ReaderSeen) : Type 0 where
+-- what a reader keeps after a line
+pub record IsStateAfter (before : ReaderSeen) (read : ScriptLine) (after : ReaderSeen) : Type 0 where
   pub kind : after.kind ≡ before.kind
   pub lines : after.lines ≡ before.lines + 1
   pub answered : (path : List ℕ) → count_of after.answered path ≡ count_of before.answered path + answer_count read path

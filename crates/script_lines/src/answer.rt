@@ -4,7 +4,7 @@ ghost use Rattle.script_fields.specs.Spelling.{fields};
 ghost use Rattle.script_lines.specs.Answers.{IsAnswerFault, IsAnswerText, count_of};
 ghost use Rattle.script_lines.specs.Causes.{bad_number};
 ghost use Rattle.script_lines.specs.Fields.{IsNumber, number_limit};
-ghost use Rattle.script_lines.specs.Lines.{IsToldBy};
+ghost use Rattle.script_lines.specs.Lines.{IsReportedBy};
 ghost use Rattle.script_lines.specs.Reader.{IsKindLine, answer_count};
 ghost use Rattle.script_lines.specs.declared.reader.ScriptKind.TheVariants as script;
 
@@ -17,10 +17,10 @@ use crate::split::{first_field, three_fields};
 use grpc_base::AnswerLine;
 use std::alloc::Global;
 
-/// The answer that a line gives, behind the answers that were counted.
+/// The answer that a line gives, after the answers that were counted.
 pub fn answer_of(alloc: Global, text: &[u8], counts: &Counts) -> Result<AnswerLine, LineFault>
     ensures ok { IfOk result (IsAnswerText counts.now (fields text.now)) }
-    ensures bad { IfErr result (IsToldBy (IsAnswerFault counts.now (fields text.now))) }
+    ensures bad { IfErr result (IsReportedBy (IsAnswerFault counts.now (fields text.now))) }
 {
     let (name, rest) = first_field(text);
     if name != b"answer".as_slice() {
@@ -31,7 +31,7 @@ pub fn answer_of(alloc: Global, text: &[u8], counts: &Counts) -> Result<AnswerLi
     };
     let before = counts.of(path);
     let path = path_field_of(alloc, path)?;
-    let n = number_behind(n, before)?;
+    let n = number_after(n, before)?;
     let parts = parts_of(alloc, parts)?;
     Ok(AnswerLine { path, n, parts })
 }
@@ -39,8 +39,8 @@ pub fn answer_of(alloc: Global, text: &[u8], counts: &Counts) -> Result<AnswerLi
 /// The answer that a line gives, which is counted with those before it.
 pub fn next_answer(alloc: Global, text: &[u8], counts: &mut Counts) -> Result<ScriptLine, LineFault>
     ensures ok { IfOk result (IsKindLine script.Server 0 counts.old (fields text.now)) }
-    ensures bad { IfErr result (IsToldBy (IsAnswerFault counts.old (fields text.now))) }
-    ensures behind { IfOk result (λ read. (path : List ℕ) → count_of counts.new path ≡ count_of counts.old path + answer_count read path) }
+    ensures bad { IfErr result (IsReportedBy (IsAnswerFault counts.old (fields text.now))) }
+    ensures afterwards { IfOk result (λ read. (path : List ℕ) → count_of counts.new path ≡ count_of counts.old path + answer_count read path) }
     ensures same { OnErr result ((path : List ℕ) → count_of counts.new path ≡ count_of counts.old path) }
 {
     let line = answer_of(alloc, text, counts)?;
@@ -49,10 +49,10 @@ pub fn next_answer(alloc: Global, text: &[u8], counts: &mut Counts) -> Result<Sc
     Ok(ScriptLine::Answer { line })
 }
 
-/// The number behind this one.
-fn number_behind(text: &[u8], before: u32) -> Result<u32, LineFault>
+/// The number after this one.
+fn number_after(text: &[u8], before: u32) -> Result<u32, LineFault>
     ensures ok { IfOk result (λ n. (n ≡ before + 1) × IsNumber number_limit n text.now) }
-    ensures bad { IfErr result (IsToldBy (λ c. (IsNumber number_limit (before + 1) text.now → ⊥) × (c ≡ bad_number))) }
+    ensures bad { IfErr result (IsReportedBy (λ c. (IsNumber number_limit (before + 1) text.now → ⊥) × (c ≡ bad_number))) }
 {
     let Some(number) = read_u32(text) else {
         return Err(bad(BAD_NUMBER));

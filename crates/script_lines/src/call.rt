@@ -2,7 +2,7 @@
 ghost use Rattle.std.specs.Prelude.{◌≡◌, ◌++◌, ℕ, List, map, IfOk, IfErr, OnOk};
 ghost use Rattle.std.specs.Option.{option_copied};
 ghost use Rattle.script_lines.specs.Fields.{AreFieldsFault, AreMessages, message_field};
-ghost use Rattle.script_lines.specs.Lines.{IsCallFault, IsCallText, IsToldBy, fields_behind};
+ghost use Rattle.script_lines.specs.Lines.{IsCallFault, IsCallText, IsReportedBy, fields_after};
 
 use crate::cause::{BAD_COUNT, LineFault, bad};
 use crate::field::{message_field_of, worker_of};
@@ -13,8 +13,8 @@ use std::alloc::Global;
 
 /// The worker and the call that these fields give.
 pub fn call_of(alloc: Global, rest: Option<&[u8]>) -> Result<(u32, CallLine), LineFault>
-    ensures ok { IfOk result (λ p. IsCallText (fields_behind (option_copied rest.entry)) p.0 p.1) }
-    ensures bad { IfErr result (IsToldBy (IsCallFault (fields_behind (option_copied rest.entry)))) }
+    ensures ok { IfOk result (λ p. IsCallText (fields_after (option_copied rest.entry)) p.0 p.1) }
+    ensures bad { IfErr result (IsReportedBy (IsCallFault (fields_after (option_copied rest.entry)))) }
 {
     let Some((worker, path, wait, timeout, meta, texts)) = five_fields(rest) else {
         return Err(bad(BAD_COUNT));
@@ -35,8 +35,8 @@ fn append_messages(
     rest: Option<&[u8]>,
     messages: &mut Items<Octets>,
 ) -> Result<(), LineFault>
-    ensures ok { OnOk result ((more : List (List ℕ)) × (messages.new ≡ messages.old ++ more) × AreMessages more (fields_behind (option_copied rest.entry))) }
-    ensures bad { IfErr result (IsToldBy (AreFieldsFault (map (λ message. message_field) (fields_behind (option_copied rest.entry))) (fields_behind (option_copied rest.entry)))) }
+    ensures ok { OnOk result ((more : List (List ℕ)) × (messages.new ≡ messages.old ++ more) × AreMessages more (fields_after (option_copied rest.entry))) }
+    ensures bad { IfErr result (IsReportedBy (AreFieldsFault (map (λ message. message_field) (fields_after (option_copied rest.entry))) (fields_after (option_copied rest.entry)))) }
 {
     let Some((text, rest)) = next_field(rest) else {
         return Ok(());

@@ -4,7 +4,7 @@ ghost use Rattle.resolver_core.specs.AnyTargets.{any_target_of};
 ghost use Rattle.resolver_core.specs.declared.any_target.Target as target;
 ghost use Rattle.script_fields.specs.Spelling.{fields};
 ghost use Rattle.script_lines.specs.Causes.{bad_address};
-ghost use Rattle.script_lines.specs.Lines.{IsChannelFault, IsChannelText, IsToldBy, IsVersion, channel_words};
+ghost use Rattle.script_lines.specs.Lines.{IsChannelFault, IsChannelText, IsReportedBy, IsVersion, channel_words};
 
 use crate::cause::{BAD_ADDRESS, LineFault, NO_CHANNEL, bad};
 use crate::split::{first_field, two_fields};
@@ -15,7 +15,7 @@ use std::alloc::Global;
 /// The target of a channel line as it is written, and what it says.
 pub fn channel_of(alloc: Global, text: &[u8]) -> Result<(Text, Target), LineFault>
     ensures ok { IfOk result (λ p. IsChannelText (fields text.now) p.0 p.1) }
-    ensures bad { IfErr result (IsToldBy (IsChannelFault (fields text.now))) }
+    ensures bad { IfErr result (IsReportedBy (IsChannelFault (fields text.now))) }
 {
     let Some(target) = target_of(text) else {
         return Err(bad(NO_CHANNEL));
@@ -28,7 +28,7 @@ pub fn channel_of(alloc: Global, text: &[u8]) -> Result<(Text, Target), LineFaul
 /// What a target says.
 fn value_of(alloc: Global, text: &[u8]) -> Result<Target, LineFault>
     ensures ok { IfOk result (λ value. any_target_of text.now ≡ Ok value) }
-    ensures bad { IfErr result (IsToldBy (λ c. ((value : target.Target) → any_target_of text.now ≢ Ok value) × (c ≡ bad_address))) }
+    ensures bad { IfErr result (IsReportedBy (λ c. ((value : target.Target) → any_target_of text.now ≢ Ok value) × (c ≡ bad_address))) }
 {
     match read_any_target(alloc, text) {
         Ok(value) => Ok(value),

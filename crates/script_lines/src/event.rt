@@ -5,7 +5,7 @@ ghost use Rattle.script_fields.specs.Spelling.{fields};
 ghost use Rattle.script_lines.specs.declared.name.EventName.TheVariants as name;
 ghost use Rattle.script_lines.specs.Events.{IsEventFault, IsEventText, event_fields, name_text};
 ghost use Rattle.script_lines.specs.Fields.{AreArgumentsFault, IsNumber, number_field, number_limit};
-ghost use Rattle.script_lines.specs.Lines.{IsToldBy, fields_behind};
+ghost use Rattle.script_lines.specs.Lines.{IsReportedBy, fields_after};
 
 use crate::cause::{BAD_COUNT, LineFault, UNKNOWN_KIND, bad};
 use crate::field::{
@@ -20,7 +20,7 @@ use std::alloc::Global;
 /// The event that these fields give, of which the first is its name.
 pub fn event_of(alloc: Global, text: &[u8]) -> Result<Event, LineFault>
     ensures ok { IfOk result (IsEventText (fields text.now)) }
-    ensures bad { IfErr result (IsToldBy (IsEventFault (fields text.now))) }
+    ensures bad { IfErr result (IsReportedBy (IsEventFault (fields text.now))) }
 {
     let (first, rest) = first_field(text);
     let Some(name) = name_of(first) else {
@@ -31,8 +31,8 @@ pub fn event_of(alloc: Global, text: &[u8]) -> Result<Event, LineFault>
 
 /// The event of this name that these fields give.
 fn event_named(alloc: Global, name: EventName, rest: Option<&[u8]>) -> Result<Event, LineFault>
-    ensures ok { IfOk result (IsEventText (name_text name ∷ fields_behind (option_copied rest.entry))) }
-    ensures bad { IfErr result (IsToldBy (AreArgumentsFault (event_fields name) (fields_behind (option_copied rest.entry)))) }
+    ensures ok { IfOk result (IsEventText (name_text name ∷ fields_after (option_copied rest.entry))) }
+    ensures bad { IfErr result (IsReportedBy (AreArgumentsFault (event_fields name) (fields_after (option_copied rest.entry)))) }
 {
     match name {
         EventName::Begin => begin(alloc, rest),
@@ -47,8 +47,8 @@ fn event_named(alloc: Global, name: EventName, rest: Option<&[u8]>) -> Result<Ev
             call: number(rest)?,
         }),
         EventName::Resolved => resolved(alloc, rest),
-        EventName::Unresolved => bare(rest, Event::ResolveFailed),
-        EventName::Dial => bare(rest, Event::TakeDial),
+        EventName::Unresolved => without_fields(rest, Event::ResolveFailed),
+        EventName::Dial => without_fields(rest, Event::TakeDial),
         EventName::Up => Ok(Event::LinkUp { sub: number(rest)? }),
         EventName::NoDial => Ok(Event::DialFailed { sub: number(rest)? }),
         EventName::Arrived => arrived(alloc, rest),
@@ -57,15 +57,15 @@ fn event_named(alloc: Global, name: EventName, rest: Option<&[u8]>) -> Result<Ev
         }),
         EventName::Drain => drain(rest),
         EventName::Ping => ping(rest),
-        EventName::Tick => bare(rest, Event::Tick),
-        EventName::Shutdown => bare(rest, Event::Shutdown),
+        EventName::Tick => without_fields(rest, Event::Tick),
+        EventName::Shutdown => without_fields(rest, Event::Shutdown),
     }
 }
 
 /// An event without fields.
-fn bare(rest: Option<&[u8]>, event: Event) -> Result<Event, LineFault>
-    ensures ok { IfOk result (λ e. (e ≡ event) × (fields_behind (option_copied rest.entry) ≡ [])) }
-    ensures bad { IfErr result (IsToldBy (AreArgumentsFault [] (fields_behind (option_copied rest.entry)))) }
+fn without_fields(rest: Option<&[u8]>, event: Event) -> Result<Event, LineFault>
+    ensures ok { IfOk result (λ e. (e ≡ event) × (fields_after (option_copied rest.entry) ≡ [])) }
+    ensures bad { IfErr result (IsReportedBy (AreArgumentsFault [] (fields_after (option_copied rest.entry)))) }
 {
     match rest {
         None => Ok(event),
@@ -75,8 +75,8 @@ fn bare(rest: Option<&[u8]>, event: Event) -> Result<Event, LineFault>
 
 /// The one number of an event.
 fn number(rest: Option<&[u8]>) -> Result<u32, LineFault>
-    ensures ok { IfOk result (λ n. (text : List ℕ) × (fields_behind (option_copied rest.entry) ≡ text ∷ []) × IsNumber number_limit n text) }
-    ensures bad { IfErr result (IsToldBy (AreArgumentsFault (number_field ∷ []) (fields_behind (option_copied rest.entry)))) }
+    ensures ok { IfOk result (λ n. (text : List ℕ) × (fields_after (option_copied rest.entry) ≡ text ∷ []) × IsNumber number_limit n text) }
+    ensures bad { IfErr result (IsReportedBy (AreArgumentsFault (number_field ∷ []) (fields_after (option_copied rest.entry)))) }
 {
     let Some(text) = one_field(rest) else {
         return Err(bad(BAD_COUNT));
@@ -86,8 +86,8 @@ fn number(rest: Option<&[u8]>) -> Result<u32, LineFault>
 
 /// A request that the application begins.
 fn begin(alloc: Global, rest: Option<&[u8]>) -> Result<Event, LineFault>
-    ensures ok { IfOk result (IsEventText (codes "begin" ∷ fields_behind (option_copied rest.entry))) }
-    ensures bad { IfErr result (IsToldBy (AreArgumentsFault (event_fields name.Begin) (fields_behind (option_copied rest.entry)))) }
+    ensures ok { IfOk result (IsEventText (codes "begin" ∷ fields_after (option_copied rest.entry))) }
+    ensures bad { IfErr result (IsReportedBy (AreArgumentsFault (event_fields name.Begin) (fields_after (option_copied rest.entry)))) }
 {
     let Some((path, wait, timeout, meta)) = four_fields(rest) else {
         return Err(bad(BAD_COUNT));
@@ -98,8 +98,8 @@ fn begin(alloc: Global, rest: Option<&[u8]>) -> Result<Event, LineFault>
 
 /// A message of a call.
 fn send(alloc: Global, rest: Option<&[u8]>) -> Result<Event, LineFault>
-    ensures ok { IfOk result (IsEventText (codes "send" ∷ fields_behind (option_copied rest.entry))) }
-    ensures bad { IfErr result (IsToldBy (AreArgumentsFault (event_fields name.Send) (fields_behind (option_copied rest.entry)))) }
+    ensures ok { IfOk result (IsEventText (codes "send" ∷ fields_after (option_copied rest.entry))) }
+    ensures bad { IfErr result (IsReportedBy (AreArgumentsFault (event_fields name.Send) (fields_after (option_copied rest.entry)))) }
 {
     let Some((call, message)) = two_fields(rest) else {
         return Err(bad(BAD_COUNT));
@@ -111,8 +111,8 @@ fn send(alloc: Global, rest: Option<&[u8]>) -> Result<Event, LineFault>
 
 /// What the resolver found.
 fn resolved(alloc: Global, rest: Option<&[u8]>) -> Result<Event, LineFault>
-    ensures ok { IfOk result (IsEventText (codes "resolved" ∷ fields_behind (option_copied rest.entry))) }
-    ensures bad { IfErr result (IsToldBy (AreArgumentsFault (event_fields name.Resolved) (fields_behind (option_copied rest.entry)))) }
+    ensures ok { IfOk result (IsEventText (codes "resolved" ∷ fields_after (option_copied rest.entry))) }
+    ensures bad { IfErr result (IsReportedBy (AreArgumentsFault (event_fields name.Resolved) (fields_after (option_copied rest.entry)))) }
 {
     let Some((addresses, config)) = two_fields(rest) else {
         return Err(bad(BAD_COUNT));
@@ -125,8 +125,8 @@ fn resolved(alloc: Global, rest: Option<&[u8]>) -> Result<Event, LineFault>
 
 /// Bytes that came on a link.
 fn arrived(alloc: Global, rest: Option<&[u8]>) -> Result<Event, LineFault>
-    ensures ok { IfOk result (IsEventText (codes "arrived" ∷ fields_behind (option_copied rest.entry))) }
-    ensures bad { IfErr result (IsToldBy (AreArgumentsFault (event_fields name.Arrived) (fields_behind (option_copied rest.entry)))) }
+    ensures ok { IfOk result (IsEventText (codes "arrived" ∷ fields_after (option_copied rest.entry))) }
+    ensures bad { IfErr result (IsReportedBy (AreArgumentsFault (event_fields name.Arrived) (fields_after (option_copied rest.entry)))) }
 {
     let Some((link, piece)) = two_fields(rest) else {
         return Err(bad(BAD_COUNT));
@@ -138,8 +138,8 @@ fn arrived(alloc: Global, rest: Option<&[u8]>) -> Result<Event, LineFault>
 
 /// A link takes bytes, up to a room.
 fn drain(rest: Option<&[u8]>) -> Result<Event, LineFault>
-    ensures ok { IfOk result (IsEventText (codes "drain" ∷ fields_behind (option_copied rest.entry))) }
-    ensures bad { IfErr result (IsToldBy (AreArgumentsFault (event_fields name.Drain) (fields_behind (option_copied rest.entry)))) }
+    ensures ok { IfOk result (IsEventText (codes "drain" ∷ fields_after (option_copied rest.entry))) }
+    ensures bad { IfErr result (IsReportedBy (AreArgumentsFault (event_fields name.Drain) (fields_after (option_copied rest.entry)))) }
 {
     let Some((link, room)) = two_fields(rest) else {
         return Err(bad(BAD_COUNT));
@@ -151,8 +151,8 @@ fn drain(rest: Option<&[u8]>) -> Result<Event, LineFault>
 
 /// A link is asked whether it lives.
 fn ping(rest: Option<&[u8]>) -> Result<Event, LineFault>
-    ensures ok { IfOk result (IsEventText (codes "ping" ∷ fields_behind (option_copied rest.entry))) }
-    ensures bad { IfErr result (IsToldBy (AreArgumentsFault (event_fields name.Ping) (fields_behind (option_copied rest.entry)))) }
+    ensures ok { IfOk result (IsEventText (codes "ping" ∷ fields_after (option_copied rest.entry))) }
+    ensures bad { IfErr result (IsReportedBy (AreArgumentsFault (event_fields name.Ping) (fields_after (option_copied rest.entry)))) }
 {
     let Some((link, word)) = two_fields(rest) else {
         return Err(bad(BAD_COUNT));

@@ -4,7 +4,7 @@ ghost use Rattle.grpc_base.specs.Limits.{moment_limit};
 ghost use Rattle.grpc_base.specs.Requests.{IsPath};
 ghost use Rattle.script_lines.specs.Answers.{IsNoNumber};
 ghost use Rattle.script_lines.specs.Fields.{AreAddresses, IsConfig, IsConfigOrDash, IsFieldFault, IsMessage, IsMeta, IsNumber, IsPiece, IsPing, IsTimeout, IsWait, IsWorker, addresses_field, config_field, config_or_dash_field, line_fault, message_field, meta_field, moment_field, number_field, number_limit, path_field, piece_field, ping_field, timeout_field, wait_field, word_field, word_limit, worker_field};
-ghost use Rattle.script_lines.specs.Lines.{IsToldBy};
+ghost use Rattle.script_lines.specs.Lines.{IsReportedBy};
 
 use crate::cause::{
     BAD_ADDRESS, BAD_HEX, BAD_METADATA, BAD_NUMBER, BAD_PATH, LineFault, PAST_LIMIT, UNKNOWN_KIND,
@@ -21,7 +21,7 @@ use std::alloc::Global;
 /// A moment of a script.
 pub fn moment_of(text: &[u8]) -> Result<Moment, LineFault>
     ensures ok { IfOk result (λ m. IsNumber moment_limit m text.now) }
-    ensures bad { IfErr result (IsToldBy (IsFieldFault moment_field text.now)) }
+    ensures bad { IfErr result (IsReportedBy (IsFieldFault moment_field text.now)) }
 {
     let Some(nanos) = number_within(text, Moment::LIMIT) else {
         return Err(bad(BAD_NUMBER));
@@ -35,7 +35,7 @@ pub fn moment_of(text: &[u8]) -> Result<Moment, LineFault>
 /// A random word of a script.
 pub fn word_of(text: &[u8]) -> Result<u64, LineFault>
     ensures ok { IfOk result (λ n. IsNumber word_limit n text.now) }
-    ensures bad { IfErr result (IsToldBy (IsFieldFault word_field text.now)) }
+    ensures bad { IfErr result (IsReportedBy (IsFieldFault word_field text.now)) }
 {
     match number_within(text, u64::MAX) {
         Some(word) => Ok(word),
@@ -55,7 +55,7 @@ pub fn read_u32(text: &[u8]) -> Option<u32>
 /// The number of a call, a subchannel, a link or a room.
 pub fn number_of(text: &[u8]) -> Result<u32, LineFault>
     ensures ok { IfOk result (λ n. IsNumber number_limit n text.now) }
-    ensures bad { IfErr result (IsToldBy (IsFieldFault number_field text.now)) }
+    ensures bad { IfErr result (IsReportedBy (IsFieldFault number_field text.now)) }
 {
     match read_u32(text) {
         Some(number) => Ok(number),
@@ -66,7 +66,7 @@ pub fn number_of(text: &[u8]) -> Result<u32, LineFault>
 /// The number of a worker, from 1 to 16.
 pub fn worker_of(text: &[u8]) -> Result<u32, LineFault>
     ensures ok { IfOk result (λ n. IsWorker n text.now) }
-    ensures bad { IfErr result (IsToldBy (IsFieldFault worker_field text.now)) }
+    ensures bad { IfErr result (IsReportedBy (IsFieldFault worker_field text.now)) }
 {
     let Some(worker) = number_within(text, 16) else {
         return Err(bad(BAD_NUMBER));
@@ -80,7 +80,7 @@ pub fn worker_of(text: &[u8]) -> Result<u32, LineFault>
 /// The path of a request.
 pub fn path_field_of(alloc: Global, text: &[u8]) -> Result<Text, LineFault>
     ensures ok { IfOk result (λ path. IsPath text.now × (path ≡ text.now)) }
-    ensures bad { IfErr result (IsToldBy (IsFieldFault path_field text.now)) }
+    ensures bad { IfErr result (IsReportedBy (IsFieldFault path_field text.now)) }
 {
     if !is_path(text) {
         return Err(bad(BAD_PATH));
@@ -92,7 +92,7 @@ pub fn path_field_of(alloc: Global, text: &[u8]) -> Result<Text, LineFault>
 /// Whether a call waits for ready.
 pub fn wait_field_of(text: &[u8]) -> Result<Option<bool>, LineFault>
     ensures ok { IfOk result (λ wait. IsWait wait text.now) }
-    ensures bad { IfErr result (IsToldBy (IsFieldFault wait_field text.now)) }
+    ensures bad { IfErr result (IsReportedBy (IsFieldFault wait_field text.now)) }
 {
     match wait_of(text) {
         Some(wait) => Ok(wait),
@@ -103,7 +103,7 @@ pub fn wait_field_of(text: &[u8]) -> Result<Option<bool>, LineFault>
 /// The timeout of a call in nanoseconds.
 pub fn timeout_field_of(text: &[u8]) -> Result<Option<u64>, LineFault>
     ensures ok { IfOk result (λ timeout. IsTimeout timeout text.now) }
-    ensures bad { IfErr result (IsToldBy (IsFieldFault timeout_field text.now)) }
+    ensures bad { IfErr result (IsReportedBy (IsFieldFault timeout_field text.now)) }
 {
     match timeout_of(text) {
         Ok(timeout) => Ok(timeout),
@@ -114,7 +114,7 @@ pub fn timeout_field_of(text: &[u8]) -> Result<Option<u64>, LineFault>
 /// The metadata of a request.
 pub fn meta_field_of(alloc: Global, text: &[u8]) -> Result<Metadata, LineFault>
     ensures ok { IfOk result (λ pairs. IsMeta pairs text.now) }
-    ensures bad { IfErr result (IsToldBy (IsFieldFault meta_field text.now)) }
+    ensures bad { IfErr result (IsReportedBy (IsFieldFault meta_field text.now)) }
 {
     match meta_of(alloc, text)? {
         Some(pairs) => Ok(pairs),
@@ -125,7 +125,7 @@ pub fn meta_field_of(alloc: Global, text: &[u8]) -> Result<Metadata, LineFault>
 /// The bytes of a message.
 pub fn message_field_of(alloc: Global, text: &[u8]) -> Result<Octets, LineFault>
     ensures ok { IfOk result (λ message. IsMessage message text.now) }
-    ensures bad { IfErr result (IsToldBy (IsFieldFault message_field text.now)) }
+    ensures bad { IfErr result (IsReportedBy (IsFieldFault message_field text.now)) }
 {
     match message_of(alloc, text, MESSAGE_BYTES) {
         Ok(message) => Ok(message),
@@ -136,7 +136,7 @@ pub fn message_field_of(alloc: Global, text: &[u8]) -> Result<Octets, LineFault>
 /// Bytes that arrived on a link.
 pub fn piece_field_of(alloc: Global, text: &[u8]) -> Result<Octets, LineFault>
     ensures ok { IfOk result (λ piece. IsPiece piece text.now) }
-    ensures bad { IfErr result (IsToldBy (IsFieldFault piece_field text.now)) }
+    ensures bad { IfErr result (IsReportedBy (IsFieldFault piece_field text.now)) }
 {
     match piece_of(alloc, text)? {
         Some(piece) => Ok(piece),
@@ -147,7 +147,7 @@ pub fn piece_field_of(alloc: Global, text: &[u8]) -> Result<Octets, LineFault>
 /// The word of a ping.
 pub fn ping_field_of(text: &[u8]) -> Result<u64, LineFault>
     ensures ok { IfOk result (λ word. IsPing word text.now) }
-    ensures bad { IfErr result (IsToldBy (IsFieldFault ping_field text.now)) }
+    ensures bad { IfErr result (IsReportedBy (IsFieldFault ping_field text.now)) }
 {
     match word_of_hex(text) {
         Some(word) => Ok(word),
@@ -158,7 +158,7 @@ pub fn ping_field_of(text: &[u8]) -> Result<u64, LineFault>
 /// The addresses of a resolution.
 pub fn addresses_field_of(text: &[u8]) -> Result<AddressList, LineFault>
     ensures ok { IfOk result (λ addresses. AreAddresses addresses text.now) }
-    ensures bad { IfErr result (IsToldBy (IsFieldFault addresses_field text.now)) }
+    ensures bad { IfErr result (IsReportedBy (IsFieldFault addresses_field text.now)) }
 {
     match addresses_of(text) {
         Ok(addresses) => Ok(addresses),
@@ -169,7 +169,7 @@ pub fn addresses_field_of(text: &[u8]) -> Result<AddressList, LineFault>
 /// The service config of a resolution.
 pub fn config_field_of(alloc: Global, text: &[u8]) -> Result<Option<Octets>, LineFault>
     ensures ok { IfOk result (λ config. IsConfigOrDash config text.now) }
-    ensures bad { IfErr result (IsToldBy (IsFieldFault config_or_dash_field text.now)) }
+    ensures bad { IfErr result (IsReportedBy (IsFieldFault config_or_dash_field text.now)) }
 {
     match config_of(alloc, text) {
         Ok(config) => Ok(config),
@@ -180,7 +180,7 @@ pub fn config_field_of(alloc: Global, text: &[u8]) -> Result<Option<Octets>, Lin
 /// The service config of a live script.
 pub fn script_config_of(alloc: Global, text: &[u8]) -> Result<Octets, LineFault>
     ensures ok { IfOk result (λ config. IsConfig config text.now) }
-    ensures bad { IfErr result (IsToldBy (IsFieldFault config_field text.now)) }
+    ensures bad { IfErr result (IsReportedBy (IsFieldFault config_field text.now)) }
 {
     let Some(config) = piece_of(alloc, text)? else {
         return Err(bad(BAD_HEX));

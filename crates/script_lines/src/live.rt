@@ -3,7 +3,7 @@ ghost use Rattle.std.specs.Prelude.{◌≡◌, [], ◌∷◌, ℕ, List, IfOk, I
 ghost use Rattle.std.specs.Option.{option_copied};
 ghost use Rattle.script_fields.specs.Spelling.{fields};
 ghost use Rattle.script_lines.specs.Fields.{AreArgumentsFault, IsConfig, config_field};
-ghost use Rattle.script_lines.specs.Lines.{IsLiveFault, IsLiveLine, IsToldBy, fields_behind};
+ghost use Rattle.script_lines.specs.Lines.{IsLiveFault, IsLiveLine, IsReportedBy, fields_after};
 
 use crate::call::call_of;
 use crate::cause::{BAD_COUNT, LineFault, UNKNOWN_KIND, bad};
@@ -17,7 +17,7 @@ use std::alloc::Global;
 /// The line of this number, from 1.
 pub fn live_line(alloc: Global, number: u64, text: &[u8]) -> Result<ScriptLine, LineFault>
     ensures ok { IfOk result (IsLiveLine number (fields text.now)) }
-    ensures bad { IfErr result (IsToldBy (IsLiveFault number (fields text.now))) }
+    ensures bad { IfErr result (IsReportedBy (IsLiveFault number (fields text.now))) }
 {
     if number == 1 {
         let (target, value) = channel_of(alloc, text)?;
@@ -37,8 +37,8 @@ pub fn live_line(alloc: Global, number: u64, text: &[u8]) -> Result<ScriptLine, 
 
 /// The service config that these fields give.
 fn config_of(alloc: Global, rest: Option<&[u8]>) -> Result<Octets, LineFault>
-    ensures ok { IfOk result (λ config. (text : List ℕ) × (fields_behind (option_copied rest.entry) ≡ text ∷ []) × IsConfig config text) }
-    ensures bad { IfErr result (IsToldBy (AreArgumentsFault (config_field ∷ []) (fields_behind (option_copied rest.entry)))) }
+    ensures ok { IfOk result (λ config. (text : List ℕ) × (fields_after (option_copied rest.entry) ≡ text ∷ []) × IsConfig config text) }
+    ensures bad { IfErr result (IsReportedBy (AreArgumentsFault (config_field ∷ []) (fields_after (option_copied rest.entry)))) }
 {
     let Some(text) = one_field(rest) else {
         return Err(bad(BAD_COUNT));

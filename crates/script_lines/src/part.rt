@@ -5,7 +5,7 @@ ghost use Rattle.script_lines.specs.declared.part.PartKind.TheVariants as kinds;
 ghost use Rattle.script_lines.specs.Answers.{HasShape, IsNoNumber, IsPart, IsPartFault, IsPartOf, IsValue, IsValueFault, MayStand, letter_of, part_kind};
 ghost use Rattle.script_lines.specs.Causes.{bad_number};
 ghost use Rattle.script_lines.specs.Fields.{IsNumber, number_limit};
-ghost use Rattle.script_lines.specs.Lines.{IsToldBy};
+ghost use Rattle.script_lines.specs.Lines.{IsReportedBy};
 
 use crate::cause::{BAD_HEX, BAD_NUMBER, LineFault, UNKNOWN_KIND, bad};
 use crate::field::read_u32;
@@ -44,7 +44,7 @@ fn kind_of(letter: u8) -> Option<PartKind>
     Some(kind)
 }
 
-/// Whether this may stand behind the letter of such a part.
+/// Whether this may stand after the letter of such a part.
 fn has_shape(kind: PartKind, rest: &[u8]) -> bool
     ensures { IsTrue result ↔ HasShape kind rest.now }
 {
@@ -55,7 +55,7 @@ fn has_shape(kind: PartKind, rest: &[u8]) -> bool
     }
 }
 
-/// Whether such a part may stand here, behind a status or a reset or not.
+/// Whether such a part may stand here, after a status or a reset or not.
 fn may_stand(ended: bool, kind: PartKind) -> bool
     ensures { IsTrue result ↔ MayStand ended kind }
 {
@@ -65,7 +65,7 @@ fn may_stand(ended: bool, kind: PartKind) -> bool
     }
 }
 
-/// The kind of a part in its form, and what stands behind its letter.
+/// The kind of a part in its form, and what stands after its letter.
 fn form_of(ended: bool, text: &[u8]) -> Option<(PartKind, &[u8])>
     ensures some { IfSome result (λ p. IsPartOf ended p.0 text.now p.1.now) }
     ensures none { IfNone result ((k : part_kinds.PartKind) (rest : List ℕ) → IsPartOf ended k text.now rest → ⊥) }
@@ -86,7 +86,7 @@ fn form_of(ended: bool, text: &[u8]) -> Option<(PartKind, &[u8])>
 /// The part of this kind whose value this spells.
 fn value_of(alloc: Global, kind: PartKind, rest: &[u8]) -> Result<AnswerPart, LineFault>
     ensures ok { IfOk result (λ p. (part_kind p ≡ kind) × IsValue rest.now p) }
-    ensures bad { IfErr result (IsToldBy (IsValueFault kind rest.now)) }
+    ensures bad { IfErr result (IsReportedBy (IsValueFault kind rest.now)) }
 {
     match kind {
         PartKind::Head => Ok(AnswerPart::Head),
@@ -102,7 +102,7 @@ fn value_of(alloc: Global, kind: PartKind, rest: &[u8]) -> Result<AnswerPart, Li
 /// The number of a part.
 fn number_part(rest: &[u8]) -> Result<u32, LineFault>
     ensures ok { IfOk result (λ n. IsNumber number_limit n rest.now) }
-    ensures bad { IfErr result (IsToldBy (λ c. IsNoNumber rest.now × (c ≡ bad_number))) }
+    ensures bad { IfErr result (IsReportedBy (λ c. IsNoNumber rest.now × (c ≡ bad_number))) }
 {
     match read_u32(rest) {
         Some(number) => Ok(number),
@@ -113,7 +113,7 @@ fn number_part(rest: &[u8]) -> Result<u32, LineFault>
 /// The message of a part, of any length: no digits are the empty one.
 fn message_of(alloc: Global, rest: &[u8]) -> Result<AnswerPart, LineFault>
     ensures ok { IfOk result (λ p. (part_kind p ≡ kinds.Message) × IsValue rest.now p) }
-    ensures bad { IfErr result (IsToldBy (IsValueFault kinds.Message rest.now)) }
+    ensures bad { IfErr result (IsReportedBy (IsValueFault kinds.Message rest.now)) }
 {
     let Some(bytes) = bytes_of(alloc, rest)? else {
         return Err(bad(BAD_HEX));
@@ -122,10 +122,10 @@ fn message_of(alloc: Global, rest: &[u8]) -> Result<AnswerPart, LineFault>
     Ok(AnswerPart::Message(message))
 }
 
-/// One part, behind a status or a reset or not.
+/// One part, after a status or a reset or not.
 pub fn part_of(alloc: Global, ended: bool, text: &[u8]) -> Result<AnswerPart, LineFault>
     ensures ok { IfOk result (IsPart ended text.now) }
-    ensures bad { IfErr result (IsToldBy (IsPartFault ended text.now)) }
+    ensures bad { IfErr result (IsReportedBy (IsPartFault ended text.now)) }
 {
     let Some((kind, rest)) = form_of(ended, text) else {
         return Err(bad(UNKNOWN_KIND));

@@ -3,7 +3,7 @@ ghost use Rattle.std.specs.Prelude.{◌≡◌, ◌↔◌, ◌||◌, false, IsTru
 ghost use Rattle.grpc_base.specs.Pieces.{pieces};
 ghost use Rattle.grpc_base.specs.Scripts.{ends_stream};
 ghost use Rattle.script_lines.specs.Answers.{AreParts, ArePartsFault, IsPartsFault, IsPartsText, IsWithin};
-ghost use Rattle.script_lines.specs.Lines.{IsToldBy};
+ghost use Rattle.script_lines.specs.Lines.{IsReportedBy};
 
 use crate::cause::{LineFault, PAST_LIMIT, bad};
 use crate::part::part_of;
@@ -14,7 +14,7 @@ use std::alloc::Global;
 /// The parts of an answer, each message within its limit.
 pub fn parts_of(alloc: Global, text: &[u8]) -> Result<Items<AnswerPart>, LineFault>
     ensures ok { IfOk result (λ ps. IsPartsText text.now ps) }
-    ensures bad { IfErr result (IsToldBy (IsPartsFault text.now)) }
+    ensures bad { IfErr result (IsReportedBy (IsPartsFault text.now)) }
 {
     let parts = all_parts(alloc, text)?;
     if !are_within(parts.as_slice()) {
@@ -26,7 +26,7 @@ pub fn parts_of(alloc: Global, text: &[u8]) -> Result<Items<AnswerPart>, LineFau
 /// The parts of an answer, with messages of any length.
 fn all_parts(alloc: Global, text: &[u8]) -> Result<Items<AnswerPart>, LineFault>
     ensures ok { IfOk result (λ ps. AreParts false (pieces 44 text.now) ps) }
-    ensures bad { IfErr result (IsToldBy (ArePartsFault false (pieces 44 text.now))) }
+    ensures bad { IfErr result (IsReportedBy (ArePartsFault false (pieces 44 text.now))) }
 {
     let mut parts = Items::new(alloc);
     let mut ended = false;
@@ -41,7 +41,7 @@ fn all_parts(alloc: Global, text: &[u8]) -> Result<Items<AnswerPart>, LineFault>
     Ok(parts)
 }
 
-/// Whether nothing but a GOAWAY may stand behind this part and those before it.
+/// Whether nothing but a GOAWAY may stand after this part and those before it.
 fn ended_by(ended: bool, part: &AnswerPart) -> bool
     ensures { result ≡ (ended || ends_stream part.now) }
 {

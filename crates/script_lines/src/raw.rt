@@ -1,6 +1,6 @@
 // The tests that each line of each script passes first.
 ghost use Rattle.std.specs.Prelude.{◌≡◌, ◌≤◌, ◌↔◌, IsTrue, OnOk, IfErr, All};
-ghost use Rattle.script_lines.specs.Lines.{IsRawFault, IsRawLine, IsToldBy};
+ghost use Rattle.script_lines.specs.Lines.{IsRawFault, IsRawLine, IsReportedBy};
 
 use crate::cause::{LineFault, NOT_TEXT, TOO_LONG, TOO_MANY, bad};
 use grpc_base::limits::LINE_BYTES;
@@ -12,7 +12,7 @@ const SCRIPT_LINES: u64 = 1_048_578;
 /// ended by a line feed.
 pub fn test_line(number: u64, text: &[u8], closed: bool) -> Result<(), LineFault>
     ensures ok { OnOk result (IsRawLine number text.now closed) }
-    ensures bad { IfErr result (IsToldBy (IsRawFault number text.now closed)) }
+    ensures bad { IfErr result (IsReportedBy (IsRawFault number text.now closed)) }
 {
     if number > SCRIPT_LINES {
         return Err(bad(TOO_MANY));

@@ -2,8 +2,8 @@
 ghost use Rattle.std.specs.Prelude.{◌≡◌, ◌≤◌, ◌+◌, ℕ, List, IfOk, IfErr, OnErr};
 ghost use Rattle.script_fields.specs.Spelling.{fields};
 ghost use Rattle.script_lines.specs.Answers.{count_of};
-ghost use Rattle.script_lines.specs.Lines.{IsRawLine, IsToldBy};
-ghost use Rattle.script_lines.specs.Reader.{IsBadLine, IsBehind, IsKindFault, IsKindLine, IsLine, IsNoLine, IsNumberedFault, IsOnlyLine, IsSame, KeepsRules, answer_count};
+ghost use Rattle.script_lines.specs.Lines.{IsRawLine, IsReportedBy};
+ghost use Rattle.script_lines.specs.Reader.{IsBadLine, IsStateAfter, IsKindFault, IsKindLine, IsLine, IsNoLine, IsNumberedFault, IsOnlyLine, IsSame, KeepsRules, answer_count};
 ghost use Rattle.script_lines.specs.Spelling.{IsReadAgain};
 
 use crate::answer::next_answer;
@@ -90,7 +90,7 @@ impl ScriptReader {
         ensures again { IfOk result IsReadAgain }
         ensures rules { IfOk result KeepsRules }
         ensures no_line { IfErr result (IsNoLine self.old text.now closed) }
-        ensures behind { IfOk result (λ read. IsBehind self.old read self.new) }
+        ensures afterwards { IfOk result (λ read. IsStateAfter self.old read self.new) }
         ensures same { OnErr result (IsSame self.old self.new) }
     {
         let line = self.lines + 1;
@@ -105,7 +105,7 @@ impl ScriptReader {
     }
 }
 
-/// The line of this number, behind the answers that were counted.
+/// The line of this number, after the answers that were counted.
 fn next_line(
     alloc: Global,
     kind: ScriptKind,
@@ -115,8 +115,8 @@ fn next_line(
     counts: &mut Counts,
 ) -> Result<ScriptLine, LineFault>
     ensures ok { IfOk result (λ read. IsRawLine number text.now closed × IsKindLine kind number counts.old (fields text.now) read) }
-    ensures bad { IfErr result (IsToldBy (IsNumberedFault kind number counts.old text.now closed)) }
-    ensures behind { IfOk result (λ read. (path : List ℕ) → count_of counts.new path ≡ count_of counts.old path + answer_count read path) }
+    ensures bad { IfErr result (IsReportedBy (IsNumberedFault kind number counts.old text.now closed)) }
+    ensures afterwards { IfOk result (λ read. (path : List ℕ) → count_of counts.new path ≡ count_of counts.old path + answer_count read path) }
     ensures same { OnErr result ((path : List ℕ) → count_of counts.new path ≡ count_of counts.old path) }
 {
     test_line(number, text, closed)?;
@@ -133,8 +133,8 @@ fn line_of_kind(
     counts: &mut Counts,
 ) -> Result<ScriptLine, LineFault>
     ensures ok { IfOk result (IsKindLine kind number counts.old (fields text.now)) }
-    ensures bad { IfErr result (IsToldBy (IsKindFault kind number counts.old (fields text.now))) }
-    ensures behind { IfOk result (λ read. (path : List ℕ) → count_of counts.new path ≡ count_of counts.old path + answer_count read path) }
+    ensures bad { IfErr result (IsReportedBy (IsKindFault kind number counts.old (fields text.now))) }
+    ensures afterwards { IfOk result (λ read. (path : List ℕ) → count_of counts.new path ≡ count_of counts.old path + answer_count read path) }
     ensures same { OnErr result ((path : List ℕ) → count_of counts.new path ≡ count_of counts.old path) }
 {
     match kind {

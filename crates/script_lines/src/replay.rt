@@ -1,7 +1,7 @@
 // The lines of replay scripts.
 ghost use Rattle.std.specs.Prelude.{IfOk, IfErr};
 ghost use Rattle.script_fields.specs.Spelling.{fields};
-ghost use Rattle.script_lines.specs.Lines.{IsReplayFault, IsReplayLine, IsToldBy};
+ghost use Rattle.script_lines.specs.Lines.{IsReplayFault, IsReplayLine, IsReportedBy};
 
 use crate::cause::LineFault;
 use crate::channel::channel_of;
@@ -12,7 +12,7 @@ use std::alloc::Global;
 /// The line of this number, from 1.
 pub fn replay_line(alloc: Global, number: u64, text: &[u8]) -> Result<ScriptLine, LineFault>
     ensures ok { IfOk result (IsReplayLine number (fields text.now)) }
-    ensures bad { IfErr result (IsToldBy (IsReplayFault number (fields text.now))) }
+    ensures bad { IfErr result (IsReportedBy (IsReplayFault number (fields text.now))) }
 {
     if number == 1 {
         let (target, value) = channel_of(alloc, text)?;

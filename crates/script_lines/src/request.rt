@@ -1,7 +1,7 @@
 // The request that a line begins.
 ghost use Rattle.std.specs.Prelude.{[], ◌∷◌, IfOk, IfErr};
 ghost use Rattle.script_lines.specs.Fields.{AreFieldsFault, IsRequestText, request_fields};
-ghost use Rattle.script_lines.specs.Lines.{IsToldBy};
+ghost use Rattle.script_lines.specs.Lines.{IsReportedBy};
 
 use crate::cause::{BAD_PATH, LineFault, PAST_LIMIT, bad};
 use crate::field::{meta_field_of, path_field_of, timeout_field_of, wait_field_of};
@@ -17,7 +17,7 @@ pub fn request_of(
     meta: &[u8],
 ) -> Result<Request, LineFault>
     ensures ok { IfOk result (λ r. IsRequestText r path.now wait.now timeout.now meta.now) }
-    ensures bad { IfErr result (IsToldBy (AreFieldsFault request_fields (path.now ∷ wait.now ∷ timeout.now ∷ meta.now ∷ []))) }
+    ensures bad { IfErr result (IsReportedBy (AreFieldsFault request_fields (path.now ∷ wait.now ∷ timeout.now ∷ meta.now ∷ []))) }
 {
     let path = path_field_of(alloc, path)?;
     let wait = wait_field_of(wait)?;

@@ -1,7 +1,7 @@
-// A line of a replay script behind the first.
+// A line of a replay script after the first.
 ghost use Rattle.std.specs.Prelude.{IfOk, IfErr};
 ghost use Rattle.script_fields.specs.Spelling.{fields};
-ghost use Rattle.script_lines.specs.Lines.{IsStampedFault, IsStampedText, IsToldBy};
+ghost use Rattle.script_lines.specs.Lines.{IsStampedFault, IsStampedText, IsReportedBy};
 
 use crate::cause::{BAD_COUNT, LineFault, bad};
 use crate::event::event_of;
@@ -13,7 +13,7 @@ use std::alloc::Global;
 /// The moment, the random word and the event of a line.
 pub fn stamped_of(alloc: Global, text: &[u8]) -> Result<Stamped, LineFault>
     ensures ok { IfOk result (IsStampedText (fields text.now)) }
-    ensures bad { IfErr result (IsToldBy (IsStampedFault (fields text.now))) }
+    ensures bad { IfErr result (IsReportedBy (IsStampedFault (fields text.now))) }
 {
     let (moment, rest) = first_field(text);
     let Some(rest) = rest else {

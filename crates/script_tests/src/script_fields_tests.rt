@@ -1,10 +1,10 @@
 // Fields as the formats' text has them, and texts that are none.
 use grpc_base::{Address, AddressList, Metadata, NoMemory, Octets, append_decimal};
 use script_fields::{
-    FieldFault, address_of, addresses_of, append_addresses, append_config, append_hex,
+    FieldFault, address_of, addresses_of, afterwards, append_addresses, append_config, append_hex,
     append_hex_of_word, append_hex_word, append_meta, append_number, append_number_or_dash,
-    append_text, append_wait, append_word, behind, bytes_of, bytes_or_dash, config_of, message_of,
-    meta_of, number_before, number_within, piece_of, timeout_of, wait_of, word_of_hex,
+    append_text, append_wait, append_word, bytes_of, bytes_or_dash, config_of, message_of, meta_of,
+    number_before, number_within, piece_of, timeout_of, wait_of, word_of_hex,
 };
 use std::alloc::Global;
 use std::test::Fail;
@@ -276,7 +276,7 @@ fn metadata_keeps_the_rules_of_a_request(rt: HostRuntime) -> Result<(), Fail> {
     Ok(())
 }
 
-/// So many pairs of an empty value, and this text behind them.
+/// So many pairs of an empty value, and this text after them.
 fn pairs_with(alloc: Global, count: u32, end: &[u8]) -> Result<Vec<u8>, NoMemory> {
     let mut text = Vec::new(alloc);
     for _ in 0..count {
@@ -311,7 +311,7 @@ fn metadata_has_at_most_14336_bytes(rt: HostRuntime) -> Result<(), Fail> {
 #[test]
 fn the_empty_text_is_bytes_and_no_dash(rt: HostRuntime) -> Result<(), Fail> {
     assert!(rt;
-        behind(b"up 1", b"up ").is_some_and(|rest| rest == b"1".as_slice()),
+        afterwards(b"up 1", b"up ").is_some_and(|rest| rest == b"1".as_slice()),
         "behind a beginning"
     );
     assert!(rt;

@@ -66,7 +66,7 @@ fn pieces_are_cut_anywhere(rt: HostRuntime) -> Result<(), Fail> {
 }
 
 #[test]
-fn the_first_bad_line_is_told(rt: HostRuntime) -> Result<(), Fail> {
+fn the_first_bad_line_is_reported(rt: HostRuntime) -> Result<(), Fail> {
     let alloc = rt.alloc();
     let long = vec![in alloc; 97u8; 8_400_001]?;
     let rows: [(&str, &[u8], &[u8], usize, (u64, u8)); 7] = [
@@ -119,7 +119,7 @@ fn the_first_bad_line_is_told(rt: HostRuntime) -> Result<(), Fail> {
 }
 
 #[test]
-fn what_comes_first_is_told(rt: HostRuntime) -> Result<(), Fail> {
+fn what_comes_first_is_reported(rt: HostRuntime) -> Result<(), Fail> {
     let alloc = rt.alloc();
     let bad = InputFault::BadLine { line: 2, cause: 5 };
     let rows: [(&str, &[u8], &[u8], usize, u64, InputFault); 4] = [
@@ -159,7 +159,7 @@ fn what_comes_first_is_told(rt: HostRuntime) -> Result<(), Fail> {
     Ok(())
 }
 
-/// How many events a report of version 1 with this text behind its channel line has, or its first bad line and the cause.
+/// How many events a report of version 1 with this text after its channel line has, or its first bad line and the cause.
 fn report_of(alloc: Global, text: &[u8]) -> Result<Result<usize, (u64, u8)>, Fail> {
     let mut bytes = CHANNEL.to_vec(alloc)?;
     bytes.extend_from_slice(text)?;

@@ -4,17 +4,17 @@ use script_lines::{BadLine, LineFault, ScriptKind, ScriptLine, ScriptReader, tes
 use std::alloc::{AllocError, Global};
 use std::test::Fail;
 
-/// What a reader tells of one line, behind the channel line where the kind has one.
-fn told_line(alloc: Global, kind: ScriptKind, text: &[u8], closed: bool) -> (u64, u8) {
+/// What a reader reports of one line, after the channel line where the kind has one.
+fn reported_line(alloc: Global, kind: ScriptKind, text: &[u8], closed: bool) -> (u64, u8) {
     let mut reader = ScriptReader::new(alloc, kind);
     if kind != ScriptKind::Server && reader.line(b"channel 1 ipv4:1.2.3.4", true).is_err() {
         return (0, 255);
     }
-    told(&mut reader, text, closed)
+    reported(&mut reader, text, closed)
 }
 
-/// What a reader tells of its next line.
-fn told(reader: &mut ScriptReader, text: &[u8], closed: bool) -> (u64, u8) {
+/// What a reader reports of its next line.
+fn reported(reader: &mut ScriptReader, text: &[u8], closed: bool) -> (u64, u8) {
     match reader.line(text, closed) {
         Ok(_) => (0, 0),
         Err(BadLine::At { line, cause }) => (line, cause),
@@ -192,7 +192,7 @@ fn one_byte_more_is_past_the_limit(rt: HostRuntime) -> Result<(), Fail> {
     for (name, kind, head, tail, want) in rows {
         let line = repeated(alloc, head, SIXTEEN, 262_144, tail)?;
         assert_eq!(rt;
-            told_line(alloc, kind, line.as_slice(), true),
+            reported_line(alloc, kind, line.as_slice(), true),
             want,
             "{name}"
         );
@@ -235,7 +235,7 @@ fn lines_are_tested_before_their_fields(rt: HostRuntime) -> Result<(), Fail> {
         ("short and not ended", replay, b"0 0 tick", false, (2, 3)),
     ];
     for (name, kind, text, closed, want) in rows {
-        assert_eq!(rt; told_line(alloc, kind, text, closed), want, "{name}");
+        assert_eq!(rt; reported_line(alloc, kind, text, closed), want, "{name}");
     }
     Ok(())
 }
@@ -245,9 +245,16 @@ fn a_script_has_1048578_lines(rt: HostRuntime) -> Result<(), Fail> {
     let alloc = rt.alloc();
     let longer = repeated(alloc, b"", b"\x01", 8_400_001, b"")?;
     let mut reader = ScriptReader::new(alloc, ScriptKind::Replay);
-    assert_eq!(rt; told(&mut reader, b"channel 1 ipv4:1.2.3.4", true), (0, 0));
+    assert_eq!(rt;
+        reported(&mut reader, b"channel 1 ipv4:1.2.3.4", true),
+        (0, 0)
+    );
     for n in 2..1_048_578u64 {
-        assert_eq!(rt; told(&mut reader, b"0 0 tick", true), (0, 0), "line {n}");
+        assert_eq!(rt;
+            reported(&mut reader, b"0 0 tick", true),
+            (0, 0),
+            "line {n}"
+        );
     }
     let rows: [(&str, &[u8], bool, (u64, u8)); 5] = [
         (
@@ -267,7 +274,7 @@ fn a_script_has_1048578_lines(rt: HostRuntime) -> Result<(), Fail> {
         ),
     ];
     for (name, text, closed, want) in rows {
-        assert_eq!(rt; told(&mut reader, text, closed), want, "{name}");
+        assert_eq!(rt; reported(&mut reader, text, closed), want, "{name}");
     }
     assert_eq!(rt; reader.lines(), 1_048_578);
     assert_eq!(rt; test_line(1_048_578, b"row 1", true), Ok(()));

@@ -330,8 +330,8 @@ fn lines_of(alloc: Global, row: &str) -> Result<String, Fail> {
     Ok(text)
 }
 
-/// What a reader tells of these lines, which stand between bars: the number of the first bad line and its cause.
-fn told(alloc: Global, kind: ScriptKind, lines: &str, ended: bool) -> (u64, u8) {
+/// What a reader reports of these lines, which stand between bars: the number of the first bad line and its cause.
+fn reported(alloc: Global, kind: ScriptKind, lines: &str, ended: bool) -> (u64, u8) {
     let last = lines.split('|').count().saturating_sub(1);
     let mut reader = ScriptReader::new(alloc, kind);
     for (n, line) in lines.split('|').enumerate() {
@@ -353,8 +353,8 @@ fn kind_of(letter: u8) -> ScriptKind {
     }
 }
 
-/// Whether a row is told as it says: where its last line is bad, that one with its cause.
-fn is_told(alloc: Global, row: &str) -> Result<bool, Fail> {
+/// Whether a row is reported as it says: where its last line is bad, that one with its cause.
+fn is_reported(alloc: Global, row: &str) -> Result<bool, Fail> {
     let bytes = row.as_bytes();
     let [tens, ones, letter, ..] = bytes else {
         return Ok(false);
@@ -366,23 +366,23 @@ fn is_told(alloc: Global, row: &str) -> Result<bool, Fail> {
     let count = lines.split('|').count() as u64;
     let want = if cause == 0 { (0, 0) } else { (count, cause) };
     let ended = letter.is_ascii_uppercase();
-    Ok(told(alloc, kind_of(*letter), lines.as_str(), ended) == want)
+    Ok(reported(alloc, kind_of(*letter), lines.as_str(), ended) == want)
 }
 
 /// Tests each row of a table.
 fn expect(rt: &impl Abort, alloc: Global, table: &str) -> Result<(), Fail> {
     for row in table.split('\n') {
-        assert!(rt; is_told(alloc, row)?, "{row}");
+        assert!(rt; is_reported(alloc, row)?, "{row}");
     }
     Ok(())
 }
 
 #[test]
-fn bad_lines_are_as_an_independent_model_tells_them(rt: HostRuntime) -> Result<(), Fail> {
+fn bad_lines_are_as_an_independent_model_reports_them(rt: HostRuntime) -> Result<(), Fail> {
     expect(&rt, rt.alloc(), MODEL)
 }
 
 #[test]
-fn the_first_cause_is_told(rt: HostRuntime) -> Result<(), Fail> {
+fn the_first_cause_is_reported(rt: HostRuntime) -> Result<(), Fail> {
     expect(&rt, rt.alloc(), CASES)
 }

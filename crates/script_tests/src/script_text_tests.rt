@@ -398,11 +398,11 @@ fn each_kind_of_line_is_as_the_formats_say(rt: HostRuntime) -> Result<(), Fail> 
 }
 
 #[test]
-fn a_write_that_fails_leaves_a_front(rt: HostRuntime) -> Result<(), Fail> {
+fn a_write_that_fails_leaves_a_prefix(rt: HostRuntime) -> Result<(), Fail> {
     let alloc = rt.alloc();
     let (journal, ledger) = session(alloc)?;
     let target = Text::of_slice(alloc, b"ipv4:127.0.0.1:50051")?;
-    for (failing, front) in [
+    for (failing, prefix) in [
         (1, b"".as_slice()),
         (2, b"channel 2 "),
         (3, b"channel 2 ipv4:127.0"),
@@ -410,7 +410,7 @@ fn a_write_that_fails_leaves_a_front(rt: HostRuntime) -> Result<(), Fail> {
         let mut sink = MemSink::new(alloc, 10, vec![in alloc; failing]?);
         let answer = write_report(alloc, &journal, &ledger, &target, &mut sink);
         assert_eq!(rt; answer, Err(ReportFault::Write), "write {failing}");
-        assert_eq!(rt; sink.taken(), front, "write {failing}");
+        assert_eq!(rt; sink.taken(), prefix, "write {failing}");
     }
     Ok(())
 }

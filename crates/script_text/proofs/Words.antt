@@ -31,9 +31,9 @@ spaced_alike : (ws : List (List ℕ)) → spaced_words_of ws ≡ spaced ws
 spaced_alike [] = refl
 spaced_alike (w ∷ ws) = ap (λ t. 32 ∷ (w ++ t)) (spaced_alike ws)
 
--- the words of a fault behind the name of the reply
-pub bad_config_words : (out named told : List ℕ) (f : ConfigFault) → named ≡ out ++ 32 ∷ codes "badconfig" → told ≡ named ++ spaced_words_of (config_fault_words f) → told ≡ out ++ spaced (codes "badconfig" ∷ config_fault_words f)
-bad_config_words out named told f e g =
+-- the words of a fault after the name of the reply
+pub bad_config_words : (out named reported : List ℕ) (f : ConfigFault) → named ≡ out ++ 32 ∷ codes "badconfig" → reported ≡ named ++ spaced_words_of (config_fault_words f) → reported ≡ out ++ spaced (codes "badconfig" ∷ config_fault_words f)
+bad_config_words out named reported f e g =
     g
     ∙ ap (λ (t : List ℕ). t ++ spaced_words_of (config_fault_words f)) e
     ∙ ap (λ (t : List ℕ). (out ++ 32 ∷ codes "badconfig") ++ t) (spaced_alike (config_fault_words f))
@@ -103,23 +103,23 @@ lines_more f xs i d within =
     ∙ flat_map-append (λ (line : List ℕ). line ++ 10 ∷ []) (map f (take i xs)) (f (get_or xs i d) ∷ [])
     ∙ ap (λ t. lines_text (map f (take i xs)) ++ t) (append-nil (f (get_or xs i d) ++ 10 ∷ []))
 
--- the lines of a front and of the rest
+-- the lines of a prefix and of the rest
 pub lines_parts : {X : Type 0} (f : X → List ℕ) (xs : List X) (i : ℕ) → lines_text (map f xs) ≡ lines_text (map f (take i xs)) ++ lines_text (map f (drop i xs))
 lines_parts f xs i =
     ap (λ t. lines_text (map f t)) (sym (take-append-drop i xs))
     ∙ ap lines_text (map-append f (take i xs) (drop i xs))
     ∙ flat_map-append (λ (line : List ℕ). line ++ 10 ∷ []) (map f (take i xs)) (map f (drop i xs))
 
--- the front of a report, part by part
+-- the prefix of a report, part by part
 pub report_parts : (target : List ℕ) (journal : Journal) (ledger : Ledger) → report_of target journal ledger ≡ (channel_text target ++ 10 ∷ []) ++ ((lines_text (map entry_text journal.entries) ++ lines_text (map row_text ledger.rows)) ++ (end_text journal ledger ++ 10 ∷ []))
 report_parts target journal ledger =
     let line : List ℕ → List ℕ = λ l. l ++ 10 ∷ [] in
-    let front : List (List ℕ) = channel_text target ∷ map entry_text journal.entries in
+    let prefix : List (List ℕ) = channel_text target ∷ map entry_text journal.entries in
     let rows : List (List ℕ) = map row_text ledger.rows in
     let last : List ℕ = end_text journal ledger in
-    flat_map-append line (front ++ rows) (last ∷ [])
-    ∙ ap (λ t. t ++ flat_map line (last ∷ [])) (flat_map-append line front rows)
-    ∙ ap (λ t. flat_map line front ++ flat_map line rows ++ t) (append-nil (line last))
+    flat_map-append line (prefix ++ rows) (last ∷ [])
+    ∙ ap (λ t. t ++ flat_map line (last ∷ [])) (flat_map-append line prefix rows)
+    ∙ ap (λ t. flat_map line prefix ++ flat_map line rows ++ t) (append-nil (line last))
     ∙ ap (λ t. t ++ line last) (append_assoc (line (channel_text target)) (flat_map line (map entry_text journal.entries)) (flat_map line rows))
     ∙ append_assoc (line (channel_text target)) (flat_map line (map entry_text journal.entries) ++ flat_map line rows) (line last)
 
@@ -132,9 +132,9 @@ report_is target journal ledger none channel entries rows nothing c e r =
     ∙ ap (λ (es : List Entry). channel ++ ((lines_text (map entry_text es) ++ lines_text (map row_text ledger.rows)) ++ last)) (sym e)
     ∙ ap (λ (rs : List Row). channel ++ ((lines_text (map entry_text entries) ++ lines_text (map row_text rs)) ++ last)) (sym r)
 
--- a word behind the two that name a PING
-pub word_behind : (pushed out link word : List ℕ) → pushed ≡ out ++ spaced (codes "ping" ∷ link ∷ []) ++ 32 ∷ [] → pushed ++ word ≡ out ++ spaced (codes "ping" ∷ link ∷ word ∷ [])
-word_behind pushed out link word e =
+-- a word after the two that name a PING
+pub word_after : (pushed out link word : List ℕ) → pushed ≡ out ++ spaced (codes "ping" ∷ link ∷ []) ++ 32 ∷ [] → pushed ++ word ≡ out ++ spaced (codes "ping" ∷ link ∷ word ∷ [])
+word_after pushed out link word e =
     ap (λ (t : List ℕ). t ++ word) e
     ∙ append_assoc (out ++ spaced (codes "ping" ∷ link ∷ [])) (32 ∷ []) word
     ∙ append_assoc out (spaced (codes "ping" ∷ link ∷ [])) (32 ∷ word)

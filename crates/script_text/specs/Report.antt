@@ -17,7 +17,7 @@ use Rattle.attempt_ledger.specs.declared.row.RowCause.TheVariants as cause
 pub use Rattle.script_text.specs.Spelling.{channel_text, lines_text}
 use Rattle.script_text.specs.Spelling.{dash, number_or_dash, reply_words, stamped_text, words}
 
--- an entry: a line of a script with the step's moment, and behind ` = ` the reply
+-- an entry: a line of a script with the step's moment, and after ` = ` the reply
 abbrev pub entry_text : Entry → List ℕ
 entry_text e = stamped_text (stamped_of e) ++ codes " = " ++ words (reply_words e.reply)
 

@@ -1,6 +1,6 @@
 // The text of a valid service config.
 ghost use Rattle.std.specs.Prelude.{◌≡◌, ◌≤◌, Err, OnOk, OnErr};
-ghost use Rattle.gate_io.specs.Outside.{Appends, AppendsFront, Rises};
+ghost use Rattle.gate_io.specs.Outside.{Appends, AppendsPrefix, Rises};
 ghost use Rattle.service_config.specs.Text.{config_text};
 
 use crate::ReportFault;
@@ -18,7 +18,7 @@ pub fn write_config<K: Sink>(
     sink: &mut K,
 ) -> Result<(), ReportFault>
     ensures ok { OnOk result (Appends (K.taken sink.old) (K.taken sink.new) (config_text config.now)) }
-    ensures err { OnErr result (AppendsFront (K.taken sink.old) (K.taken sink.new) (config_text config.now)) }
+    ensures err { OnErr result (AppendsPrefix (K.taken sink.old) (K.taken sink.new) (config_text config.now)) }
     ensures write { (result ≡ Err ReportFault.Write) → Rises (K.faults sink.old) (K.faults sink.new) }
     ensures count { K.faults sink.old ≤ K.faults sink.new }
 {

@@ -1,4 +1,4 @@
-// Events: their name and their fields, each word behind a space.
+// Events: their name and their fields, each word after a space.
 ghost use Rattle.std.specs.Prelude.{◌≡◌, ◌++◌, ◌∷◌, [], codes, decimal, List, ℕ, OnOk};
 ghost use Rattle.grpc_base.specs.declared.event.Event.TheVariants as event;
 ghost use Rattle.script_text.specs.Output.{spaced};

@@ -1,6 +1,6 @@
 // Lines that wait in memory and go to a sink many at a time.
 ghost use Rattle.std.specs.Prelude.{◌≡◌, ◌<◌, ◌≤◌, [], length, Err, OnOk, OnErr};
-ghost use Rattle.gate_io.specs.Outside.{Appends, AppendsFront, Rises};
+ghost use Rattle.gate_io.specs.Outside.{Appends, AppendsPrefix, Rises};
 ghost use Rattle.script_text.specs.Output.{Passes};
 
 use crate::ReportFault;
@@ -13,7 +13,7 @@ const CHUNK: usize = 32_768;
 pub fn write_out<K: Sink>(out: &mut Vec<u8>, sink: &mut K) -> Result<(), ReportFault>
     ensures ok { OnOk result (Appends (K.taken sink.old) (K.taken sink.new) out.old.items) }
     ensures empty { OnOk result (out.new.items ≡ []) }
-    ensures err { OnErr result (AppendsFront (K.taken sink.old) (K.taken sink.new) out.old.items) }
+    ensures err { OnErr result (AppendsPrefix (K.taken sink.old) (K.taken sink.new) out.old.items) }
     ensures write { OnErr result (Rises (K.faults sink.old) (K.faults sink.new)) }
     ensures count { K.faults sink.old ≤ K.faults sink.new }
 {
@@ -28,7 +28,7 @@ pub fn write_out<K: Sink>(out: &mut Vec<u8>, sink: &mut K) -> Result<(), ReportF
 pub fn write_chunk<K: Sink>(out: &mut Vec<u8>, sink: &mut K) -> Result<(), ReportFault>
     ensures waits { OnOk result (length out.new.items < 32768) }
     ensures ok { OnOk result (Passes (K.taken sink.old) out.old.items (K.taken sink.new) out.new.items []) }
-    ensures err { OnErr result (AppendsFront (K.taken sink.old) (K.taken sink.new) out.old.items) }
+    ensures err { OnErr result (AppendsPrefix (K.taken sink.old) (K.taken sink.new) out.old.items) }
     ensures write { OnErr result (Rises (K.faults sink.old) (K.faults sink.new)) }
     ensures count { K.faults sink.old ≤ K.faults sink.new }
 {

@@ -1,4 +1,4 @@
-// Replies: their name and their fields, each word behind a space.
+// Replies: their name and their fields, each word after a space.
 ghost use Rattle.std.specs.Prelude.{◌≡◌, ◌++◌, ◌∷◌, [], codes, decimal, List, ℕ, OnOk};
 ghost use Rattle.grpc_base.specs.Codes.{code_number};
 ghost use Rattle.script_text.specs.Output.{spaced};

@@ -1,6 +1,6 @@
 // The report of a session: the channel line, a line for each entry, a line for each row, and the end line.
 ghost use Rattle.std.specs.Prelude.{◌≡◌, ◌≤◌, ◌++◌, ◌∷◌, [], Err, map, OnOk, OnErr};
-ghost use Rattle.gate_io.specs.Outside.{Appends, AppendsFront, Rises};
+ghost use Rattle.gate_io.specs.Outside.{Appends, AppendsPrefix, Rises};
 ghost use Rattle.script_text.specs.Output.{Passes};
 ghost use Rattle.script_text.specs.Report.{channel_text, entry_text, row_text, end_text, lines_text, report_of};
 
@@ -14,7 +14,7 @@ use grpc_base::{Entry, NoMemory, Text};
 use script_fields::{append_number, append_word};
 use std::alloc::Global;
 
-/// Why a report was not written whole; a front of it was.
+/// Why a report was not written whole; a prefix of it was.
 #[derive(Clone, Copy, Debug, PartialEq, Eq)]
 pub enum ReportFault {
     /// A write failed.
@@ -43,7 +43,7 @@ pub fn write_report<K: Sink>(
     sink: &mut K,
 ) -> Result<(), ReportFault>
     ensures ok { OnOk result (Appends (K.taken sink.old) (K.taken sink.new) (report_of target.now journal.now ledger.now)) }
-    ensures err { OnErr result (AppendsFront (K.taken sink.old) (K.taken sink.new) (report_of target.now journal.now ledger.now)) }
+    ensures err { OnErr result (AppendsPrefix (K.taken sink.old) (K.taken sink.new) (report_of target.now journal.now ledger.now)) }
     ensures write { (result ≡ Err ReportFault.Write) → Rises (K.faults sink.old) (K.faults sink.new) }
     ensures count { K.faults sink.old ≤ K.faults sink.new }
 {
@@ -89,7 +89,7 @@ fn append_end(out: &mut Vec<u8>, journal: &Journal, ledger: &Ledger) -> Result<(
     Ok(())
 }
 
-/// Writes the lines of these entries behind what waits.
+/// Writes the lines of these entries after what waits.
 fn write_entries<K: Sink>(
     alloc: Global,
     entries: &[Entry],
@@ -97,7 +97,7 @@ fn write_entries<K: Sink>(
     sink: &mut K,
 ) -> Result<(), ReportFault>
     ensures ok { OnOk result (Passes (K.taken sink.old) out.old.items (K.taken sink.new) out.new.items (lines_text (map entry_text entries.now))) }
-    ensures err { OnErr result (AppendsFront (K.taken sink.old) (K.taken sink.new) (out.old.items ++ lines_text (map entry_text entries.now))) }
+    ensures err { OnErr result (AppendsPrefix (K.taken sink.old) (K.taken sink.new) (out.old.items ++ lines_text (map entry_text entries.now))) }
     ensures write { (result ≡ Err ReportFault.Write) → Rises (K.faults sink.old) (K.faults sink.new) }
     ensures count { K.faults sink.old ≤ K.faults sink.new }
 {
@@ -108,10 +108,10 @@ fn write_entries<K: Sink>(
     Ok(())
 }
 
-/// Writes the lines of these rows behind what waits.
+/// Writes the lines of these rows after what waits.
 fn write_rows<K: Sink>(rows: &[Row], out: &mut Vec<u8>, sink: &mut K) -> Result<(), ReportFault>
     ensures ok { OnOk result (Passes (K.taken sink.old) out.old.items (K.taken sink.new) out.new.items (lines_text (map row_text rows.now))) }
-    ensures err { OnErr result (AppendsFront (K.taken sink.old) (K.taken sink.new) (out.old.items ++ lines_text (map row_text rows.now))) }
+    ensures err { OnErr result (AppendsPrefix (K.taken sink.old) (K.taken sink.new) (out.old.items ++ lines_text (map row_text rows.now))) }
     ensures write { (result ≡ Err ReportFault.Write) → Rises (K.faults sink.old) (K.faults sink.new) }
     ensures count { K.faults sink.old ≤ K.faults sink.new }
 {

@@ -55,7 +55,7 @@ fn row_cause_bytes(cause: RowCause) -> &'static [u8]
     }
 }
 
-/// Appends a number of 32 bits behind a space, or a dash.
+/// Appends a number of 32 bits after a space, or a dash.
 fn append_small(out: &mut Vec<u8>, number: Option<u32>) -> Result<(), NoMemory>
     ensures { OnOk result (out.new.items ≡ out.old.items ++ 32 ∷ number_or_dash number) }
 {

@@ -1,6 +1,6 @@
 // Scripts in their own spelling: the channel line, and a line for each event.
 ghost use Rattle.std.specs.Prelude.{◌≡◌, ◌≤◌, ◌++◌, ◌∷◌, [], Err, map, OnOk, OnErr};
-ghost use Rattle.gate_io.specs.Outside.{Appends, AppendsFront, Rises};
+ghost use Rattle.gate_io.specs.Outside.{Appends, AppendsPrefix, Rises};
 ghost use Rattle.script_text.specs.Output.{Passes};
 ghost use Rattle.script_text.specs.Spelling.{lines_text, script_of, stamped_text};
 
@@ -20,7 +20,7 @@ pub fn write_script<K: Sink>(
     sink: &mut K,
 ) -> Result<(), ReportFault>
     ensures ok { OnOk result (Appends (K.taken sink.old) (K.taken sink.new) (script_of target.now events.now)) }
-    ensures err { OnErr result (AppendsFront (K.taken sink.old) (K.taken sink.new) (script_of target.now events.now)) }
+    ensures err { OnErr result (AppendsPrefix (K.taken sink.old) (K.taken sink.new) (script_of target.now events.now)) }
     ensures write { (result ≡ Err ReportFault.Write) → Rises (K.faults sink.old) (K.faults sink.new) }
     ensures count { K.faults sink.old ≤ K.faults sink.new }
 {
@@ -40,7 +40,7 @@ fn append_stamped(alloc: Global, out: &mut Vec<u8>, stamped: &Stamped) -> Result
     Ok(())
 }
 
-/// Writes the lines of these events behind what waits.
+/// Writes the lines of these events after what waits.
 fn write_events<K: Sink>(
     alloc: Global,
     events: &[Stamped],
@@ -48,7 +48,7 @@ fn write_events<K: Sink>(
     sink: &mut K,
 ) -> Result<(), ReportFault>
     ensures ok { OnOk result (Passes (K.taken sink.old) out.old.items (K.taken sink.new) out.new.items (lines_text (map stamped_text events.now))) }
-    ensures err { OnErr result (AppendsFront (K.taken sink.old) (K.taken sink.new) (out.old.items ++ lines_text (map stamped_text events.now))) }
+    ensures err { OnErr result (AppendsPrefix (K.taken sink.old) (K.taken sink.new) (out.old.items ++ lines_text (map stamped_text events.now))) }
     ensures write { (result ≡ Err ReportFault.Write) → Rises (K.faults sink.old) (K.faults sink.new) }
     ensures count { K.faults sink.old ≤ K.faults sink.new }
 {

@@ -47,7 +47,7 @@ pub fn server_of(alloc: Global, lines: &str) -> Result<ServerCore, Fail> {
 }
 
 /// Hands bytes in, in pieces of at most so many; the code that broke the link, or 0.
-fn handed(server: &mut ServerCore, link: u32, bytes: &[u8], size: usize) -> Result<u32, Fail> {
+fn transferred(server: &mut ServerCore, link: u32, bytes: &[u8], size: usize) -> Result<u32, Fail> {
     for piece in bytes.chunks(size.max(1)) {
         match server.arrived(link, piece) {
             Ok(()) => {}
@@ -65,7 +65,7 @@ pub fn goes(alloc: Global, server: &mut ServerCore, line: &str, size: usize) -> 
     match word {
         "in" => {
             let bytes = bytes_of(alloc, rest)?;
-            Ok(handed(server, link.parse::<u32>()?, bytes.as_slice(), size)? == 0)
+            Ok(transferred(server, link.parse::<u32>()?, bytes.as_slice(), size)? == 0)
         }
         "out" => {
             let bytes = bytes_of(alloc, rest)?;
@@ -76,7 +76,7 @@ pub fn goes(alloc: Global, server: &mut ServerCore, line: &str, size: usize) -> 
             let (code, hex) = rest.split_once(' ').unwrap_or((rest, ""));
             let bytes = bytes_of(alloc, hex)?;
             let link = link.parse::<u32>()?;
-            Ok(handed(server, link, bytes.as_slice(), size)? == code.parse::<u32>()?)
+            Ok(transferred(server, link, bytes.as_slice(), size)? == code.parse::<u32>()?)
         }
         _ => Ok(true),
     }

@@ -15,7 +15,7 @@ struct Exchange {
     goes: &'static str,
 }
 
-/// The client's preface and SETTINGS, and a call of one message; its answer stands behind the acknowledgement and the windows.
+/// The client's preface and SETTINGS, and a call of one message; its answer stands after the acknowledgement and the windows.
 const UNARY: Exchange = Exchange {
     script: "answer /a.B/C 1 h,m6f6b,s0",
     comes: "505249202a20485454502f322e300d0a0d0a534d0d0a0d0a00000004000000000000000a010400000001838604062f612e422f4300000700010000000100000000026869",

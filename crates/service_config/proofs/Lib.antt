@@ -1,3 +1,3 @@
 pub mod Names
-pub mod Told
+pub mod Report
 pub mod Supported

@@ -1,4 +1,4 @@
--- Names are told apart by their keys.
+-- Names are distinguished by their keys.
 use Rattle.std.proofs.Common.{◌≡◌, ℕ, List, [], ◌∷◌, ◌++◌, refl, ap, ap₂, sym, subst, ◌∙◌, arith, Bool, true, false, drop, get_or, Vec, Global}
 use Rattle.std.specs.Prelude.{◌||◌, ◌&&◌, not, if◌then◌else◌, Ok, Err}
 use Rattle.std.specs.List.{list_any}

@@ -14,7 +14,7 @@ use Rattle.config_values.specs.declared.place.Object.TheVariants as object
 use Rattle.config_values.specs.declared.place.Place.TheVariants as place
 use Rattle.service_config.specs.Choice.{empty_config}
 use Rattle.service_config.specs.Entries.{methods_in}
-use Rattle.service_config.specs.Reading.{supported, supported_kind, policy_name, first_kind, kind_in, config_in, config_in_tree, config_at, config_of, told_by}
+use Rattle.service_config.specs.Reading.{supported, supported_kind, policy_name, first_kind, kind_in, config_in, config_in_tree, config_at, config_of, reported_by}
 
 -- the first of two choices has what both have
 pub or_has : (kinds : KindsSeen) (a b : Option Kind) → IfSome a (λ k. IsTrue (has_kind kinds k)) → IfSome b (λ k. IsTrue (has_kind kinds k))
@@ -60,4 +60,4 @@ empty_in_tree kinds has = rw has refl
 
 -- an empty object is read as the empty config
 pub empty_reads : (kinds : KindsSeen) → has_kind kinds kind.PickFirst ≡ true → config_of kinds (codes "{}") ≡ Ok empty_config
-empty_reads kinds has = ap (config_at kinds) empty_tree ∙ ap told_by (empty_in_tree kinds has)
+empty_reads kinds has = ap (config_at kinds) empty_tree ∙ ap reported_by (empty_in_tree kinds has)

@@ -91,7 +91,7 @@ read_entry i v =
     settings_in i fields >>= λ s.
     Ok (names, s)
 
--- entry i, behind those before
+-- entry i, after those before
 unfoldable pub entry_at : ℕ → List Method → Tree → Result (List Method) Fault
 entry_at i known v = read_entry i v >>= λ e. added_from i 0 e.1 known e.0
 
@@ -116,7 +116,7 @@ abbrev pub Gives : {X Y : Type 0} → (X → Y) → Result X Fault → Result Y 
 Gives view (Ok x) read = read ≡ Ok (view x)
 Gives view (Err e) read = Fails e read
 
--- a name as one text, in which a 1 stands before each byte of the service, and a 0 behind it
+-- a name as one text, in which a 1 stands before each byte of the service, and a 0 after it
 abbrev pub key_from : List ℕ → List ℕ → List ℕ
 key_from [] method = 0 ∷ method
 key_from (b ∷ service) method = 1 ∷ b ∷ key_from service method

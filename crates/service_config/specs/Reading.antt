@@ -8,11 +8,11 @@ use Rattle.grpc_base.specs.declared.kind.Kind.TheVariants as kind
 use Rattle.grpc_base.specs.declared.event.JsonFault.{JsonFault}
 use Rattle.grpc_base.specs.declared.event.JsonFault.TheVariants as json
 use Rattle.grpc_base.specs.declared.event.ConfigFault.{ConfigFault}
-use Rattle.grpc_base.specs.declared.event.ConfigFault.TheVariants as told
+use Rattle.grpc_base.specs.declared.event.ConfigFault.TheVariants as reported
 use Rattle.json_text.specs.Tree.{Tree}
 use Rattle.json_text.specs.Reading.{reading}
 use Rattle.json_text.specs.Parts.{values_in, members_in, text_in}
-use Rattle.config_values.specs.Places.{told_of}
+use Rattle.config_values.specs.Places.{reported_of}
 use Rattle.config_values.specs.Policies.{Fields, ◌>>=◌, found_at, optional, value_of, fields_at, throttle_in}
 use Rattle.service_config.specs.Entries.{methods_in}
 use Rattle.config_values.specs.declared.place.Field.TheVariants as field
@@ -68,33 +68,33 @@ config_in kinds fields =
     throttle_in fields >>= λ throttle.
     Ok (record { kind = kind; throttle = throttle; methods = methods })
 
--- a reading whose fault is told
-abbrev pub told_by : Result Config Fault → Result Config ConfigFault
-told_by (Ok c) = Ok c
-told_by (Err f) = Err (told_of f)
+-- a reading whose fault is reported
+abbrev pub reported_by : Result Config Fault → Result Config ConfigFault
+reported_by (Ok c) = Ok c
+reported_by (Err f) = Err (reported_of f)
 
 -- a JSON text always has an object at its top, so that it is never wrong as a whole
 unfoldable pub config_in_tree : KindsSeen → Tree → Result Config Fault
 config_in_tree kinds v = fields_at object.Config v >>= λ fields. config_in kinds fields
 
 abbrev pub config_at : KindsSeen → Result Tree JsonFault → Result Config ConfigFault
-config_at kinds (Ok v) = told_by (config_in_tree kinds v)
-config_at kinds (Err f) = Err (told.Json f)
+config_at kinds (Ok v) = reported_by (config_in_tree kinds v)
+config_at kinds (Err f) = Err (reported.Json f)
 
 -- the config of a text for these kinds, or its first fault
 abbrev pub config_of : KindsSeen → List ℕ → Result Config ConfigFault
 config_of kinds bytes = config_at kinds (reading bytes)
 
 -- a fault of the JSON text; want of memory is none of them
-abbrev pub json_told : JsonFault → ConfigFault
-json_told json.NoMemory = told.NoMemory
-json_told f = told.Json f
+abbrev pub json_reported : JsonFault → ConfigFault
+json_reported json.NoMemory = reported.NoMemory
+json_reported f = reported.Json f
 
 -- What a function returned is this, unless memory ran out.
 abbrev pub FailsBy : ConfigFault → Result Config ConfigFault → Type 0
-FailsBy told.NoMemory read = Unit {0}
+FailsBy reported.NoMemory read = Unit {0}
 FailsBy f read = read ≡ Err f
 
-abbrev pub Tells : Result Config ConfigFault → Result Config ConfigFault → Type 0
-Tells (Ok c) read = read ≡ Ok c
-Tells (Err e) read = FailsBy e read
+abbrev pub ReportsThat : Result Config ConfigFault → Result Config ConfigFault → Type 0
+ReportsThat (Ok c) read = read ≡ Ok c
+ReportsThat (Err e) read = FailsBy e read

@@ -17,7 +17,7 @@ use Rattle.config_values.specs.Codes.{failures}
 use Rattle.service_config.specs.declared.config.Config.{Config}
 use Rattle.service_config.specs.declared.config.Method.{Method}
 
--- words behind another, each behind one space
+-- words after another, each after one space
 abbrev pub spaced : List (List ℕ) → List ℕ
 spaced [] = []
 spaced (w ∷ ws) = 32 ∷ (w ++ spaced ws)
@@ -38,7 +38,7 @@ text_or_star (b ∷ bs) = b ∷ bs
 unfoldable pub name_text : List ℕ → List ℕ → List ℕ
 name_text service method = text_or_star service ++ 47 ∷ text_or_star method
 
--- the numbers of those of these codes that a set has, each behind a comma
+-- the numbers of those of these codes that a set has, each after a comma
 abbrev pub more_codes : CodesSeen → List Code → List ℕ
 more_codes set [] = []
 more_codes set (c ∷ cs) = if has_code set c then 44 ∷ (decimal (code_number c) ++ more_codes set cs) else more_codes set cs

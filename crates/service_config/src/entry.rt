@@ -121,7 +121,7 @@ fn read_entry<'a>(alloc: Global, entry: usize, value: &'a Json) -> Result<Entry<
     Ok(Entry { names, settings })
 }
 
-/// The names of an entry behind those before.
+/// The names of an entry after those before.
 fn with_names(alloc: Global, at: usize, known: Known, entry: Entry) -> Result<Known, Fault>
     ensures { Gives (λ k. k.methods.items) result (added_from at 0 entry.entry.settings known.methods.items (map name_seen entry.entry.names.items)) }
 {
@@ -133,7 +133,7 @@ fn with_names(alloc: Global, at: usize, known: Known, entry: Entry) -> Result<Kn
     Ok(known)
 }
 
-/// An entry behind those before.
+/// An entry after those before.
 #[tactic(auto, unfolding(crate::specs::Entries::entry_at))]
 pub fn with_entry(alloc: Global, at: usize, known: Known, value: &Json) -> Result<Known, Fault>
     ensures { Gives (λ k. k.methods.items) result (entry_at at known.methods.items (tree_of value.now)) }

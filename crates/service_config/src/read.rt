@@ -5,14 +5,16 @@ ghost use Rattle.json_text.specs.Views.{tree_of};
 ghost use Rattle.json_text.specs.Parts.{member_seen};
 ghost use Rattle.config_values.specs.Policies.{value_of};
 ghost use Rattle.service_config.specs.Entries.{Gives};
-ghost use Rattle.service_config.specs.Reading.{supported, supported_kind, only_name, policy_name, first_kind, named_kind, kind_by, kind_in, config_in, config_in_tree, json_told, config_of, Tells};
-ghost use Rattle.grpc_base.specs.declared.event.ConfigFault.TheVariants as told;
+ghost use Rattle.service_config.specs.Reading.{supported, supported_kind, only_name, policy_name, first_kind, named_kind, kind_by, kind_in, config_in, config_in_tree, json_reported, config_of, ReportsThat};
+ghost use Rattle.grpc_base.specs.declared.event.ConfigFault.TheVariants as reported;
 ghost use Rattle.grpc_base.specs.declared.event.JsonFault.TheVariants as json;
 ghost use Rattle.config_values.specs.declared.place.Field.TheVariants as field;
 
 use crate::config::Config;
 use crate::methods::methods_in;
-use config_values::{Fault, Field, Object, Place, fields_at, text, throttle_in, told, value_of};
+use config_values::{
+    Fault, Field, Object, Place, fields_at, reported, text, throttle_in, value_of,
+};
 use grpc_base::{ConfigFault, Items, JsonFault, Kind, KindSet, Text};
 use json_text::{Json, read_json};
 use std::alloc::Global;
@@ -124,8 +126,8 @@ fn config_in_tree(alloc: Global, kinds: KindSet, value: &Json) -> Result<Config,
 }
 
 /// A fault of the JSON text.
-fn json_told(fault: JsonFault) -> ConfigFault
-    ensures { result ≡ json_told fault }
+fn json_reported(fault: JsonFault) -> ConfigFault
+    ensures { result ≡ json_reported fault }
 {
     match fault {
         JsonFault::NoMemory => ConfigFault::NoMemory,
@@ -133,22 +135,22 @@ fn json_told(fault: JsonFault) -> ConfigFault
     }
 }
 
-/// Reads a service config, where these kinds of load balancing policy are supported, or tells its first fault. The
+/// Reads a service config, where these kinds of load balancing policy are supported, or reports its first fault. The
 /// tests go in this order: the JSON whole, the choice of the policy, each entry of `methodConfig`, the throttling.
-#[tactic(auto, using(crate::proofs::Told::json_tells, crate::proofs::Told::fault_tells))]
+#[tactic(auto, using(crate::proofs::Report::json_reports, crate::proofs::Report::fault_reports))]
 pub fn read_config(alloc: Global, bytes: &[u8], kinds: KindSet) -> Result<Config, ConfigFault>
-    // What is read, or which fault is told at which path; out of memory alone is free.
-    ensures exact { Tells result (config_of kinds bytes.now) }
+    // What is read, or which fault is reported at which path; out of memory alone is free.
+    ensures exact { ReportsThat result (config_of kinds bytes.now) }
     // The config's policy is one of those that are supported.
     ensures kind { IfOk result (λ c. IsTrue (has_kind kinds c.kind)) }
-    // Out of memory is never told as a fault of the JSON text.
-    ensures memory { result ≡ Err (told.Json json.NoMemory) → ⊥ }
+    // Out of memory is never reported as a fault of the JSON text.
+    ensures memory { result ≡ Err (reported.Json json.NoMemory) → ⊥ }
 {
     match read_json(alloc, bytes) {
         Ok(value) => match config_in_tree(alloc, kinds, &value) {
             Ok(config) => Ok(config),
-            Err(fault) => Err(told(alloc, fault)),
+            Err(fault) => Err(reported(alloc, fault)),
         },
-        Err(fault) => Err(json_told(fault)),
+        Err(fault) => Err(json_reported(fault)),
     }
 }

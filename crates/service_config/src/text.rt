@@ -30,7 +30,7 @@ const CODES: [Code; 17] = [
     Code::Unauthenticated,
 ];
 
-/// Appends a word behind a space.
+/// Appends a word after a space.
 fn append_word(out: &mut Vec<u8>, word: &[u8]) -> Result<(), NoMemory>
     ensures { OnOk result (out.new.items ≡ out.old.items ++ 32 ∷ word.now) }
 {
@@ -39,7 +39,7 @@ fn append_word(out: &mut Vec<u8>, word: &[u8]) -> Result<(), NoMemory>
     Ok(())
 }
 
-/// Appends a number behind a space.
+/// Appends a number after a space.
 fn append_number(out: &mut Vec<u8>, number: u64) -> Result<(), NoMemory>
     ensures { OnOk result (out.new.items ≡ out.old.items ++ 32 ∷ decimal number) }
 {
@@ -88,7 +88,7 @@ fn text_or_star(text: &[u8]) -> &[u8]
     }
 }
 
-/// Appends a name behind a space.
+/// Appends a name after a space.
 #[tactic(auto, unfolding(crate::specs::Text::name_text))]
 fn append_name(out: &mut Vec<u8>, service: &[u8], method: &[u8]) -> Result<(), NoMemory>
     ensures { OnOk result (out.new.items ≡ out.old.items ++ 32 ∷ name_text service.now method.now) }
@@ -99,7 +99,7 @@ fn append_name(out: &mut Vec<u8>, service: &[u8], method: &[u8]) -> Result<(), N
     Ok(())
 }
 
-/// Appends the numbers of those of these codes that the set has, each behind a comma.
+/// Appends the numbers of those of these codes that the set has, each after a comma.
 fn append_more(out: &mut Vec<u8>, set: &CodeSet, codes: &[Code]) -> Result<(), NoMemory>
     ensures { OnOk result (out.new.items ≡ out.old.items ++ more_codes set.now codes.now) }
 {
@@ -131,7 +131,7 @@ fn append_among(out: &mut Vec<u8>, set: &CodeSet, codes: &[Code]) -> Result<(), 
     Ok(())
 }
 
-/// Appends a set of codes behind a space.
+/// Appends a set of codes after a space.
 #[tactic(auto, unfolding(crate::specs::Text::set_text))]
 fn append_set(out: &mut Vec<u8>, set: &CodeSet) -> Result<(), NoMemory>
     ensures { OnOk result (out.new.items ≡ out.old.items ++ 32 ∷ set_text set.now) }
@@ -248,7 +248,7 @@ fn append_offset(out: &mut Vec<u8>, number: &[u8], at: u64) -> Result<(), NoMemo
     Ok(())
 }
 
-/// Appends a fault of a JSON text behind a space.
+/// Appends a fault of a JSON text after a space.
 fn append_json_fault(out: &mut Vec<u8>, fault: JsonFault) -> Result<(), NoMemory>
     ensures { OnOk result (out.new.items ≡ out.old.items ++ 32 ∷ json_fault_text fault) }
 {
@@ -271,7 +271,7 @@ fn append_two(out: &mut Vec<u8>, first: &[u8], second: &[u8]) -> Result<(), NoMe
     Ok(())
 }
 
-/// Appends a fault's number and what it names, each behind a space.
+/// Appends a fault's number and what it names, each after a space.
 pub fn append_fault(out: &mut Vec<u8>, fault: &ConfigFault) -> Result<(), NoMemory>
     ensures { OnOk result (out.new.items ≡ out.old.items ++ spaced (config_fault_words fault.now)) }
 {

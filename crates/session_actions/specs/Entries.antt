@@ -1,5 +1,5 @@
 -- Entry and clock: an event is posted and an entry begins; it is answered, the channel settles, and the entry is made. How a session is kept is the
--- channel's own: moments and random words are handed in. They serve "Connection Backoff Protocol" and gRFC A6, "Exponential Backoff".
+-- channel's own: moments and random words are passed in. They serve "Connection Backoff Protocol" and gRFC A6, "Exponential Backoff".
 -- Example: an event posted at 5 after an entry of moment 7 opens an entry of moment 7. A drain with room 65,536 needs room for 64 + 65,536 bytes;
 -- where it then gives 45 bytes, its entry counts 109.
 use Rattle.std.specs.Option.{option_map_or}

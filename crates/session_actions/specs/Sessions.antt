@@ -21,15 +21,6 @@ use Rattle.session_actions.specs.declared.seen.Setup.{Setup}
 use Rattle.session_actions.specs.declared.action.Action.TheVariants as action
 use Rattle.grpc_base.specs.declared.kind.Kind.TheVariants as kind
 
--- what a channel may be made with: an authority, and load balancing policies of which no two are of one kind and one is pick_first
-abbrev pub KindsDiffer : List PolicyKind → Type 0
-KindsDiffer kinds = (i j : ℕ) (p q : PolicyKind) → numbered kinds i ≡ Some p → numbered kinds j ≡ Some q → p.kind ≡ q.kind → i ≡ j
-
-pub record IsSetup (setup : Setup) : Type 0 where
-  pub authority : IsAuthority setup.authority
-  pub kinds_differ : KindsDiffer setup.policies
-  pub has_pick_first : (i : ℕ) × (p : PolicyKind) × (numbered setup.policies i ≡ Some p) × (p.kind ≡ kind.PickFirst)
-
 -- nothing has happened yet
 abbrev pub new_session : Setup → Seen
 new_session setup = record {
@@ -77,7 +68,7 @@ Does [] s t = t ≡ s
 Does (a ∷ actions) s t = IsNext a s × Does actions (after a s) t
 
 -- a journal and a ledger are those of a session. A step that finds the journal full, or no memory, makes no entry: it is no action, and the list is
--- that of the steps before it. It is asked of a setup that may be (`IsSetup`); a premise of the theorem, not a part of it
+-- that of the steps before it.
 pub record IsConsistent (setup : Setup) (entries : List Entry) (ledger : Ledger) : Type 0 where
   pub actions : List Action
   pub end : Seen

@@ -1,6 +1,6 @@
 -- What was read and written, as the contract of the program says it.
 use Rattle.std.proofs.Common.{ℕ, ◌<◌, ◌≡◌, Option, List, [], ◌∷◌, ◌++◌, inl, inr, length, refl, subst, take}
-use Rattle.gate_io.specs.Outside.{Appends, AppendsFront}
+use Rattle.gate_io.specs.Outside.{Appends, AppendsPrefix}
 use Rattle.grpc_base.specs.declared.event.Stamped.{Stamped}
 use Rattle.resolver_core.proofs.KeptLaws.{target_kept}
 use Rattle.resolver_core.specs.AnyTargets.{IsTarget}
@@ -10,7 +10,7 @@ use Rattle.script_input.specs.Scripts.{AreLines, script_reads}
 use Rattle.script_input.specs.declared.form.Form.{Form}
 use Rattle.session_actions_run.specs.Reports.{IsDone, IsFirstReport, IsOutput, IsReport, IsScriptReport, StopsLong, stopped_text}
 use Rattle.session_text.proofs.SessionLaws.{wrote_both, wrote_first, wrote_some}
-use Rattle.session_text.specs.Writing.{WritesAll, WritesFront, WritesSome}
+use Rattle.session_text.specs.Writing.{WritesAll, WritesPrefix, WritesSome}
 
 -- the target of a script that was read is one
 target_of_lines : (f : Form) (texts : List (List ℕ)) (target : List ℕ) (value : Target) (events : List Stamped) → AreLines f 1 texts (script_reads target value events) → IsTarget value
@@ -32,13 +32,13 @@ pub report_output : (f : Form) (left left' : Option (List ℕ)) (target : List �
 report_output f left left' target value events text read (inl report) = inl (inl (report_done f left left' target value events text read report))
 report_output f left left' target value events text read (inr report) = inl (inr (report_stops f left left' target value events text read report))
 
--- ---- the report of the first events, and the line behind it
+-- ---- the report of the first events, and the line after it
 
-first_report : (target : List ℕ) (value : Target) (events first : List Stamped) (front : List ℕ) → 4096 < length events → first ≡ take 4096 events → IsReport target value first front → IsFirstReport target value events (front ++ stopped_text)
-first_report target value events first front long is report = record {
+first_report : (target : List ℕ) (value : Target) (events first : List Stamped) (prefix : List ℕ) → 4096 < length events → first ≡ take 4096 events → IsReport target value first prefix → IsFirstReport target value events (prefix ++ stopped_text)
+first_report target value events first prefix long is report = record {
   long = long;
-  front = front;
-  report = subst (λ (xs : List Stamped). IsReport target value xs front) is report;
+  prefix = prefix;
+  report = subst (λ (xs : List Stamped). IsReport target value xs prefix) is report;
   text_is = refl;
 }
 
@@ -47,16 +47,16 @@ pub first_written : (target : List ℕ) (value : Target) (events first : List St
 first_written target value events first a b c long is all second =
     (all.0 ++ stopped_text, first_report target value events first all.0 long is all.1, wrote_both a b c all.0 stopped_text all.2 second)
 
--- the report, and a front of the line
-pub first_front : (target : List ℕ) (value : Target) (events first : List Stamped) (a b c : Option (List ℕ)) → 4096 < length events → first ≡ take 4096 events → WritesAll (IsReport target value first) a b → AppendsFront b c stopped_text → WritesFront (IsFirstReport target value events) a c
-first_front target value events first a b c long is all second =
+-- the report, and a prefix of the line
+pub first_prefix : (target : List ℕ) (value : Target) (events first : List Stamped) (a b c : Option (List ℕ)) → 4096 < length events → first ≡ take 4096 events → WritesAll (IsReport target value first) a b → AppendsPrefix b c stopped_text → WritesPrefix (IsFirstReport target value events) a c
+first_prefix target value events first a b c long is all second =
     (all.0 ++ stopped_text, first_report target value events first all.0 long is all.1, wrote_first a b c all.0 stopped_text all.2 second)
 
--- a front of the report
-pub first_part : (target : List ℕ) (value : Target) (events first : List Stamped) (a b : Option (List ℕ)) → 4096 < length events → first ≡ take 4096 events → WritesFront (IsReport target value first) a b → WritesFront (IsFirstReport target value events) a b
-first_part target value events first a b long is front =
-    (front.0 ++ stopped_text, first_report target value events first front.0 long is front.1, wrote_some a b front.0 stopped_text front.2)
+-- a prefix of the report
+pub first_part : (target : List ℕ) (value : Target) (events first : List Stamped) (a b : Option (List ℕ)) → 4096 < length events → first ≡ take 4096 events → WritesPrefix (IsReport target value first) a b → WritesPrefix (IsFirstReport target value events) a b
+first_part target value events first a b long is prefix =
+    (prefix.0 ++ stopped_text, first_report target value events first prefix.0 long is prefix.1, wrote_some a b prefix.0 stopped_text prefix.2)
 
 pub first_some : (target : List ℕ) (value : Target) (events first : List Stamped) (a b : Option (List ℕ)) → 4096 < length events → first ≡ take 4096 events → WritesSome (IsReport target value first) a b → WritesSome (IsFirstReport target value events) a b
 first_some target value events first a b long is (inl same) = inl same
-first_some target value events first a b long is (inr front) = inr (first_part target value events first a b long is front)
+first_some target value events first a b long is (inr prefix) = inr (first_part target value events first a b long is prefix)

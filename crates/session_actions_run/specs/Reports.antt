@@ -29,16 +29,16 @@ pub record IsReport (target : List ℕ) (value : Target) (events : List Stamped)
   pub session : IsSessionOf (setup_of value) events journal.entries ledger
   pub text_is : text ≡ report_of target journal ledger
 
--- the line behind the report of the first events, where there are more than are computed
+-- the line after the report of the first events, where there are more than are computed
 abbrev pub stopped_text : List ℕ
 stopped_text = codes "stopped after 4096 entries" ++ 10 ∷ []
 
 -- more events than are computed: the text is the report of the first of them, and that line
 pub record IsFirstReport (target : List ℕ) (value : Target) (events : List Stamped) (text : List ℕ) : Type 0 where
   pub long : 4096 < length events
-  pub front : List ℕ
-  pub report : IsReport target value (take 4096 events) front
-  pub text_is : text ≡ front ++ stopped_text
+  pub prefix : List ℕ
+  pub report : IsReport target value (take 4096 events) prefix
+  pub text_is : text ≡ prefix ++ stopped_text
 
 -- what is written of a script
 abbrev pub IsScriptReport : List ℕ → Target → List Stamped → List ℕ → Type 0
@@ -68,8 +68,8 @@ pub record StopsLong (f : Form) (left left' : Option (List ℕ)) (text : List �
   pub script : ReadsScript f left left' target value events
   pub report : IsFirstReport target value events text
 
--- status 3: the text tells the first bad line
-pub record TellsBadLine (f : Form) (left left' : Option (List ℕ)) (text : List ℕ) : Type 0 where
+-- status 3: the text reports the first bad line
+pub record ReportsBadLine (f : Form) (left left' : Option (List ℕ)) (text : List ℕ) : Type 0 where
   pub line : ℕ
   pub cause : ℕ
   pub bad : FindsBad f left left' line cause
@@ -77,7 +77,7 @@ pub record TellsBadLine (f : Form) (left left' : Option (List ℕ)) (text : List
 
 -- the output of the program: that of status 0, 7 or 3
 abbrev pub IsOutput : Form → Option (List ℕ) → Option (List ℕ) → List ℕ → Type 0
-IsOutput f left left' text = (IsDone f left left' text ⊎ StopsLong f left left' text) ⊎ TellsBadLine f left left' text
+IsOutput f left left' text = (IsDone f left left' text ⊎ StopsLong f left left' text) ⊎ ReportsBadLine f left left' text
 
 -- status 4: a read failed before the input's end and before its first bad line; nothing was written
 pub record StopsAtRead (f : Form) (left left' taken taken' : Option (List ℕ)) (faults faults' : ℕ) : Type 0 where

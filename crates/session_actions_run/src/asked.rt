@@ -12,7 +12,7 @@ pub enum Asked {
     Actions(Form),
 }
 
-/// What the words behind the program's name ask for, if each is known.
+/// What the words after the program's name ask for, if each is known.
 pub fn read_words<R: Env + AllocGlobal>(rt: &R) -> Option<Asked> {
     let Ok(mut words) = args(rt) else {
         return None;

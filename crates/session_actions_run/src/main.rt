@@ -20,11 +20,11 @@ use std::alloc::Global;
 use std::io;
 use std::process::ExitCode;
 
-/// What is told of words that are not known.
+/// What is reported of words that are not known.
 const WORDS_FAULT: &[u8] = b"fault words\n";
 
-/// Tells that a word is not known, and gives the status of the program.
-fn tell_words<K: Sink>(sink: &mut K) -> u8 {
+/// Reports that a word is not known, and gives the status of the program.
+fn report_words<K: Sink>(sink: &mut K) -> u8 {
     match write_text(sink, WORDS_FAULT) {
         Ok(()) => 2,
         Err(fault) => unwritten(fault),
@@ -38,7 +38,7 @@ fn main(rt: HostRuntime) -> ExitCode {
     let status = match read_words(&rt) {
         Some(Asked::Report(form)) => run_script(alloc, form, &mut source, &mut sink),
         Some(Asked::Actions(form)) => print_actions(&rt, alloc, form, &mut source, &mut sink),
-        None => tell_words(&mut sink),
+        None => report_words(&mut sink),
     };
     ExitCode::from(status)
 }

@@ -1,7 +1,7 @@
 // The actions of a script's session, entry by entry.
 ghost use Rattle.std.specs.Prelude.{◌≡◌, ◌<◌, ◌⊎◌, length};
 ghost use Rattle.resolver_core.specs.AnyTargets.{IsTarget};
-ghost use Rattle.session_actions_run.specs.Reports.{IsLong, StopsAtRead, TellsBadLine};
+ghost use Rattle.session_actions_run.specs.Reports.{IsLong, StopsAtRead, ReportsBadLine};
 ghost use Rattle.session_text.specs.Writing.{WritesAll};
 
 use crate::input::read_script;
@@ -13,7 +13,7 @@ use grpc_base::{Conn, NoMemory, Stamped};
 use resolver_core::Target;
 use script_input::{Form, InputFault, Script};
 use session_actions::{Action, Seen};
-use session_text::tell_bad;
+use session_text::report_bad;
 use slow_attempts::last_of;
 use slow_session::{after, may_open, new_session, next_action};
 use std::alloc::Global;
@@ -52,7 +52,7 @@ pub fn print_actions<R: Print, S: Source, K: Sink>(
     source: &mut S,
     sink: &mut K,
 ) -> u8
-    ensures line { result ≡ 3 → WritesAll (TellsBadLine form (S.left source.old) (S.left source.new)) (K.taken sink.old) (K.taken sink.new) }
+    ensures line { result ≡ 3 → WritesAll (ReportsBadLine form (S.left source.old) (S.left source.new)) (K.taken sink.old) (K.taken sink.new) }
     ensures reading { result ≡ 4 → StopsAtRead form (S.left source.old) (S.left source.new) (K.taken sink.old) (K.taken sink.new) (S.faults source.old) (S.faults source.new) }
     ensures long { result ≡ 7 → IsLong form (S.left source.old) (S.left source.new) }
     ensures known { (result ≡ 0) ⊎ (result ≡ 3) ⊎ (result ≡ 4) ⊎ (result ≡ 5) ⊎ (result ≡ 6) ⊎ (result ≡ 7) }
@@ -61,7 +61,7 @@ pub fn print_actions<R: Print, S: Source, K: Sink>(
         Ok(read) => print_script(rt, alloc, read),
         Err(fault) => match fault {
             InputFault::Empty => 0,
-            InputFault::BadLine { line, cause } => tell_bad(alloc, line, cause, sink),
+            InputFault::BadLine { line, cause } => report_bad(alloc, line, cause, sink),
             InputFault::ReadFailed => 4,
             InputFault::NoMemory => 6,
         },

@@ -3,7 +3,7 @@ ghost use Rattle.std.specs.Prelude.{◌≡◌, ◌<◌, ◌≤◌, Err, IfOk, On
 ghost use Rattle.gate_io.specs.Outside.{Rises};
 ghost use Rattle.resolver_core.specs.AnyTargets.{IsTarget};
 ghost use Rattle.session_actions_run.specs.Reports.{IsFirstReport, IsReport, setup_of};
-ghost use Rattle.session_text.specs.Writing.{WritesAll, WritesFront, WritesSome};
+ghost use Rattle.session_text.specs.Writing.{WritesAll, WritesPrefix, WritesSome};
 ghost use Rattle.slow_session.specs.Plays.{IsSessionOf};
 
 use crate::setup::setup_of;
@@ -18,7 +18,7 @@ use std::alloc::Global;
 /// The most events of a script that are computed: each action reads all that happened before it, so the time grows with the square of them, and more.
 pub const MOST_EVENTS: usize = 4096;
 
-/// The line behind the report of the first events.
+/// The line after the report of the first events.
 const STOPPED: &[u8] = b"stopped after 4096 entries\n";
 
 /// The journal and the ledger of the session of these events, on a channel of this target.
@@ -41,7 +41,7 @@ pub fn write_session<K: Sink>(
     requires { IsTarget value.now }
     ensures ok { OnOk result (WritesAll (IsReport target.now value.now events.items) (K.taken sink.old) (K.taken sink.new)) }
     ensures err { OnErr result (WritesSome (IsReport target.now value.now events.items) (K.taken sink.old) (K.taken sink.new)) }
-    ensures write { (result ≡ Err ReportFault.Write) → Rises (K.faults sink.old) (K.faults sink.new) × WritesFront (IsReport target.now value.now events.items) (K.taken sink.old) (K.taken sink.new) }
+    ensures write { (result ≡ Err ReportFault.Write) → Rises (K.faults sink.old) (K.faults sink.new) × WritesPrefix (IsReport target.now value.now events.items) (K.taken sink.old) (K.taken sink.new) }
     ensures count { K.faults sink.old ≤ K.faults sink.new }
 {
     let report = session_of(alloc, value, events)?;
@@ -60,7 +60,7 @@ pub fn write_first<K: Sink>(
     requires long { 4096 < length events.items }
     ensures ok { OnOk result (WritesAll (IsFirstReport target.now value.now events.items) (K.taken sink.old) (K.taken sink.new)) }
     ensures err { OnErr result (WritesSome (IsFirstReport target.now value.now events.items) (K.taken sink.old) (K.taken sink.new)) }
-    ensures write { (result ≡ Err ReportFault.Write) → Rises (K.faults sink.old) (K.faults sink.new) × WritesFront (IsFirstReport target.now value.now events.items) (K.taken sink.old) (K.taken sink.new) }
+    ensures write { (result ≡ Err ReportFault.Write) → Rises (K.faults sink.old) (K.faults sink.new) × WritesPrefix (IsFirstReport target.now value.now events.items) (K.taken sink.old) (K.taken sink.new) }
 {
     let mut first = events;
     first.truncate(MOST_EVENTS);

@@ -17,7 +17,7 @@ use Rattle.session_order.proofs.Begun.{numbered_more}
 use Rattle.session_order.proofs.Boards.{goes_on}
 use Rattle.session_order.proofs.Changed.{none_more}
 use Rattle.session_order.proofs.Ended.{none_less}
-use Rattle.session_order.specs.Calm.{IsStill, can_follow, is_link_new, is_to_follow_pick, is_unplaced}
+use Rattle.session_order.specs.Quiescent.{IsStill, can_follow, is_link_new, is_to_follow_pick, is_unplaced}
 use Rattle.session_order.specs.Laws.{StirsOnly}
 use Rattle.session_order.specs.Stirs.{IsAddable}
 use Rattle.session_order.specs.declared.line.Line.{Line}

@@ -15,7 +15,7 @@ use Rattle.session_actions.specs.declared.subchannel.Subchannel.{Subchannel}
 use Rattle.session_order.proofs.Aside.{aside_final, aside_request}
 use Rattle.session_order.proofs.Boards.{goes_on, sub_pick, with_sub_current}
 use Rattle.session_order.proofs.Changed.{none_changed}
-use Rattle.session_order.specs.Calm.{IsStill, is_link_new}
+use Rattle.session_order.specs.Quiescent.{IsStill, is_link_new}
 use Rattle.session_order.specs.Laws.{LeavesApart}
 use Rattle.session_order.specs.Lines.{is_of_policies}
 use Rattle.session_order.specs.declared.line.Line.{Line}

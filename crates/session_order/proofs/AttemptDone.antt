@@ -27,12 +27,12 @@ use Rattle.session_actions.specs.declared.seen.Seen.{Seen}
 use Rattle.session_order.proofs.Aside.{aside_request}
 use Rattle.session_order.proofs.Boards.{goes_on}
 use Rattle.session_order.proofs.Changed.{any_changed, changed_away, changed_map, none_changed}
-use Rattle.session_order.proofs.Ended.{narrower, none_less}
+use Rattle.session_order.proofs.Ended.{stronger, none_less}
 use Rattle.session_order.proofs.Entered.{moved_to}
 use Rattle.session_order.proofs.Lasts.{last_changed, none_before, read_before}
 use Rattle.session_order.proofs.Lists.{any_same, holds_same}
 use Rattle.session_order.proofs.Queues.{drawn_as, marked_still, turned}
-use Rattle.session_order.specs.Calm.{IsStill, can_follow, has_outstanding, is_overflowing, is_to_cut, is_to_end, is_to_follow_pick, is_unplaced}
+use Rattle.session_order.specs.Quiescent.{IsStill, can_follow, has_outstanding, is_overflowing, is_to_cut, is_to_end, is_to_follow_pick, is_unplaced}
 use Rattle.session_order.specs.Laws.{StirsOnly}
 use Rattle.session_order.specs.Stirs.{stirs}
 use Rattle.session_order.specs.declared.line.Line.{Line}
@@ -99,11 +99,11 @@ module _ (s : Seen) (n : ℕ) (e : RowEnd) where
   overflow_one : (c : Call) → is_overflowing s c ≡ false → is_overflowing t c ≡ false
   overflow_one c h =
       ap (λ (b : Bool). (b && nat_lt 262144 (accepted_bytes c)) && has_outstanding c t) (free_same c)
-      ∙ narrower (is_free_call s c && nat_lt 262144 (accepted_bytes c)) (has_outstanding c s) (has_outstanding c t) (going_none c) h
+      ∙ stronger (is_free_call s c && nat_lt 262144 (accepted_bytes c)) (has_outstanding c s) (has_outstanding c t) (going_none c) h
 
   response_one : (c : Call) → has_long_response s c ≡ false → has_long_response t c ≡ false
   response_one c h =
-      narrower (is_open_call c) (holds (λ (k : Attempt). is_outstanding k && (response k s).large) (commitment c s))
+      stronger (is_open_call c) (holds (λ (k : Attempt). is_outstanding k && (response k s).large) (commitment c s))
       (holds (λ (k : Attempt). is_outstanding k && (response k s).large) (commitment c t))
       (none_before done (λ (k : Attempt). is_outstanding k && (response k s).large) (λ k. no_more (is_some k.row.placed) (response (done k) s).large)
       (commitment c s) (commitment c t) (last_changed (is_commitment c) done (λ k. refl) n s.attempts)) h

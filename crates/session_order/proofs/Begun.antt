@@ -30,7 +30,7 @@ use Rattle.session_order.proofs.Finals.{final_same, holds_in}
 use Rattle.session_order.proofs.Limits.{headed_in, limits_reset, long_response, outcome_same}
 use Rattle.session_order.proofs.Lists.{any_in, any_same, holds_same}
 use Rattle.session_order.proofs.Posts.{IsPlain, plain_answered}
-use Rattle.session_order.specs.Calm.{IsStill, has_outstanding, is_overflowing, is_to_cut, is_to_end}
+use Rattle.session_order.specs.Quiescent.{IsStill, has_outstanding, is_overflowing, is_to_cut, is_to_end}
 use Rattle.session_order.specs.Laws.{StirsOnly}
 use Rattle.session_order.specs.Stirs.{HaveCalls}
 use Rattle.session_order.specs.declared.line.Line.{Line}

@@ -20,7 +20,7 @@ use Rattle.session_order.proofs.Changed.{any_changed_at, lookup, none_changed, p
 use Rattle.session_order.proofs.Lists.{any_same, holds_same, some_find}
 use Rattle.session_order.proofs.Noted.{failed_in_notes, noted_add, noted_begin, noted_drop, noted_give, noted_retire, notes_are, noting}
 use Rattle.session_order.proofs.Posts.{plain_answered, plain_as, plain_failed, wanted_still}
-use Rattle.session_order.specs.Calm.{IsStill, can_follow, is_link_new, is_to_follow_pick, is_unplaced}
+use Rattle.session_order.specs.Quiescent.{IsStill, can_follow, is_link_new, is_to_follow_pick, is_unplaced}
 use Rattle.session_order.specs.Laws.{StirsOnly}
 use Rattle.session_order.specs.declared.line.Line.{Line}
 use Rattle.session_actions.specs.declared.action.Action.TheVariants as action

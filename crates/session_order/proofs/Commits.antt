@@ -27,10 +27,10 @@ use Rattle.session_actions.specs.declared.seen.Seen.{Seen}
 use Rattle.session_order.proofs.Aside.{aside_request}
 use Rattle.session_order.proofs.Boards.{goes_on}
 use Rattle.session_order.proofs.Changed.{any_changed, lookup, none_changed, none_from, passes_not}
-use Rattle.session_order.proofs.Ended.{narrower, none_less}
+use Rattle.session_order.proofs.Ended.{stronger, none_less}
 use Rattle.session_order.proofs.Lists.{any_same, holds_same, or_none}
 use Rattle.session_order.proofs.Placings.{current_if, marked_if, not_final}
-use Rattle.session_order.specs.Calm.{IsStill, can_follow, has_outstanding, is_overflowing, is_to_end, is_to_follow_pick, is_to_reset, is_unplaced}
+use Rattle.session_order.specs.Quiescent.{IsStill, can_follow, has_outstanding, is_overflowing, is_to_end, is_to_follow_pick, is_to_reset, is_unplaced}
 use Rattle.session_order.specs.Laws.{StirsButFinal}
 use Rattle.session_order.specs.Stirs.{IsCommittable, stirs}
 use Rattle.session_order.specs.declared.line.Line.{Line}
@@ -131,7 +131,7 @@ module _ (s : Seen) (n e : ℕ) (fits : IsCommittable n s) where
   none_by c false f h = ap (λ (o : Option Attempt). is_none o) (other c f) ∙ h
 
   free_less : (c : Call) → is_free_call s c ≡ false → is_free_call t c ≡ false
-  free_less c = narrower (is_none c.end) (is_none (commitment c s)) (is_none (commitment c t)) (none_by c (is_of c fits.attempt) refl)
+  free_less c = stronger (is_none c.end) (is_none (commitment c s)) (is_none (commitment c t)) (none_by c (is_of c fits.attempt) refl)
 
   followed_same : (a : Attempt) → is_followed a t ≡ is_followed a s
   followed_same a = any_changed (is_later_of a) put (λ q. refl) n s.attempts
@@ -151,7 +151,7 @@ module _ (s : Seen) (n e : ℕ) (fits : IsCommittable n s) where
   wants_less : (a : Attempt) (d : RowEnd) → wants_follower_by a s d ≡ false → wants_follower_by a t d ≡ false
   wants_less a d h =
       ap (λ (b : Bool). not b && holds (λ (c : Call). is_to_follow c d.cause d.unseen t) (numbered s.calls a.row.call)) (followed_same a)
-      ∙ narrower (not (is_followed a s)) (holds (λ (c : Call). is_to_follow c d.cause d.unseen s) (numbered s.calls a.row.call))
+      ∙ stronger (not (is_followed a s)) (holds (λ (c : Call). is_to_follow c d.cause d.unseen s) (numbered s.calls a.row.call))
       (holds (λ (c : Call). is_to_follow c d.cause d.unseen t) (numbered s.calls a.row.call))
       (holds_less (λ (c : Call). is_to_follow c d.cause d.unseen s) (λ (c : Call). is_to_follow c d.cause d.unseen t) (λ c. follow_less c d.cause d.unseen)
       (numbered s.calls a.row.call)) h
@@ -178,7 +178,7 @@ module _ (s : Seen) (n e : ℕ) (fits : IsCommittable n s) where
 
   heir_one : (i : ℕ) (a : Attempt) → numbered s.attempts i ≡ Some a → is_inherited s a ≡ false → is_inherited t a ≡ false
   heir_one i a here =
-      narrower (is_none a.row.committed) (holds (is_inherited_in a s) (numbered s.calls a.row.call)) (holds (is_inherited_in a t) (numbered s.calls a.row.call))
+      stronger (is_none a.row.committed) (holds (is_inherited_in a s) (numbered s.calls a.row.call)) (holds (is_inherited_in a t) (numbered s.calls a.row.call))
       (heir_of i a here (numbered s.calls a.row.call) refl)
 
   overflow_one : (c : Call) → is_overflowing s c ≡ false → is_overflowing t c ≡ false
@@ -190,7 +190,7 @@ module _ (s : Seen) (n e : ℕ) (fits : IsCommittable n s) where
 
   head_one : (a : Attempt) → is_headed s a ≡ false → is_headed t a ≡ false
   head_one a =
-      narrower (is_outstanding a) (holds (has_head_in a s) (numbered s.calls a.row.call)) (holds (has_head_in a t) (numbered s.calls a.row.call))
+      stronger (is_outstanding a) (holds (has_head_in a s) (numbered s.calls a.row.call)) (holds (has_head_in a t) (numbered s.calls a.row.call))
       (holds_less (has_head_in a s) (has_head_in a t)
       (λ c. left_less (is_free_call s c) (is_free_call t c) (is_some (response a s).head) (free_less c)) (numbered s.calls a.row.call))
 

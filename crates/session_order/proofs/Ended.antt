@@ -30,9 +30,9 @@ use Rattle.session_order.proofs.Changed.{changed_away, changed_map, changed_twic
 use Rattle.session_order.proofs.Finals.{final_same}
 use Rattle.session_order.proofs.Limits.{headed_in, limits_reset, long_response, outcome_same}
 use Rattle.session_order.proofs.Lists.{any_same, holds_same}
-use Rattle.session_order.specs.Calm.{IsStill, is_overflowing, is_to_end}
+use Rattle.session_order.specs.Quiescent.{IsStill, is_overflowing, is_to_end}
 use Rattle.session_order.specs.Laws.{StirsOnly}
-use Rattle.session_order.specs.Stirs.{AreNumbered, stirs}
+use Rattle.session_order.specs.Stirs.{CallsHaveTheirNumbers, stirs}
 use Rattle.session_order.specs.declared.line.Line.{Line}
 use Rattle.session_actions.specs.declared.action.Action.TheVariants as action
 use Rattle.session_order.specs.declared.line.Line.TheVariants as line
@@ -41,16 +41,16 @@ use Rattle.session_actions.specs.declared.call.MarkKind.TheVariants as mark
 -- a test that asks for less
 pub none_less : {X : Type 0} (test wide : X → Bool) → ((x : X) → wide x ≡ false → test x ≡ false) → (xs : List X) → list_any wide xs ≡ false
     → list_any test xs ≡ false
-none_less test wide narrow [] e = refl
-none_less test wide narrow (x ∷ xs) e =
+none_less test wide restricted [] e = refl
+none_less test wide restricted (x ∷ xs) e =
     let parts : (wide x ≡ false) × (list_any wide xs ≡ false) = or_parts (wide x) (list_any wide xs) e in
-    or_from (test x) (list_any test xs) (narrow x parts.0) (none_less test wide narrow xs parts.1)
+    or_from (test x) (list_any test xs) (restricted x parts.0) (none_less test wide restricted xs parts.1)
 
-pub narrower : (x p q : Bool) → (p ≡ false → q ≡ false) → (x && p) ≡ false → (x && q) ≡ false
-narrower true p q turn e = turn e
-narrower false p q turn e = refl
+pub stronger : (x p q : Bool) → (p ≡ false → q ≡ false) → (x && p) ≡ false → (x && q) ≡ false
+stronger true p q turn e = turn e
+stronger false p q turn e = refl
 
-module _ (s : Seen) (n : ℕ) (marks : Call → List Mark) (end : CallEnd) (numbers : AreNumbered s) where
+module _ (s : Seen) (n : ℕ) (marks : Call → List Mark) (end : CallEnd) (numbers : CallsHaveTheirNumbers s) where
   abbrev over_now : Call → Call
   over_now c = record c { marks = marks c; end = Some end }
 
@@ -97,7 +97,7 @@ module _ (s : Seen) (n : ℕ) (marks : Call → List Mark) (end : CallEnd) (numb
   inherited_still : list_any (is_inherited s) s.attempts ≡ false → list_any (is_inherited t) s.attempts ≡ false
   inherited_still h =
       none_less (is_inherited t) (is_inherited s)
-      (λ a. narrower (is_none a.row.committed) (holds (is_inherited_in a s) (numbered s.calls a.row.call)) (holds (is_inherited_in a s) (numbered cs a.row.call))
+      (λ a. stronger (is_none a.row.committed) (holds (is_inherited_in a s) (numbered s.calls a.row.call)) (holds (is_inherited_in a s) (numbered cs a.row.call))
       (ends_at (is_inherited_in a s) (λ c. refl) a.row.call)) s.attempts h
 
   row_same : (c : Call) → is_over_by_row t c ≡ is_over_by_row s c
@@ -150,7 +150,7 @@ module _ (s : Seen) (n : ℕ) (marks : Call → List Mark) (end : CallEnd) (numb
   head_still : list_any (is_headed s) s.attempts ≡ false → list_any (is_headed t) s.attempts ≡ false
   head_still h =
       none_less (is_headed t) (is_headed s)
-      (λ a. narrower (is_outstanding a) (holds (has_head_in a s) (numbered s.calls a.row.call)) (holds (has_head_in a t) (numbered cs a.row.call))
+      (λ a. stronger (is_outstanding a) (holds (has_head_in a s) (numbered s.calls a.row.call)) (holds (has_head_in a t) (numbered cs a.row.call))
       (λ e. holds_same (has_head_in a t) (has_head_in a s) (headed_in s cs limit_same a) (numbered cs a.row.call)
       ∙ ends_at (has_head_in a s) (λ c. refl) a.row.call e)) s.attempts h
 

@@ -22,7 +22,7 @@ use Rattle.session_actions.specs.declared.seen.Seen.{Seen}
 use Rattle.session_order.proofs.Aside.{aside_final, aside_request}
 use Rattle.session_order.proofs.Lists.{any_same, holds_same, some_map}
 use Rattle.session_order.proofs.Limits.{then_same}
-use Rattle.session_order.specs.Calm.{IsStill, can_follow, is_to_follow_pick, is_to_reset, is_unplaced, lacks_kind}
+use Rattle.session_order.specs.Quiescent.{IsStill, can_follow, is_to_follow_pick, is_to_reset, is_unplaced, lacks_kind}
 use Rattle.session_order.specs.declared.line.Line.{Line}
 use Rattle.session_order.specs.declared.line.Line.TheVariants as line
 
@@ -82,10 +82,10 @@ none_each test never (x ∷ xs) = or_from (test x) (list_any test xs) (never x) 
 
 none_less : {X : Type 0} (test wide : X → Bool) → ((x : X) → wide x ≡ false → test x ≡ false) → (xs : List X) → list_any wide xs ≡ false
     → list_any test xs ≡ false
-none_less test wide narrow [] e = refl
-none_less test wide narrow (x ∷ xs) e =
+none_less test wide restricted [] e = refl
+none_less test wide restricted (x ∷ xs) e =
     let parts : (wide x ≡ false) × (list_any wide xs ≡ false) = or_parts (wide x) (list_any wide xs) e in
-    or_from (test x) (list_any test xs) (narrow x parts.0) (none_less test wide narrow xs parts.1)
+    or_from (test x) (list_any test xs) (restricted x parts.0) (none_less test wide restricted xs parts.1)
 
 -- less is asked of a call, and of a policy
 less_long : (free long other now : Bool) → now ≡ false → (free && (long || other)) ≡ false → (free && (long || now)) ≡ false

@@ -26,7 +26,7 @@ use Rattle.session_order.proofs.Boards.{goes_on}
 use Rattle.session_order.proofs.Changed.{changed_away, changed_map}
 use Rattle.session_order.proofs.Limits.{then_same}
 use Rattle.session_order.proofs.Lists.{any_in}
-use Rattle.session_order.specs.Calm.{IsStill, is_to_reset}
+use Rattle.session_order.specs.Quiescent.{IsStill, is_to_reset}
 use Rattle.session_order.specs.Laws.{StirsOnly}
 use Rattle.session_order.specs.Stirs.{SawLess, stirs}
 use Rattle.session_order.specs.declared.line.Line.{Line}

@@ -4,7 +4,7 @@ pub mod Aside
 pub mod AttemptDone
 pub mod Begun
 pub mod Boards
-pub mod Calms
+pub mod Quiescence
 pub mod Changed
 pub mod Commits
 pub mod ConfigStirs
@@ -25,10 +25,10 @@ pub mod Places
 pub mod Placings
 pub mod Posts
 pub mod Queues
-pub mod Rests
+pub mod AtRest
 pub mod SessionLaws
 pub mod StreamResets
-pub mod Told
+pub mod Report
 pub mod Turns
 pub mod UpLinks
 pub mod Waits

@@ -18,7 +18,7 @@ use Rattle.session_actions.specs.declared.link.Link.{Link}
 use Rattle.session_actions.specs.declared.response.Response.{Response}
 use Rattle.session_actions.specs.declared.seen.Seen.{Seen}
 use Rattle.session_order.proofs.Lists.{any_same, holds_same}
-use Rattle.session_order.specs.Calm.{is_to_reset}
+use Rattle.session_order.specs.Quiescent.{is_to_reset}
 
 -- two functions that agree
 pub then_same : {X Y : Type 0} (g h : X → Option Y) → ((x : X) → g x ≡ h x) → (o : Option X) → option_and_then g o ≡ option_and_then h o

@@ -27,7 +27,7 @@ use Rattle.session_actions.specs.declared.response.Outcome.{Outcome}
 use Rattle.session_actions.specs.declared.seen.Seen.{Seen}
 use Rattle.session_actions.specs.declared.subchannel.Subchannel.{Subchannel}
 use Rattle.session_order.proofs.Lists.{foremost_passes, is_nothing, none_is, some_find, some_first, some_foremost, some_map, some_one, some_then, some_two}
-use Rattle.session_order.specs.Calm.{IsStill, can_follow, is_link_new, is_overflowing, is_to_cut, is_to_end, is_to_follow_pick, is_to_reset, lacks_kind}
+use Rattle.session_order.specs.Quiescent.{IsStill, can_follow, is_link_new, is_overflowing, is_to_cut, is_to_end, is_to_follow_pick, is_to_reset, lacks_kind}
 use Rattle.session_order.specs.Lines.{gives}
 use Rattle.session_order.specs.declared.line.Line.{Line}
 use Rattle.session_actions.specs.declared.action.Action.TheVariants as action

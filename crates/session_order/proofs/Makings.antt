@@ -36,7 +36,7 @@ use Rattle.session_order.proofs.Finals.{holds_in}
 use Rattle.session_order.proofs.Lists.{any_in, any_same, holds_same}
 use Rattle.session_order.proofs.Placings.{not_final}
 use Rattle.session_order.proofs.Queues.{marked_still, turn_leaves}
-use Rattle.session_order.specs.Calm.{IsStill, can_follow, has_outstanding, is_overflowing, is_to_cut, is_to_end, is_to_follow_pick, is_to_reset, is_unplaced}
+use Rattle.session_order.specs.Quiescent.{IsStill, can_follow, has_outstanding, is_overflowing, is_to_cut, is_to_end, is_to_follow_pick, is_to_reset, is_unplaced}
 use Rattle.session_order.specs.Laws.{StirsButFinal}
 use Rattle.session_order.specs.Stirs.{IsMakeable, made_row, stirs}
 use Rattle.session_order.specs.declared.line.Line.{Line}

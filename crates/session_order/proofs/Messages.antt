@@ -15,10 +15,10 @@ use Rattle.session_actions.specs.declared.seen.Seen.{Seen}
 use Rattle.session_order.proofs.Changed.{none_each_changed, passes_not}
 use Rattle.session_order.proofs.Entered.{moved_to, quieted}
 use Rattle.session_order.proofs.Posts.{answered_with}
-use Rattle.session_order.proofs.Told.{told_cancelled, told_cut, told_end, told_final, told_head, told_inherited, told_reset, told_response, told_row, told_shut, told_transparent}
-use Rattle.session_order.specs.Calm.{IsStill}
+use Rattle.session_order.proofs.Report.{reported_cancelled, reported_cut, reported_end, reported_final, reported_head, reported_inherited, reported_reset, reported_response, reported_row, reported_shut, reported_transparent}
+use Rattle.session_order.specs.Quiescent.{IsStill}
 use Rattle.session_order.specs.Laws.{StirsOnly}
-use Rattle.session_order.specs.Stirs.{AreNumbered, stirs}
+use Rattle.session_order.specs.Stirs.{CallsHaveTheirNumbers, stirs}
 use Rattle.session_order.specs.declared.line.Line.{Line}
 use Rattle.session_actions.specs.declared.action.Action.TheVariants as action
 use Rattle.grpc_base.specs.declared.event.Event.TheVariants as event
@@ -64,7 +64,7 @@ module _ (o : OpenEntry) (s : Seen) (n : ℕ) (m : List ℕ) where
       less_long (is_open_call c) (list_any (λ (x : List ℕ). is_too_long x c s) c.messages) (is_after_event o && sends_too_long o.event c s)
       ((n == c.number) && is_too_long m c s) (and_left (n == c.number) (is_too_long m c s) other) none
 
-  pub request_still : AreNumbered s → ((c : Call) → numbered s.calls n ≡ Some c → is_too_long m c s ≡ false)
+  pub request_still : CallsHaveTheirNumbers s → ((c : Call) → numbered s.calls n ≡ Some c → is_too_long m c s ≡ false)
       → IsStill line.Request o s → IsStill line.Request p u
   request_still numbers short h =
       none_each_changed (has_long_request p u) sent n s.calls
@@ -75,41 +75,41 @@ module _ (o : OpenEntry) (s : Seen) (n : ℕ) (m : List ℕ) where
   abbrev messages : Call → List (List ℕ)
   messages c = c.messages ++ m ∷ []
 
-  pub accepted_still : AreNumbered s → ((c : Call) → numbered s.calls n ≡ Some c → is_too_long m c s ≡ false)
+  pub accepted_still : CallsHaveTheirNumbers s → ((c : Call) → numbered s.calls n ≡ Some c → is_too_long m c s ≡ false)
       → (l : Line) → stirs (action.MessageAccepted n) l ≡ false → IsStill l o s → IsStill l p u
   accepted_still numbers short line.Cut e h =
-      told_cut s n messages (λ (c : Call). c.finished) (λ (c : Call). c.taken) (λ (c : Call). c.end_taken) (λ (c : Call). c.marks) ∙ h
+      reported_cut s n messages (λ (c : Call). c.finished) (λ (c : Call). c.taken) (λ (c : Call). c.end_taken) (λ (c : Call). c.marks) ∙ h
   accepted_still numbers short line.Transparent e h =
-      told_transparent s n messages (λ (c : Call). c.finished) (λ (c : Call). c.taken) (λ (c : Call). c.end_taken) (λ (c : Call). c.marks) ∙ h
+      reported_transparent s n messages (λ (c : Call). c.finished) (λ (c : Call). c.taken) (λ (c : Call). c.end_taken) (λ (c : Call). c.marks) ∙ h
   accepted_still numbers short line.Inherited e h =
-      told_inherited s n messages (λ (c : Call). c.finished) (λ (c : Call). c.taken) (λ (c : Call). c.end_taken) (λ (c : Call). c.marks) ∙ h
+      reported_inherited s n messages (λ (c : Call). c.finished) (λ (c : Call). c.taken) (λ (c : Call). c.end_taken) (λ (c : Call). c.marks) ∙ h
   accepted_still numbers short line.Row e h =
-      told_row s n messages (λ (c : Call). c.finished) (λ (c : Call). c.taken) (λ (c : Call). c.end_taken) (λ (c : Call). c.marks) ∙ h
+      reported_row s n messages (λ (c : Call). c.finished) (λ (c : Call). c.taken) (λ (c : Call). c.end_taken) (λ (c : Call). c.marks) ∙ h
   accepted_still numbers short line.Final e h =
-      told_final s n messages (λ (c : Call). c.finished) (λ (c : Call). c.taken) (λ (c : Call). c.end_taken) (λ (c : Call). c.marks) (λ c. refl) ∙ h
+      reported_final s n messages (λ (c : Call). c.finished) (λ (c : Call). c.taken) (λ (c : Call). c.end_taken) (λ (c : Call). c.marks) (λ c. refl) ∙ h
   accepted_still numbers short line.Cancelled e h = quieted o p u line.Cancelled (λ c. refl)
-      (told_cancelled s n messages (λ (c : Call). c.finished) (λ (c : Call). c.taken) (λ (c : Call). c.end_taken) (λ (c : Call). c.marks) o ∙ h)
+      (reported_cancelled s n messages (λ (c : Call). c.finished) (λ (c : Call). c.taken) (λ (c : Call). c.end_taken) (λ (c : Call). c.marks) o ∙ h)
   accepted_still numbers short line.Request e h = request_still numbers short h
   accepted_still numbers short line.Overflow e h = absurd (cc)
   accepted_still numbers short line.Head e h =
-      told_head s n messages (λ (c : Call). c.finished) (λ (c : Call). c.taken) (λ (c : Call). c.end_taken) (λ (c : Call). c.marks) ∙ h
+      reported_head s n messages (λ (c : Call). c.finished) (λ (c : Call). c.taken) (λ (c : Call). c.end_taken) (λ (c : Call). c.marks) ∙ h
   accepted_still numbers short line.Response e h =
-      told_response s n messages (λ (c : Call). c.finished) (λ (c : Call). c.taken) (λ (c : Call). c.end_taken) (λ (c : Call). c.marks) ∙ h
+      reported_response s n messages (λ (c : Call). c.finished) (λ (c : Call). c.taken) (λ (c : Call). c.end_taken) (λ (c : Call). c.marks) ∙ h
   accepted_still numbers short line.Pick e h = h
   accepted_still numbers short line.Link e h = h
   accepted_still numbers short line.WireEnd e h =
-      told_end s n messages (λ (c : Call). c.finished) (λ (c : Call). c.taken) (λ (c : Call). c.end_taken) (λ (c : Call). c.marks) ∙ h
+      reported_end s n messages (λ (c : Call). c.finished) (λ (c : Call). c.taken) (λ (c : Call). c.end_taken) (λ (c : Call). c.marks) ∙ h
   accepted_still numbers short line.Reset e h =
-      told_reset s n messages (λ (c : Call). c.finished) (λ (c : Call). c.taken) (λ (c : Call). c.end_taken) (λ (c : Call). c.marks) ∙ h
+      reported_reset s n messages (λ (c : Call). c.finished) (λ (c : Call). c.taken) (λ (c : Call). c.end_taken) (λ (c : Call). c.marks) ∙ h
   accepted_still numbers short line.Shut e h =
-      told_shut s n messages (λ (c : Call). c.finished) (λ (c : Call). c.taken) (λ (c : Call). c.end_taken) (λ (c : Call). c.marks) ∙ h
+      reported_shut s n messages (λ (c : Call). c.finished) (λ (c : Call). c.taken) (λ (c : Call). c.end_taken) (λ (c : Call). c.marks) ∙ h
   accepted_still numbers short line.Retire e h = quieted o p s line.Retire refl h
   accepted_still numbers short line.Begin e h = quieted o p s line.Begin refl h
   accepted_still numbers short line.Give e h = quieted o p s line.Give refl h
   accepted_still numbers short line.Drop e h = h
   accepted_still numbers short line.Add e h = h
 
-accepted_by : (call : ℕ) (o : OpenEntry) (s : Seen) (m : List ℕ) (e : Event) → e ≡ event.Send call m → AreNumbered s
+accepted_by : (call : ℕ) (o : OpenEntry) (s : Seen) (m : List ℕ) (e : Event) → e ≡ event.Send call m → CallsHaveTheirNumbers s
     → ((c : Call) → numbered s.calls call ≡ Some c → is_too_long m c s ≡ false) → (l : Line) → stirs (action.MessageAccepted call) l ≡ false
     → IsStill l o s
     → IsStill l (record o { event = e; stage = stage.Replied; reply = Some reply.Done }) (record s { calls = changed (with_message e) call s.calls })

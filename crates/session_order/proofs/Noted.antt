@@ -14,7 +14,7 @@ use Rattle.session_actions.specs.declared.policy.PolicyUse.{PolicyUse}
 use Rattle.session_actions.specs.declared.seen.Seen.{Seen}
 use Rattle.session_actions.specs.declared.subchannel.Subchannel.{Subchannel}
 use Rattle.session_order.proofs.Lists.{any_same, holds_same}
-use Rattle.session_order.specs.Calm.{lacks_kind}
+use Rattle.session_order.specs.Quiescent.{lacks_kind}
 
 any_map : {X : Type 0} (test : X → Bool) (f : X → X) → ((x : X) → test (f x) ≡ test x) → (xs : List X) → list_any test (map f xs) ≡ list_any test xs
 any_map test f same [] = refl

@@ -29,7 +29,7 @@ use Rattle.session_order.proofs.Ended.{none_less}
 use Rattle.session_order.proofs.Limits.{code_with}
 use Rattle.session_order.proofs.Lists.{any_same, holds_same}
 use Rattle.session_order.proofs.Posts.{IsPlain, plain_answered, plain_as, wanted_still}
-use Rattle.session_order.specs.Calm.{IsStill, is_to_reset}
+use Rattle.session_order.specs.Quiescent.{IsStill, is_to_reset}
 use Rattle.session_order.specs.Laws.{StirsOnly}
 use Rattle.session_order.specs.Stirs.{stirs}
 use Rattle.session_order.specs.declared.line.Line.{Line}

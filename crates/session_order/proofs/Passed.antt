@@ -22,7 +22,7 @@ use Rattle.session_actions.specs.declared.response.Response.{Response}
 use Rattle.session_actions.specs.declared.seen.Seen.{Seen}
 use Rattle.session_order.proofs.Lists.{any_same, holds_same}
 use Rattle.session_order.proofs.Limits.{code_with, then_same}
-use Rattle.session_order.specs.Calm.{is_link_new, is_to_end, is_to_reset}
+use Rattle.session_order.specs.Quiescent.{is_link_new, is_to_end, is_to_reset}
 
 -- the same links, of which the one of each number has these frames owed, these bytes received, and is gone or not
 abbrev pub kept : (ℕ → Link → List FrameSeen) → (ℕ → Link → List ℕ) → (ℕ → Link → Option ℕ) → ℕ → Link → Link

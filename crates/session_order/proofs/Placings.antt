@@ -30,11 +30,11 @@ use Rattle.session_actions.specs.declared.seen.Seen.{Seen}
 use Rattle.session_order.proofs.Aside.{aside_request}
 use Rattle.session_order.proofs.Boards.{goes_on}
 use Rattle.session_order.proofs.Changed.{any_changed, any_changed_at, changed_away, changed_map, none_changed}
-use Rattle.session_order.proofs.Ended.{narrower, none_less}
+use Rattle.session_order.proofs.Ended.{stronger, none_less}
 use Rattle.session_order.proofs.Lasts.{last_at, last_changed, read_before}
 use Rattle.session_order.proofs.Lists.{any_same, holds_same}
 use Rattle.session_order.proofs.Queues.{marked_still}
-use Rattle.session_order.specs.Calm.{IsStill, can_follow, has_outstanding, is_overflowing, is_to_cut, is_to_end, is_to_follow_pick, is_to_reset, is_unplaced}
+use Rattle.session_order.specs.Quiescent.{IsStill, can_follow, has_outstanding, is_overflowing, is_to_cut, is_to_end, is_to_follow_pick, is_to_reset, is_unplaced}
 use Rattle.session_order.specs.Laws.{StirsButFinal}
 use Rattle.session_order.specs.Lines.{is_line}
 use Rattle.session_order.specs.Stirs.{IsPlaceable, stirs}
@@ -177,7 +177,7 @@ module _ (s : Seen) (n : ℕ) (at : Placed) (fits : IsPlaceable n at s) where
 
   long_one : (c : Call) → has_long_response s c ≡ false → has_long_response t c ≡ false
   long_one c h =
-      narrower (is_open_call c) (holds (λ (k : Attempt). is_outstanding k && (response k s).large) (commitment c s))
+      stronger (is_open_call c) (holds (λ (k : Attempt). is_outstanding k && (response k s).large) (commitment c s))
       (holds (λ (k : Attempt). is_outstanding k && (response k s).large) (commitment c t))
       (large_by (commitment c s) (commitment c t) (last_at (is_commitment c) put (λ k. refl) n s.attempts fits.attempt fits.here)) h
 

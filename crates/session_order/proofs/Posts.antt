@@ -17,8 +17,8 @@ use Rattle.session_actions.specs.declared.entry.OpenEntry.{OpenEntry}
 use Rattle.session_actions.specs.declared.seen.Seen.{Seen}
 use Rattle.session_order.proofs.Aside.{aside_final, aside_request}
 use Rattle.session_order.proofs.Entered.{IsQuietFor, moved_on}
-use Rattle.session_order.proofs.Told.{retold, told_cancelled, told_cut, told_end, told_final, told_head, told_inherited, told_overflow, told_request, told_reset, told_response, told_row, told_shut, told_transparent}
-use Rattle.session_order.specs.Calm.{IsStill}
+use Rattle.session_order.proofs.Report.{retold, reported_cancelled, reported_cut, reported_end, reported_final, reported_head, reported_inherited, reported_overflow, reported_request, reported_reset, reported_response, reported_row, reported_shut, reported_transparent}
+use Rattle.session_order.specs.Quiescent.{IsStill}
 use Rattle.session_order.specs.Laws.{StirsOnly}
 use Rattle.session_order.specs.Stirs.{stirs}
 use Rattle.session_order.specs.declared.line.Line.{Line}
@@ -172,7 +172,7 @@ pub unresolved_leaves : StirsOnly action.ResolutionFailed
 unresolved_leaves o s e fits l p is not_stirred h =
     plain_answered reply.Done o (resolver_answered s) e (plain_as o.event event.ResolveFailed fits plain_unresolved) l (answered_still s l o h) p is
 
--- a call that is told something, but for its messages
+-- a call that is notified of something, but for its messages
 module _ (s : Seen) (n : ℕ) (finished : Call → Bool) (taken : Call → ℕ) (end_taken : Call → Bool) where
   abbrev messages : Call → List (List ℕ)
   messages c = c.messages
@@ -180,40 +180,40 @@ module _ (s : Seen) (n : ℕ) (finished : Call → Bool) (taken : Call → ℕ) 
   abbrev marks : Call → List Mark
   marks c = c.marks
 
-  told_still : (l : Line) (o : OpenEntry) → IsStill l o s
+  reported_still : (l : Line) (o : OpenEntry) → IsStill l o s
       → IsStill l o (record s { calls = changed (retold messages finished taken end_taken marks) n s.calls })
-  told_still line.Cut o h = told_cut s n messages finished taken end_taken marks ∙ h
-  told_still line.Transparent o h = told_transparent s n messages finished taken end_taken marks ∙ h
-  told_still line.Inherited o h = told_inherited s n messages finished taken end_taken marks ∙ h
-  told_still line.Row o h = told_row s n messages finished taken end_taken marks ∙ h
-  told_still line.Final o h = told_final s n messages finished taken end_taken marks (λ c. refl) ∙ h
-  told_still line.Cancelled o h = told_cancelled s n messages finished taken end_taken marks o ∙ h
-  told_still line.Request o h = told_request s n messages finished taken end_taken marks o (λ c. refl) ∙ h
-  told_still line.Overflow o h = told_overflow s n messages finished taken end_taken marks (λ c. refl) ∙ h
-  told_still line.Head o h = told_head s n messages finished taken end_taken marks ∙ h
-  told_still line.Response o h = told_response s n messages finished taken end_taken marks ∙ h
-  told_still line.Pick o h = h
-  told_still line.Link o h = h
-  told_still line.WireEnd o h = told_end s n messages finished taken end_taken marks ∙ h
-  told_still line.Reset o h = told_reset s n messages finished taken end_taken marks ∙ h
-  told_still line.Shut o h = told_shut s n messages finished taken end_taken marks ∙ h
-  told_still line.Retire o h = h
-  told_still line.Begin o h = h
-  told_still line.Give o h = h
-  told_still line.Drop o h = h
-  told_still line.Add o h = h
+  reported_still line.Cut o h = reported_cut s n messages finished taken end_taken marks ∙ h
+  reported_still line.Transparent o h = reported_transparent s n messages finished taken end_taken marks ∙ h
+  reported_still line.Inherited o h = reported_inherited s n messages finished taken end_taken marks ∙ h
+  reported_still line.Row o h = reported_row s n messages finished taken end_taken marks ∙ h
+  reported_still line.Final o h = reported_final s n messages finished taken end_taken marks (λ c. refl) ∙ h
+  reported_still line.Cancelled o h = reported_cancelled s n messages finished taken end_taken marks o ∙ h
+  reported_still line.Request o h = reported_request s n messages finished taken end_taken marks o (λ c. refl) ∙ h
+  reported_still line.Overflow o h = reported_overflow s n messages finished taken end_taken marks (λ c. refl) ∙ h
+  reported_still line.Head o h = reported_head s n messages finished taken end_taken marks ∙ h
+  reported_still line.Response o h = reported_response s n messages finished taken end_taken marks ∙ h
+  reported_still line.Pick o h = h
+  reported_still line.Link o h = h
+  reported_still line.WireEnd o h = reported_end s n messages finished taken end_taken marks ∙ h
+  reported_still line.Reset o h = reported_reset s n messages finished taken end_taken marks ∙ h
+  reported_still line.Shut o h = reported_shut s n messages finished taken end_taken marks ∙ h
+  reported_still line.Retire o h = h
+  reported_still line.Begin o h = h
+  reported_still line.Give o h = h
+  reported_still line.Drop o h = h
+  reported_still line.Add o h = h
 
 pub finished_leaves : (call : ℕ) → StirsOnly (action.RequestFinished call)
 finished_leaves call o s e fits l p is not_stirred h =
     let t : Seen = record s { calls = changed (λ (c : Call). record c { finished = true }) call s.calls } in
     plain_answered reply.Done o t e (plain_as o.event (event.Finish call) fits (plain_finish call)) l
-    (told_still s call (λ (c : Call). true) (λ (c : Call). c.taken) (λ (c : Call). c.end_taken) l o h) p is
+    (reported_still s call (λ (c : Call). true) (λ (c : Call). c.taken) (λ (c : Call). c.end_taken) l o h) p is
 
 pub taken_leaves : (call : ℕ) (item : Reply) → StirsOnly (action.ItemTaken call item)
 taken_leaves call item o s e fits l p is not_stirred h =
     let t : Seen = record s { calls = changed (λ (c : Call). record c { taken = c.taken + 1; end_taken = is_end item }) call s.calls } in
     plain_answered item o t e (plain_as o.event (event.Take call) fits (plain_take call)) l
-    (told_still s call (λ (c : Call). c.finished) (λ (c : Call). c.taken + 1) (λ (c : Call). is_end item) l o h) p is
+    (reported_still s call (λ (c : Call). c.finished) (λ (c : Call). c.taken + 1) (λ (c : Call). is_end item) l o h) p is
 
 -- a resolution is wanted
 pub wanted_still : (s : Seen) (l : Line) (o : OpenEntry) → IsStill l o s → IsStill l o (wants_resolution s)

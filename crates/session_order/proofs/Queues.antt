@@ -17,8 +17,8 @@ use Rattle.session_order.proofs.Aside.{aside_final, aside_request}
 use Rattle.session_order.proofs.Boards.{dials_live, with_sub_current, with_sub_still}
 use Rattle.session_order.proofs.Entered.{moved_to}
 use Rattle.session_order.proofs.Posts.{plain_answered, plain_as, plain_dial}
-use Rattle.session_order.proofs.Told.{told_cancelled, told_cut, told_end, told_head, told_inherited, told_overflow, told_request, told_reset, told_response, told_row, told_shut, told_transparent}
-use Rattle.session_order.specs.Calm.{IsStill}
+use Rattle.session_order.proofs.Report.{reported_cancelled, reported_cut, reported_end, reported_head, reported_inherited, reported_overflow, reported_request, reported_reset, reported_response, reported_row, reported_shut, reported_transparent}
+use Rattle.session_order.specs.Quiescent.{IsStill}
 use Rattle.session_order.specs.Laws.{StirsOnly}
 use Rattle.session_order.specs.Stirs.{stirs}
 use Rattle.session_order.specs.declared.line.Line.{Line}
@@ -93,21 +93,21 @@ asked_leaves row generation answer o s e fits l p is not_stirred h =
 module _ (s : Seen) (n : ℕ) (marks : Call → List Mark) where
   pub marked_still : (l : Line) (o : OpenEntry) → stirs (action.HedgeWithheld n) l ≡ false → IsStill l o s
       → IsStill l o (record s { calls = changed (λ (c : Call). record c { marks = marks c }) n s.calls })
-  marked_still line.Cut o e h = told_cut s n (λ (c : Call). c.messages) (λ (c : Call). c.finished) (λ (c : Call). c.taken) (λ (c : Call). c.end_taken) marks ∙ h
-  marked_still line.Transparent o e h = told_transparent s n (λ (c : Call). c.messages) (λ (c : Call). c.finished) (λ (c : Call). c.taken) (λ (c : Call). c.end_taken) marks ∙ h
-  marked_still line.Inherited o e h = told_inherited s n (λ (c : Call). c.messages) (λ (c : Call). c.finished) (λ (c : Call). c.taken) (λ (c : Call). c.end_taken) marks ∙ h
-  marked_still line.Row o e h = told_row s n (λ (c : Call). c.messages) (λ (c : Call). c.finished) (λ (c : Call). c.taken) (λ (c : Call). c.end_taken) marks ∙ h
+  marked_still line.Cut o e h = reported_cut s n (λ (c : Call). c.messages) (λ (c : Call). c.finished) (λ (c : Call). c.taken) (λ (c : Call). c.end_taken) marks ∙ h
+  marked_still line.Transparent o e h = reported_transparent s n (λ (c : Call). c.messages) (λ (c : Call). c.finished) (λ (c : Call). c.taken) (λ (c : Call). c.end_taken) marks ∙ h
+  marked_still line.Inherited o e h = reported_inherited s n (λ (c : Call). c.messages) (λ (c : Call). c.finished) (λ (c : Call). c.taken) (λ (c : Call). c.end_taken) marks ∙ h
+  marked_still line.Row o e h = reported_row s n (λ (c : Call). c.messages) (λ (c : Call). c.finished) (λ (c : Call). c.taken) (λ (c : Call). c.end_taken) marks ∙ h
   marked_still line.Final o e h = absurd (cc)
-  marked_still line.Cancelled o e h = told_cancelled s n (λ (c : Call). c.messages) (λ (c : Call). c.finished) (λ (c : Call). c.taken) (λ (c : Call). c.end_taken) marks o ∙ h
-  marked_still line.Request o e h = told_request s n (λ (c : Call). c.messages) (λ (c : Call). c.finished) (λ (c : Call). c.taken) (λ (c : Call). c.end_taken) marks o (λ c. refl) ∙ h
-  marked_still line.Overflow o e h = told_overflow s n (λ (c : Call). c.messages) (λ (c : Call). c.finished) (λ (c : Call). c.taken) (λ (c : Call). c.end_taken) marks (λ c. refl) ∙ h
-  marked_still line.Head o e h = told_head s n (λ (c : Call). c.messages) (λ (c : Call). c.finished) (λ (c : Call). c.taken) (λ (c : Call). c.end_taken) marks ∙ h
-  marked_still line.Response o e h = told_response s n (λ (c : Call). c.messages) (λ (c : Call). c.finished) (λ (c : Call). c.taken) (λ (c : Call). c.end_taken) marks ∙ h
+  marked_still line.Cancelled o e h = reported_cancelled s n (λ (c : Call). c.messages) (λ (c : Call). c.finished) (λ (c : Call). c.taken) (λ (c : Call). c.end_taken) marks o ∙ h
+  marked_still line.Request o e h = reported_request s n (λ (c : Call). c.messages) (λ (c : Call). c.finished) (λ (c : Call). c.taken) (λ (c : Call). c.end_taken) marks o (λ c. refl) ∙ h
+  marked_still line.Overflow o e h = reported_overflow s n (λ (c : Call). c.messages) (λ (c : Call). c.finished) (λ (c : Call). c.taken) (λ (c : Call). c.end_taken) marks (λ c. refl) ∙ h
+  marked_still line.Head o e h = reported_head s n (λ (c : Call). c.messages) (λ (c : Call). c.finished) (λ (c : Call). c.taken) (λ (c : Call). c.end_taken) marks ∙ h
+  marked_still line.Response o e h = reported_response s n (λ (c : Call). c.messages) (λ (c : Call). c.finished) (λ (c : Call). c.taken) (λ (c : Call). c.end_taken) marks ∙ h
   marked_still line.Pick o e h = h
   marked_still line.Link o e h = h
-  marked_still line.WireEnd o e h = told_end s n (λ (c : Call). c.messages) (λ (c : Call). c.finished) (λ (c : Call). c.taken) (λ (c : Call). c.end_taken) marks ∙ h
-  marked_still line.Reset o e h = told_reset s n (λ (c : Call). c.messages) (λ (c : Call). c.finished) (λ (c : Call). c.taken) (λ (c : Call). c.end_taken) marks ∙ h
-  marked_still line.Shut o e h = told_shut s n (λ (c : Call). c.messages) (λ (c : Call). c.finished) (λ (c : Call). c.taken) (λ (c : Call). c.end_taken) marks ∙ h
+  marked_still line.WireEnd o e h = reported_end s n (λ (c : Call). c.messages) (λ (c : Call). c.finished) (λ (c : Call). c.taken) (λ (c : Call). c.end_taken) marks ∙ h
+  marked_still line.Reset o e h = reported_reset s n (λ (c : Call). c.messages) (λ (c : Call). c.finished) (λ (c : Call). c.taken) (λ (c : Call). c.end_taken) marks ∙ h
+  marked_still line.Shut o e h = reported_shut s n (λ (c : Call). c.messages) (λ (c : Call). c.finished) (λ (c : Call). c.taken) (λ (c : Call). c.end_taken) marks ∙ h
   marked_still line.Retire o e h = h
   marked_still line.Begin o e h = h
   marked_still line.Give o e h = h

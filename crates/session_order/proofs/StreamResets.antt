@@ -32,7 +32,7 @@ use Rattle.session_order.proofs.Lasts.{last_changed, read_before}
 use Rattle.session_order.proofs.Lists.{any_same, holds_same}
 use Rattle.session_order.proofs.Placings.{not_final}
 use Rattle.session_order.proofs.Wires.{owed_still}
-use Rattle.session_order.specs.Calm.{IsStill, can_follow, has_outstanding, is_overflowing, is_to_cut, is_to_end, is_to_follow_pick, is_to_reset, is_unplaced}
+use Rattle.session_order.specs.Quiescent.{IsStill, can_follow, has_outstanding, is_overflowing, is_to_cut, is_to_end, is_to_follow_pick, is_to_reset, is_unplaced}
 use Rattle.session_order.specs.Laws.{StirsButFinal}
 use Rattle.session_order.specs.Lines.{is_line}
 use Rattle.session_order.specs.Stirs.{stirs}

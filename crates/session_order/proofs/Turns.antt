@@ -11,7 +11,7 @@ use Rattle.session_actions.specs.declared.subchannel.Subchannel.{Subchannel}
 use Rattle.session_order.proofs.Aside.{aside_final, aside_request}
 use Rattle.session_order.proofs.Boards.{StaysLive, connecting_live, goes_on, same_sub, with_sub_current, with_sub_still}
 use Rattle.session_order.proofs.Posts.{IsPlain, plain_answered, plain_as}
-use Rattle.session_order.specs.Calm.{IsStill, is_link_new}
+use Rattle.session_order.specs.Quiescent.{IsStill, is_link_new}
 use Rattle.session_order.specs.Laws.{StirsOnly}
 use Rattle.session_order.specs.Stirs.{stirs}
 use Rattle.session_order.specs.declared.line.Line.{Line}

@@ -28,7 +28,7 @@ use Rattle.session_order.proofs.Finals.{holds_in}
 use Rattle.session_order.proofs.Limits.{code_with, then_same}
 use Rattle.session_order.proofs.Lists.{any_in, any_same, holds_same}
 use Rattle.session_order.proofs.Posts.{plain_answered, plain_as, plain_up}
-use Rattle.session_order.specs.Calm.{IsStill, is_link_new, is_to_end, is_to_reset}
+use Rattle.session_order.specs.Quiescent.{IsStill, is_link_new, is_to_end, is_to_reset}
 use Rattle.session_order.specs.Laws.{StirsOnly}
 use Rattle.session_order.specs.Stirs.{HaveLinks}
 use Rattle.session_order.specs.declared.line.Line.{Line}

@@ -44,9 +44,9 @@ use Rattle.session_actions.specs.declared.policy.PolicyUse.{PolicyUse}
 use Rattle.session_actions.specs.declared.response.Outcome.{Outcome}
 use Rattle.session_actions.specs.declared.seen.Seen.{Seen}
 use Rattle.session_actions.specs.declared.subchannel.Subchannel.{Subchannel}
-use Rattle.session_order.proofs.Calms.{calm_is_exact, calm_leaves_stage}
+use Rattle.session_order.proofs.Quiescence.{quiescence_is_exact, quiescence_leaves_stage}
 use Rattle.session_order.proofs.Lists.{any_same, foremost_passes, is_nothing, none_is, or_nothing, some_find, some_first, some_foremost, some_map, some_one, some_then, some_two}
-use Rattle.session_order.specs.Calm.{IsCalm}
+use Rattle.session_order.specs.Quiescent.{IsQuiescent}
 use Rattle.session_order.specs.Waits.{NothingDueWaits, is_due, is_over_time, is_to_connect, is_unsettled}
 use Rattle.session_actions.specs.declared.action.Action.TheVariants as action
 use Rattle.session_actions.specs.declared.action.CommitCause.TheVariants as commit
@@ -62,34 +62,34 @@ abbrev closes : Action → Bool
 closes action.EntryCloses = true
 closes _ = false
 
-abbrev Goes : Option Action → Type 0
-Goes o = holds closes o ≡ false
+abbrev Continues : Option Action → Type 0
+Continues o = holds closes o ≡ false
 
 -- no other line gives it
-map_goes : {X : Type 0} (f : X → Action) → ((x : X) → closes (f x) ≡ false) → (o : Option X) → Goes (option_map f o)
+map_goes : {X : Type 0} (f : X → Action) → ((x : X) → closes (f x) ≡ false) → (o : Option X) → Continues (option_map f o)
 map_goes f other None = refl
 map_goes f other (Some x) = other x
 
-then_goes : {X : Type 0} (f : X → Option Action) → ((x : X) → Goes (f x)) → (o : Option X) → Goes (option_and_then f o)
+then_goes : {X : Type 0} (f : X → Option Action) → ((x : X) → Continues (f x)) → (o : Option X) → Continues (option_and_then f o)
 then_goes f other None = refl
 then_goes f other (Some x) = other x
 
-or_goes : (o p : Option Action) → Goes o → Goes p → Goes (option_or o p)
+or_goes : (o p : Option Action) → Continues o → Continues p → Continues (option_or o p)
 or_goes None p e f = f
 or_goes (Some a) p e f = e
 
-first_goes : {X : Type 0} (f : X → Option Action) → ((x : X) → Goes (f x)) → (xs : List X) → Goes (first_of f xs)
+first_goes : {X : Type 0} (f : X → Option Action) → ((x : X) → Continues (f x)) → (xs : List X) → Continues (first_of f xs)
 first_goes f other [] = refl
 first_goes f other (x ∷ xs) = or_goes (f x) (first_of f xs) (other x) (first_goes f other xs)
 
-if_goes : (b : Bool) (o p : Option Action) → Goes o → Goes p → Goes (if b then o else p)
+if_goes : (b : Bool) (o p : Option Action) → Continues o → Continues p → Continues (if b then o else p)
 if_goes true o p e f = e
 if_goes false o p e f = f
 
-found_goes : {X : Type 0} (f : X → Action) → ((x : X) → closes (f x) ≡ false) → (test : X → Bool) (xs : List X) → Goes (option_map f (find test xs))
+found_goes : {X : Type 0} (f : X → Action) → ((x : X) → closes (f x) ≡ false) → (test : X → Bool) (xs : List X) → Continues (option_map f (find test xs))
 found_goes f other test xs = map_goes f other (find test xs)
 
-calls_go : (o : OpenEntry) (s : Seen) → Goes (of_calls o s)
+calls_go : (o : OpenEntry) (s : Seen) → Continues (of_calls o s)
 calls_go o s =
     or_goes (next_cut s) _ (first_goes (cut s) (λ a. if_goes (is_outstanding a && is_over a s) (Some (action.AttemptEnds a.place (end_of a cut_end s))) None refl refl) s.attempts)
     (or_goes (next_transparent s) _ (found_goes (transparent_retry s) (λ a. refl) (λ (a : Attempt). wants_follower a s) s.attempts)
@@ -103,41 +103,41 @@ calls_go o s =
     (or_goes (next_ended ending.Response (has_long_response s) s) None (found_goes (ending_call ending.Response) (λ c. refl) (has_long_response s) s.calls)
     refl)))))))))
 
-pick_goes : (s : Seen) (ask : Ask) (a : Attempt) (p : Pick) → Goes (follow_pick ask s a p)
+pick_goes : (s : Seen) (ask : Ask) (a : Attempt) (p : Pick) → Continues (follow_pick ask s a p)
 pick_goes s ask a (pick.Place sub) = map_goes (λ (b : Subchannel). action.AttemptPlaced a.place (placed_on ask s b)) (λ b. refl) (numbered s.subs sub)
 pick_goes s ask a pick.Fail = refl
 pick_goes s ask a pick.Wait = refl
 
-ask_goes : (s : Seen) (ask : Ask) → Goes (follow_ask s ask)
+ask_goes : (s : Seen) (ask : Ask) → Continues (follow_ask s ask)
 ask_goes s ask =
     then_goes (λ (a : Attempt). if is_unfollowed a && (ask.entry == entry s) then follow_pick ask s a ask.answer else None)
     (λ a. if_goes (is_unfollowed a && (ask.entry == entry s)) (follow_pick ask s a ask.answer) None (pick_goes s ask a ask.answer) refl)
     (numbered s.attempts ask.row)
 
-link_goes : (s : Seen) (b : Subchannel) → Goes (link_action s b)
+link_goes : (s : Seen) (b : Subchannel) → Continues (link_action s b)
 link_goes s b =
     if_goes (is_to_be_ready s b) (Some (action.SettingsArrive b.number)) (if is_to_go_down s b then Some (action.LinkDown b.number) else None) refl
     (if_goes (is_to_go_down s b) (Some (action.LinkDown b.number)) None refl refl)
 
-wire_goes : (s : Seen) → Goes (next_wire_end s)
+wire_goes : (s : Seen) → Continues (next_wire_end s)
 wire_goes s =
     first_goes (wire_end s)
     (λ a. if_goes (is_outstanding a && not (is_over a s)) (option_map (λ (t : Outcome). action.AttemptEnds a.place (end_of a t s)) (outcome_of a s)) None
     (map_goes (λ (t : Outcome). action.AttemptEnds a.place (end_of a t s)) (λ t. refl) (outcome_of a s)) refl) s.attempts
 
-reset_goes : (s : Seen) → Goes (next_reset s)
+reset_goes : (s : Seen) → Continues (next_reset s)
 reset_goes s =
     then_goes (reset_of s) (λ a. map_goes (λ (number : ℕ). action.StreamReset a.place number) (λ n. refl) (reset_code_of s a))
     (foremost is_stream_before (filter (λ (a : Attempt). is_some (reset_code_of s a)) s.attempts))
 
-links_go : (o : OpenEntry) (s : Seen) → Goes (of_links o s)
+links_go : (o : OpenEntry) (s : Seen) → Continues (of_links o s)
 links_go o s =
     or_goes (next_of_pick s) _ (then_goes (follow_ask s) (ask_goes s) (last_of s.asks))
     (or_goes (next_of_links s) _ (first_goes (link_action s) (link_goes s) s.subs)
     (or_goes (if is_loss o.event then None else next_wire_end s) _ (if_goes (is_loss o.event) None (next_wire_end s) refl (wire_goes s))
     (or_goes (next_reset s) _ (reset_goes s) (or_goes (next_wire_end s) None (wire_goes s) refl))))
 
-policies_go : (o : OpenEntry) (s : Seen) → Goes (of_policies o s)
+policies_go : (o : OpenEntry) (s : Seen) → Continues (of_policies o s)
 policies_go o s =
     or_goes (next_ended ending.Shut (is_shut_down s) s) _ (found_goes (ending_call ending.Shut) (λ c. refl) (is_shut_down s) s.calls)
     (or_goes (next_retired o s) _ (found_goes (λ (g : PolicyUse). action.PolicyRetired g.number) (λ g. refl) (is_to_retire o s) s.policies)
@@ -164,7 +164,7 @@ dial_goes : (s : Seen) (o : Option Subchannel) → closes (option_map_or (dial_a
 dial_goes s None = refl
 dial_goes s (Some b) = refl
 
-applied_goes : (e : Event) (s : Seen) → Goes (event_applied e s)
+applied_goes : (e : Event) (s : Seen) → Continues (event_applied e s)
 applied_goes (event.Begin request) s = refl
 applied_goes (event.Send call message) s =
     map_goes (send_action call message s) (λ c. send_goes call message s c (is_too_long message c s) (is_accepted c message s)) (numbered s.calls call)
@@ -183,52 +183,52 @@ applied_goes (event.Ping link word) s = refl
 applied_goes event.Tick s = refl
 applied_goes event.Shutdown s = refl
 
-event_goes_by : (o : Option Refusal) (e : Event) (s : Seen) → Goes (event_action_by o e s)
+event_goes_by : (o : Option Refusal) (e : Event) (s : Seen) → Continues (event_action_by o e s)
 event_goes_by (Some why) e s = refl
 event_goes_by None e s = applied_goes e s
 
-deadline_goes : (s : Seen) → Goes (next_deadline s)
+deadline_goes : (s : Seen) → Continues (next_deadline s)
 deadline_goes s = map_goes (ending_call ending.Deadline) (λ c. refl) (foremost (is_due_before s) (filter (is_past_deadline s) s.calls))
 
-event_goes : (o : OpenEntry) (s : Seen) → Goes (of_event o s)
+event_goes : (o : OpenEntry) (s : Seen) → Continues (of_event o s)
 event_goes o s =
     or_goes (next_deadline s) _ (deadline_goes s) (or_goes (event_action o.event s) None (event_goes_by (refusal_of o.event s) o.event s) refl)
 
-read_goes : (link : ℕ) (n : NextRead) → Goes (read_action link n)
+read_goes : (link : ℕ) (n : NextRead) → Continues (read_action link n)
 read_goes link nextread.Nothing = refl
 read_goes link (nextread.Frame r) = refl
 read_goes link (nextread.Broken number) = refl
 
-written_goes : (link most : ℕ) (o : OpenEntry) (s : Seen) → Goes (next_written link most o s)
+written_goes : (link most : ℕ) (o : OpenEntry) (s : Seen) → Continues (next_written link most o s)
 written_goes link most o s =
     then_goes (λ (l : Link). option_and_then (frame_to_write link most o s) (sendable l s))
     (λ l. then_goes (frame_to_write link most o s)
     (λ x. if_goes (fits_drain most o x) (Some (action.FrameWritten link x)) None refl refl) (sendable l s)) (numbered s.links link)
 
-frame_goes_by : (e : Event) (o : OpenEntry) (s : Seen) → Goes (frame_of_event e o s)
+frame_goes_by : (e : Event) (o : OpenEntry) (s : Seen) → Continues (frame_of_event e o s)
 frame_goes_by (event.Arrived link piece) o s =
     then_goes (read_next link s)
     (λ l. if_goes (is_none l.over) (read_action link (next_read l s)) None (read_goes link (next_read l s)) refl) (numbered s.links link)
 frame_goes_by (event.Drain link most) o s = written_goes link most o s
 frame_goes_by e o s = refl
 
-frames_go : (o : OpenEntry) (s : Seen) → Goes (of_frames o s)
+frames_go : (o : OpenEntry) (s : Seen) → Continues (of_frames o s)
 frames_go o s =
     or_goes (frame_action o s) (Some action.SettlingBegins)
     (if_goes (is_after_event o) (frame_of_event o.event o s) None (frame_goes_by o.event o s) refl) refl
 
 -- nor does what is due
-over_goes : (s : Seen) → Goes (next_take_over s)
+over_goes : (s : Seen) → Continues (next_take_over s)
 over_goes s =
     then_goes (λ (g : PolicyUse). if may_take_over s g then Some (action.PolicyTakesOver g.number) else None)
     (λ g. if_goes (may_take_over s g) (Some (action.PolicyTakesOver g.number)) None refl refl) (pending_policy s)
 
-config_goes : (s : Seen) (c : Call) → Goes (config_action s c)
+config_goes : (s : Seen) (c : Call) → Continues (config_action s c)
 config_goes s c =
     if_goes (is_to_configure s c) (Some (action.CallConfigured c.number (length s.configs))) (if lacks_config s c then Some (action.CallEnds c.number ending.NoConfig) else None) refl
     (if_goes (lacks_config s c) (Some (action.CallEnds c.number ending.NoConfig)) None refl refl)
 
-asked_goes : (test : Attempt → Bool) (s : Seen) → Goes (next_asked test s)
+asked_goes : (test : Attempt → Bool) (s : Seen) → Continues (next_asked test s)
 asked_goes test s =
     then_goes (asking s)
     (λ a. map_goes (λ (g : PolicyUse). action.PickRequested a.place g.number (pick_of (policy_of g s))) (λ g. refl) (current_policy s))
@@ -239,7 +239,7 @@ due_by_goes : (s : Seen) (c : Call) (due : ℕ) (b : Bool)
 due_by_goes s c due true = refl
 due_by_goes s c due false = refl
 
-due_goes : (s : Seen) (c : Call) → Goes (due_action s c)
+due_goes : (s : Seen) (c : Call) → Continues (due_action s c)
 due_goes s c =
     if_goes (is_open_call c) (option_and_then (due_if_past c s) (next_due c s)) None
     (then_goes (due_if_past c s)
@@ -247,13 +247,13 @@ due_goes s c =
     refl
 
 -- what gives it is the last of what is due
-skip : (o p : Option Action) → Goes o → option_or o p ≡ Some action.EntryCloses → (o ≡ None) × (p ≡ Some action.EntryCloses)
+skip : (o p : Option Action) → Continues o → option_or o p ≡ Some action.EntryCloses → (o ≡ None) × (p ≡ Some action.EntryCloses)
 skip None p e is = (refl, is)
 skip (Some a) p e is =
     let one : a ≡ action.EntryCloses = (cc) in
     let bad : closes a ≡ true = ap closes one in absurd (cc)
 
-unlast : (o : Option Action) → Goes o → option_or o None ≡ Some action.EntryCloses → ⊥
+unlast : (o : Option Action) → Continues o → option_or o None ≡ Some action.EntryCloses → ⊥
 unlast None e is = absurd (cc)
 unlast (Some a) e is =
     let one : a ≡ action.EntryCloses = (cc) in
@@ -326,10 +326,10 @@ some_queue s =
 
 none_less : (test wide : Attempt → Bool) → ((x : Attempt) → wide x ≡ false → test x ≡ false) → (xs : List Attempt) → list_any wide xs ≡ false
     → list_any test xs ≡ false
-none_less test wide narrow [] e = refl
-none_less test wide narrow (x ∷ xs) e =
+none_less test wide restricted [] e = refl
+none_less test wide restricted (x ∷ xs) e =
     let parts : (wide x ≡ false) × (list_any wide xs ≡ false) = or_parts (wide x) (list_any wide xs) e in
-    or_from (test x) (list_any test xs) (narrow x parts.0) (none_less test wide narrow xs parts.1)
+    or_from (test x) (list_any test xs) (restricted x parts.0) (none_less test wide restricted xs parts.1)
 
 no_pass : (s : Seen) (t : Option Turn) → list_any (is_served s) s.attempts ≡ false → option_and_then (λ (t : Turn). next_asked (is_after t) s) t ≡ None
 no_pass s None e = refl
@@ -358,9 +358,9 @@ some_config s =
     some_first (config_action s) (is_unsettled s)
     (λ c. some_two (is_to_configure s c) (lacks_config s c) (action.CallConfigured c.number (length s.configs)) (action.CallEnds c.number ending.NoConfig)) s.calls
 
-waits_from : (o : OpenEntry) (s : Seen) → IsCalm o s → AllNone o s → NothingDueWaits o s
-waits_from o s calm n = record {
-  calm = calm;
+waits_from : (o : OpenEntry) (s : Seen) → IsQuiescent o s → AllNone o s → NothingDueWaits o s
+waits_from o s quiescent n = record {
+  quiescent = quiescent;
   clock = from_none (next_of_clock s) (list_any (is_over_time s) s.subs) (some_clock s) n.clock;
   over = from_none (next_take_over s) (holds (may_take_over s) (pending_policy s)) (some_over s) n.over;
   wishes = from_none (next_connected s) (list_any (is_to_connect s) s.subs) (some_wish s) n.wishes;
@@ -404,7 +404,7 @@ ends_where_nothing_waits o s e = (from, to) where
       let c : (of_policies o s ≡ None) × (option_or (of_stage o s o.stage) None ≡ Some action.EntryCloses)
       = skip (of_policies o s) (option_or (of_stage o s o.stage) None) (policies_go o s) b.1 in
       let d : (o.stage ≡ stage.Settling) × AllNone o s = stage_none o s o.stage c.1 in
-      (d.0, waits_from o s ((calm_is_exact o s).0 (a.0, b.0, c.0)) d.1)
+      (d.0, waits_from o s ((quiescence_is_exact o s).0 (a.0, b.0, c.0)) d.1)
 
   to : (o.stage ≡ stage.Settling) × NothingDueWaits o s → following s ≡ Some action.EntryCloses
-  to w = calm_leaves_stage o s e w.1.calm ∙ ap (of_stage o s) w.0 ∙ settles o s w.1
+  to w = quiescence_leaves_stage o s e w.1.quiescent ∙ ap (of_stage o s) w.0 ∙ settles o s w.1

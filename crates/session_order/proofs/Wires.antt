@@ -13,7 +13,7 @@ use Rattle.session_order.proofs.Aside.{aside_final, aside_request}
 use Rattle.session_order.proofs.Changed.{changed_away, changed_map}
 use Rattle.session_order.proofs.Passed.{kept, passed_end, passed_head, passed_link, passed_reset, passed_response}
 use Rattle.session_order.proofs.Posts.{plain_answered, plain_arrived, plain_as, plain_ping}
-use Rattle.session_order.specs.Calm.{IsStill}
+use Rattle.session_order.specs.Quiescent.{IsStill}
 use Rattle.session_order.specs.Laws.{StirsOnly}
 use Rattle.session_order.specs.declared.line.Line.{Line}
 use Rattle.session_actions.specs.declared.action.Action.TheVariants as action

@@ -1,5 +1,5 @@
 -- What follows after an action, and what does not.
--- Example: a session is calm, and its entry is answered with EventAnswered Done, for a Cancel of call 1. No line but those by which a call ends that
+-- Example: a session is quiescent, and its entry is answered with EventAnswered Done, for a Cancel of call 1. No line but those by which a call ends that
 -- was cancelled, or sent too long a message, may give anything then: so what follows is that call 1 ends. That stirs the line of the cuts alone.
 use Rattle.std.specs.Prelude.{None, Some, false, true, ℕ, ◌≡◌, ◌↔◌}
 use Rattle.attempt_ledger.specs.declared.row.Placed.{Placed}
@@ -17,24 +17,24 @@ use Rattle.session_actions.specs.declared.action.CommitCause.{CommitCause}
 use Rattle.session_actions.specs.declared.entry.OpenEntry.{OpenEntry}
 use Rattle.session_actions.specs.declared.link.ReadFrame.{ReadFrame}
 use Rattle.session_actions.specs.declared.seen.Seen.{Seen}
-use Rattle.session_order.specs.Calm.{IsCalm, IsStill}
+use Rattle.session_order.specs.Quiescent.{IsQuiescent, IsStill}
 use Rattle.session_order.specs.Lines.{gives, is_before, is_line, is_of_policies}
 use Rattle.session_order.specs.Stirs.{Fits, stirs}
 use Rattle.session_order.specs.declared.line.Line.{Line}
 use Rattle.session_actions.specs.declared.action.Action.TheVariants as action
 use Rattle.session_order.specs.declared.line.Line.TheVariants as line
 
--- a line gives nothing exactly where it is still; and a session is calm exactly where nothing follows at once
+-- a line gives nothing exactly where it is still; and a session is quiescent exactly where nothing follows at once
 abbrev pub LinesAreStill : Type 0
 LinesAreStill = (l : Line) (o : OpenEntry) (s : Seen) → (gives l o s ≡ None) ↔ IsStill l o s
 
-abbrev pub CalmIsExact : Type 0
-CalmIsExact =
-    (o : OpenEntry) (s : Seen) → ((of_calls o s ≡ None) × (of_links o s ≡ None) × (of_policies o s ≡ None)) ↔ IsCalm o s
+abbrev pub QuiescenceIsExact : Type 0
+QuiescenceIsExact =
+    (o : OpenEntry) (s : Seen) → ((of_calls o s ≡ None) × (of_links o s ≡ None) × (of_policies o s ≡ None)) ↔ IsQuiescent o s
 
--- while a session is calm, what is next is the stage's
-abbrev pub CalmLeavesStage : Type 0
-CalmLeavesStage = (o : OpenEntry) (s : Seen) → s.current ≡ Some o → IsCalm o s → following s ≡ of_stage o s o.stage
+-- while a session is quiescent, what is next is the stage's
+abbrev pub QuiescenceLeavesStage : Type 0
+QuiescenceLeavesStage = (o : OpenEntry) (s : Seen) → s.current ≡ Some o → IsQuiescent o s → following s ≡ of_stage o s o.stage
 
 -- else the first line that is not still gives it
 abbrev pub FirstLineGives : Type 0
@@ -58,7 +58,7 @@ pub record EntriesStir : Type 0 where
   pub settles : StirsOnly action.SettlingBegins
   pub unresolved : StirsOnly action.ResolutionFailed
 
--- what an application tells a call or takes of it
+-- what an application reports to a call or takes of it
 pub record ApplicationsStir : Type 0 where
   pub accepted : (call : ℕ) → StirsOnly (action.MessageAccepted call)
   pub finished : (call : ℕ) → StirsOnly (action.RequestFinished call)

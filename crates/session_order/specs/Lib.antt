@@ -1,9 +1,9 @@
-pub mod Calm
+pub mod Quiescent
 pub mod ConfigStirs
 pub mod Laws
 pub mod Lines
 pub mod Order
-pub mod Rests
+pub mod AtRest
 pub mod SessionLaws
 pub mod Stirs
 pub mod Waits

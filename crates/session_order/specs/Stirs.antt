@@ -72,8 +72,8 @@ stirs a l = list_any (is_line l) (stirred a)
 
 -- What an action asks of the session, as far as it bears on what follows. Most is what its own line of the definition says; the rest is what each
 -- session keeps in order
-abbrev pub AreNumbered : Seen → Type 0
-AreNumbered s = (k : ℕ) (c : Call) → numbered s.calls k ≡ Some c → c.number ≡ k
+abbrev pub CallsHaveTheirNumbers : Seen → Type 0
+CallsHaveTheirNumbers s = (k : ℕ) (c : Call) → numbered s.calls k ≡ Some c → c.number ≡ k
 
 -- each attempt is of a call that began
 abbrev pub HaveCalls : Seen → Type 0
@@ -124,7 +124,7 @@ pub record IsCommittable (row : ℕ) (s : Seen) : Type 0 where
   pub free : (c : Call) → is_of c attempt ≡ true → commitment c s ≡ None
   pub follows : is_followed attempt s ≡ false
   pub small : (is_outstanding attempt && (response attempt s).large) ≡ false
-  pub numbers : AreNumbered s
+  pub numbers : CallsHaveTheirNumbers s
 
 abbrev pub Fits : Action → OpenEntry → Seen → Type 0
 -- the event brings no result of the resolver
@@ -132,7 +132,7 @@ Fits (action.EventAnswered r) o s = addresses_in o.event ≡ None
 Fits action.ResolutionFailed o s = o.event ≡ event.ResolveFailed
 -- the message is of this event, and no longer than allowed; calls have the numbers of their places
 Fits (action.MessageAccepted call) o s =
-    (message : List ℕ) × (o.event ≡ event.Send call message) × AreNumbered s
+    (message : List ℕ) × (o.event ≡ event.Send call message) × CallsHaveTheirNumbers s
     × ((c : Call) → numbered s.calls call ≡ Some c → is_too_long message c s ≡ false)
 Fits (action.RequestFinished call) o s = o.event ≡ event.Finish call
 Fits (action.ItemTaken call item) o s = o.event ≡ event.Take call
@@ -158,5 +158,5 @@ Fits (action.AttemptMade call number k due) o s = IsMakeable call number k due s
 Fits (action.CallCommitted row why) o s = IsCommittable row s
 Fits (action.AttemptPlaced row at) o s = IsPlaceable row at s
 -- calls have the numbers of their places
-Fits (action.CallEnds call why) o s = AreNumbered s
+Fits (action.CallEnds call why) o s = CallsHaveTheirNumbers s
 Fits _ o s = Unit {0}

@@ -17,7 +17,7 @@ use Rattle.session_actions.specs.declared.call.Call.{Call}
 use Rattle.session_actions.specs.declared.entry.OpenEntry.{OpenEntry}
 use Rattle.session_actions.specs.declared.seen.Seen.{Seen}
 use Rattle.session_actions.specs.declared.subchannel.Subchannel.{Subchannel}
-use Rattle.session_order.specs.Calm.{IsCalm, NoneIs}
+use Rattle.session_order.specs.Quiescent.{IsQuiescent, NoneIs}
 use Rattle.session_actions.specs.declared.action.Action.TheVariants as action
 use Rattle.session_actions.specs.declared.entry.Stage.TheVariants as stage
 
@@ -39,7 +39,7 @@ is_due s c = is_open_call c && holds (λ t. nat_le t (now s)) (next_due c s)
 
 -- nothing waits that could be done by now
 pub record NothingDueWaits (o : OpenEntry) (s : Seen) : Type 0 where
-  pub calm : IsCalm o s
+  pub quiescent : IsQuiescent o s
   -- no connection took too long, and no backoff is over ("Connection Backoff Protocol")
   pub clock : NoneIs (is_over_time s) s.subs
   -- no pending policy may take over ("Load Balancing in gRPC")

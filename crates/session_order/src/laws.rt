@@ -1,15 +1,15 @@
 // What follows after an action of a session, and what does not; nothing runs.
-ghost use Rattle.session_order.specs.Laws.{ApplicationsStir, AttemptsStir, BoardsStir, CallsStir, CalmIsExact, CalmLeavesStage, EntriesStir, FirstLineGives, LinesAreStill, LinksStir, PoliciesStirApart, QueuesStir};
+ghost use Rattle.session_order.specs.Laws.{ApplicationsStir, AttemptsStir, BoardsStir, CallsStir, QuiescenceIsExact, QuiescenceLeavesStage, EntriesStir, FirstLineGives, LinesAreStill, LinksStir, PoliciesStirApart, QueuesStir};
 ghost use Rattle.session_order.specs.Order.{ActionsKeepPlaces, SessionsAreInPlace};
-ghost use Rattle.session_order.specs.Rests.{EntriesBeginCalm, EntriesEndAtRest, NewOnesRest};
+ghost use Rattle.session_order.specs.AtRest.{EntriesBeginQuiescent, EntriesEndAtRest, NewOnesRest};
 ghost use Rattle.session_order.specs.Waits.{EndsWhereNothingWaits};
 
-/// A session is calm exactly where none of the lines gives anything that come before its stage; what is next is then the stage's, and else what the first
+/// A session is quiescent exactly where none of the lines gives anything that come before its stage; what is next is then the stage's, and else what the first
 /// line gives that is not still (gRFC A6, gRPC over HTTP/2 and RFC 9113, as each line says).
-pub fn calm_is_exact()
+pub fn quiescence_is_exact()
     ensures lines { LinesAreStill }
-    ensures calm { CalmIsExact }
-    ensures stage { CalmLeavesStage }
+    ensures quiescent { QuiescenceIsExact }
+    ensures stage { QuiescenceLeavesStage }
     ensures first { FirstLineGives }
 {}
 
@@ -37,10 +37,10 @@ pub fn entries_end_where_nothing_waits()
     ensures { EndsWhereNothingWaits }
 {}
 
-/// Between two entries a session is at rest: so it begins; an entry begins calm; and one that closes calm leaves it at rest.
+/// Between two entries a session is at rest: so it begins; an entry begins quiescent; and one that closes quiescent leaves it at rest.
 pub fn entries_rest()
     ensures fresh { NewOnesRest }
-    ensures begin { EntriesBeginCalm }
+    ensures begin { EntriesBeginQuiescent }
     ensures end { EntriesEndAtRest }
 {}
 

@@ -5,9 +5,9 @@ mod laws;
 mod line;
 
 pub use laws::{
-    applications_stir, attempts_stir, boards_stir, calls_stir, calm_is_exact,
-    entries_end_where_nothing_waits, entries_rest, entries_stir, links_stir, policies_stir_apart,
-    queues_stir, sessions_are_in_place,
+    applications_stir, attempts_stir, boards_stir, calls_stir, entries_end_where_nothing_waits,
+    entries_rest, entries_stir, links_stir, policies_stir_apart, queues_stir, quiescence_is_exact,
+    sessions_are_in_place,
 };
 pub use line::Line;
 

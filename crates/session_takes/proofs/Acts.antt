@@ -1,7 +1,7 @@
 -- What each action brings to a call.
 use Rattle.attempt_ledger.specs.declared.row.Placed.{Placed}
 use Rattle.call_actions.specs.CallsApart.Apart.{acts_on, call_opened}
-use Rattle.call_actions.specs.TakesApart.Heard.{has_stream, is_on, passes_on, stream_of_sent}
+use Rattle.call_actions.specs.TakesApart.Received.{has_stream, is_on, passes_on, stream_of_sent}
 use Rattle.channel_actions.proofs.KeptSessions.Along.{places_of}
 use Rattle.channel_actions.proofs.KeptSessions.Lists.{all_at}
 use Rattle.channel_actions.specs.FewCalls.Reached.{IsReached}
@@ -28,10 +28,10 @@ use Rattle.session_order.proofs.SessionLaws.Found.{same_of}
 use Rattle.session_order.proofs.SessionLaws.Same.{is_quiet}
 use Rattle.session_takes.proofs.Came.{same_moves, step_moves}
 use Rattle.session_takes.proofs.Frames.{read_goes, written_goes}
-use Rattle.session_takes.proofs.Fronts.{inside}
-use Rattle.session_takes.proofs.Goes.{Goes, as_it_was, config_goes, end_goes, ended_goes, goes_by, heard, item_goes, keeps_by, kept, made_goes, no_more, own_key, placed_goes, quiet_limits, reset_goes, told_key, told_mark}
-use Rattle.session_takes.proofs.HandedAlong.{after_then, kept_of}
-use Rattle.session_takes.proofs.Heard.{traffic_on}
+use Rattle.session_takes.proofs.Prefixes.{inside}
+use Rattle.session_takes.proofs.Continues.{Continues, as_it_was, config_goes, end_goes, ended_goes, goes_by, handled, item_goes, keeps_by, kept, made_goes, no_more, own_key, placed_goes, quiet_limits, reset_goes, reported_key, reported_mark}
+use Rattle.session_takes.proofs.CommitmentPassesAlong.{after_then, kept_of}
+use Rattle.session_takes.proofs.Received.{traffic_on}
 use Rattle.session_takes.proofs.Joining.{committed_goes}
 use Rattle.session_takes.proofs.Lines.{next_meant}
 use Rattle.session_takes.proofs.Meant.{IsClosing, IsConfiguring, IsJoined, IsMeant}
@@ -55,19 +55,19 @@ in_list : {X : Type 0} (xs : List X) (n : ℕ) (x : X) → numbered xs n ≡ Som
 in_list {X = X} xs zero x e = absurd (let bad : ◌≡◌ {A = Option X} None (Some x) = e in (cc))
 in_list xs (suc i) x e = inside xs i x e
 
-none_behind : {X : Type 0} (xs : List X) → is_some (numbered xs (length xs + 1)) ≡ false
-none_behind xs = ap (λ (n : ℕ). is_some (numbered xs n)) (let more : length xs + 1 ≡ suc (length xs) = omega arith in more) ∙ past_end xs
+none_afterwards : {X : Type 0} (xs : List X) → is_some (numbered xs (length xs + 1)) ≡ false
+none_afterwards xs = ap (λ (n : ℕ). is_some (numbered xs n)) (let more : length xs + 1 ≡ suc (length xs) = omega arith in more) ∙ past_end xs
   where
     past_end : {Y : Type 0} (ys : List Y) → is_some (slice_get ys (length ys)) ≡ false
     past_end [] = refl
     past_end (y ∷ ys) = past_end ys
 
 module _ (s : Seen) (reached : IsReached s) (c : Call) (own : numbered s.calls c.number ≡ Some c) (o : OpenEntry) (current : s.current ≡ Some o) where
-  into : (a : Action) (n : ℕ) → Goes s (after_in o a s) c n → Goes s (after a s) c n
-  into a n g = subst (λ (t : Seen). Goes s t c n) (sym (after_then s a o current)) g
+  into : (a : Action) (n : ℕ) → Continues s (after_in o a s) c n → Continues s (after a s) c n
+  into a n g = subst (λ (t : Seen). Continues s t c n) (sym (after_then s a o current)) g
 
-  other : (a : Action) → is_number c.number (acts_on a s) ≡ false → passes_on a s c ≡ false → Goes s (after a s) c (length (taken_by c.number a))
-  other a off passes = heard s reached c own a off passes
+  other : (a : Action) → is_number c.number (acts_on a s) ≡ false → passes_on a s c ≡ false → Continues s (after a s) c (length (taken_by c.number a))
+  other a off passes = handled s reached c own a off passes
 
   -- no attempt of it is on a link that comes up only now
   up_by : (a : Attempt) (p : Option Placed) → is_of c a ≡ true → option_map_or (λ (at : Placed). came_up s at.link) p true ≡ true → holds (λ (at : Placed). at.link == length s.links + 1) p ≡ false
@@ -79,7 +79,7 @@ module _ (s : Seen) (reached : IsReached s) (c : Call) (own : numbered s.calls c
       by true e =
           absurd
           (let bad : true ≡ false
-          = sym there ∙ ap (λ (n : ℕ). is_some (numbered s.links n)) (eqb-true at.link (length s.links + 1) e) ∙ none_behind s.links in (cc))
+          = sym there ∙ ap (λ (n : ℕ). is_some (numbered s.links n)) (eqb-true at.link (length s.links + 1) e) ∙ none_afterwards s.links in (cc))
 
   up_at : (k : ℕ) (a : Attempt) → numbered s.attempts k ≡ Some a → (is_of c a && is_on (length s.links + 1) a) ≡ false
   up_at k a got = by (is_of c a) refl
@@ -91,19 +91,19 @@ module _ (s : Seen) (reached : IsReached s) (c : Call) (own : numbered s.calls c
   up_off : list_any (λ (a : Attempt). is_of c a && is_on (length s.links + 1) a) s.attempts ≡ false
   up_off = none_from (λ (a : Attempt). is_of c a && is_on (length s.links + 1) a) s.attempts up_at
 
-  item_by : (call : ℕ) (item : Reply) (b : Bool) → (call == c.number) ≡ b → Goes s (after (action.ItemTaken call item) s) c (length (taken_by c.number (action.ItemTaken call item)))
+  item_by : (call : ℕ) (item : Reply) (b : Bool) → (call == c.number) ≡ b → Continues s (after (action.ItemTaken call item) s) c (length (taken_by c.number (action.ItemTaken call item)))
   item_by call item true e = into (action.ItemTaken call item) (length (taken_by c.number (action.ItemTaken call item))) (item_goes s reached c own o call item e)
   item_by call item false e = other (action.ItemTaken call item) e refl
 
-  end_by : (call : ℕ) (why : EndCause) → IsClosing call why s → (b : Bool) → (call == c.number) ≡ b → Goes s (after (action.CallEnds call why) s) c 0
+  end_by : (call : ℕ) (why : EndCause) → IsClosing call why s → (b : Bool) → (call == c.number) ≡ b → Continues s (after (action.CallEnds call why) s) c 0
   end_by call why m true e = into (action.CallEnds call why) 0 (end_goes s reached c own o call why e m)
   end_by call why m false e = other (action.CallEnds call why) e refl
 
-  config_by : (call config : ℕ) → IsConfiguring call s → (b : Bool) → (call == c.number) ≡ b → Goes s (after (action.CallConfigured call config) s) c 0
+  config_by : (call config : ℕ) → IsConfiguring call s → (b : Bool) → (call == c.number) ≡ b → Continues s (after (action.CallConfigured call config) s) c 0
   config_by call config m true e = into (action.CallConfigured call config) 0 (config_goes s reached c own o call config e m)
   config_by call config m false e = other (action.CallConfigured call config) e refl
 
-  commit_by : (row : ℕ) (why : CommitCause) (m : IsJoined row s) (b : Bool) → (m.here.row.call == c.number) ≡ b → Goes s (after (action.CallCommitted row why) s) c 0
+  commit_by : (row : ℕ) (why : CommitCause) (m : IsJoined row s) (b : Bool) → (m.here.row.call == c.number) ≡ b → Continues s (after (action.CallCommitted row why) s) c 0
   commit_by row why m true e =
       let same : m.here.row.call ≡ c.number = eqb-true m.here.row.call c.number e in
       into (action.CallCommitted row why) 0
@@ -111,32 +111,32 @@ module _ (s : Seen) (reached : IsReached s) (c : Call) (own : numbered s.calls c
   commit_by row why m false e =
       other (action.CallCommitted row why) (ap (λ (p : Option Attempt). is_number c.number (option_map (λ (a : Attempt). a.row.call) p)) m.there ∙ e) refl
 
-  read_by : (link : ℕ) (r : ReadFrame) → following s ≡ Some (action.FrameRead link r) → (p : Option Link) → numbered s.links link ≡ p → Goes s (after (action.FrameRead link r) s) c 0
+  read_by : (link : ℕ) (r : ReadFrame) → following s ≡ Some (action.FrameRead link r) → (p : Option Link) → numbered s.links link ≡ p → Continues s (after (action.FrameRead link r) s) c 0
   read_by link r next None got = other (action.FrameRead link r) refl (ap (holds (has_stream c s r.frame.stream)) got)
   read_by link r next (Some l) got = into (action.FrameRead link r) 0 (read_goes s reached c own o current link r next l got)
 
-  written_by : (link : ℕ) (x : Sent) → following s ≡ Some (action.FrameWritten link x) → (p : Option Link) → numbered s.links link ≡ p → Goes s (after (action.FrameWritten link x) s) c 0
+  written_by : (link : ℕ) (x : Sent) → following s ≡ Some (action.FrameWritten link x) → (p : Option Link) → numbered s.links link ≡ p → Continues s (after (action.FrameWritten link x) s) c 0
   written_by link x next None got =
       other (action.FrameWritten link x) (ap (λ (p : Option Link). is_number c.number (option_and_then (call_opened x s) p)) got) (ap (holds (stream_of_sent c s x)) got)
   written_by link x next (Some l) got = into (action.FrameWritten link x) 0 (written_goes s reached c own o current link x next l got)
 
-  -- an action that only tells a call something
-  told : (a : Action) (f : Call → Call) (call : ℕ) → ((d : Call) → own_key (f d) ≡ own_key d) → is_quiet a ≡ true → (after_in o a s).calls ≡ changed f call s.calls
-      → (after_in o a s).attempts ≡ s.attempts → (after_in o a s).links ≡ s.links → Goes s (after a s) c 0
-  told a f call same quiet calls rows lines =
+  -- an action that only reports to a call something
+  reported : (a : Action) (f : Call → Call) (call : ℕ) → ((d : Call) → own_key (f d) ≡ own_key d) → is_quiet a ≡ true → (after_in o a s).calls ≡ changed f call s.calls
+      → (after_in o a s).attempts ≡ s.attempts → (after_in o a s).links ≡ s.links → Continues s (after a s) c 0
+  reported a f call same quiet calls rows lines =
       let t : Seen = after_in o a s in
       into a 0
       (goes_by s reached c own t (ap (λ (cs : List Call). option_map own_key (numbered cs c.number)) calls ∙ keeps_by f same call s.calls c.number)
       (as_it_was s reached c own t (quiet_limits s o a quiet) rows (λ b. ap (traffic_on b) lines)))
 
-  goes_in : (a : Action) → IsNext a s → IsMeant a s → Goes s (after a s) c (length (taken_by c.number a))
+  goes_in : (a : Action) → IsNext a s → IsMeant a s → Continues s (after a s) c (length (taken_by c.number a))
   goes_in action.CallBegins next m = other action.CallBegins (not_next c.number (length s.calls) (in_list s.calls c.number c own)) refl
   goes_in (action.LinkUp sub) next m = other (action.LinkUp sub) refl up_off
   goes_in (action.ItemTaken call item) next m = item_by call item (call == c.number) refl
-  goes_in (action.MessageAccepted call) next m = told (action.MessageAccepted call) (with_message o.event) call (told_key o.event) refl refl refl refl
-  goes_in (action.RequestFinished call) next m = told (action.RequestFinished call) (λ (d : Call). record d { finished = true }) call (λ d. refl) refl refl refl refl
+  goes_in (action.MessageAccepted call) next m = reported (action.MessageAccepted call) (with_message o.event) call (reported_key o.event) refl refl refl refl
+  goes_in (action.RequestFinished call) next m = reported (action.RequestFinished call) (λ (d : Call). record d { finished = true }) call (λ d. refl) refl refl refl refl
   goes_in (action.HedgeWithheld call) next m =
-      told (action.HedgeWithheld call) (λ (d : Call). record d { marks = d.marks ++ record { what = mark.Withheld; moment = now s } ∷ [] }) call (told_mark mark.Withheld (λ b. refl) (now s)) refl refl refl refl
+      reported (action.HedgeWithheld call) (λ (d : Call). record d { marks = d.marks ++ record { what = mark.Withheld; moment = now s } ∷ [] }) call (reported_mark mark.Withheld (λ b. refl) (now s)) refl refl refl refl
   goes_in (action.CallEnds call why) next m = end_by call why m (call == c.number) refl
   goes_in (action.CallConfigured call config) next m = config_by call config m (call == c.number) refl
   goes_in (action.AttemptMade call number k due) next m = into (action.AttemptMade call number k due) 0 (made_goes s reached c own o call number k due)
@@ -150,7 +150,7 @@ module _ (s : Seen) (reached : IsReached s) (c : Call) (own : numbered s.calls c
 
 -- between two entries only an entry may begin
 module _ (s : Seen) (reached : IsReached s) (c : Call) (own : numbered s.calls c.number ≡ Some c) where
-  idle_goes : Goes s s c 0
+  idle_goes : Continues s s c 0
   idle_goes = record {
     call = c;
     there = own;
@@ -163,15 +163,15 @@ module _ (s : Seen) (reached : IsReached s) (c : Call) (own : numbered s.calls c
   never_idle : (a : Action) → s.current ≡ None → following s ≡ Some a → ⊥
   never_idle a none next = let bad : ◌≡◌ {A = Option Action} None (Some a) = sym (ap (option_and_then (following_in s)) none) ∙ next in (cc)
 
-  idle : (a : Action) → s.current ≡ None → IsNext a s → Goes s (after a s) c (length (taken_by c.number a))
-  idle (action.EntryOpens posted word e) none next = heard s reached c own (action.EntryOpens posted word e) refl refl
+  idle : (a : Action) → s.current ≡ None → IsNext a s → Continues s (after a s) c (length (taken_by c.number a))
+  idle (action.EntryOpens posted word e) none next = handled s reached c own (action.EntryOpens posted word e) refl refl
   idle (action.EventRefused why) none next = absurd (never_idle (action.EventRefused why) none next)
   idle (action.EventAnswered r) none next = absurd (never_idle (action.EventAnswered r) none next)
   idle a none next = absurd (never_idle a none next)
 
-  goes_by_entry : (a : Action) → IsNext a s → (p : Option OpenEntry) → s.current ≡ p → Goes s (after a s) c (length (taken_by c.number a))
+  goes_by_entry : (a : Action) → IsNext a s → (p : Option OpenEntry) → s.current ≡ p → Continues s (after a s) c (length (taken_by c.number a))
   goes_by_entry a next (Some o) e = goes_in s reached c own o e a next (next_meant s a (places_of s (kept_of s reached)) next)
   goes_by_entry a next None e = idle a e next
 
-  pub goes : (a : Action) → IsNext a s → Goes s (after a s) c (length (taken_by c.number a))
+  pub goes : (a : Action) → IsNext a s → Continues s (after a s) c (length (taken_by c.number a))
   goes a next = goes_by_entry a next s.current refl

@@ -1,5 +1,5 @@
--- Between two entries a call has ended that is committed to an attempt with an end that counts; and what journal and ledger tell of Takes.
-use Rattle.attempt_ledger.specs.Journals.{taken as told}
+-- Between two entries a call has ended that is committed to an attempt with an end that counts; and what journal and ledger report of Takes.
+use Rattle.attempt_ledger.specs.Journals.{taken as reported}
 use Rattle.attempt_ledger.specs.declared.ledger.CallEnd.{CallEnd}
 use Rattle.attempt_ledger.specs.declared.ledger.Ledger.{Ledger}
 use Rattle.channel_actions.proofs.Calls.Few.Reached.{reached_on}
@@ -21,13 +21,13 @@ use Rattle.session_actions.specs.declared.seen.Seen.{Seen}
 use Rattle.session_actions.specs.declared.seen.Setup.{Setup}
 use Rattle.session_order.proofs.SessionLaws.Found.{none_of}
 use Rattle.session_takes.proofs.Free.{ends_come}
-use Rattle.session_takes.proofs.HandedAlong.{after_then}
-use Rattle.session_takes.proofs.Journals.{closing_is, journals_tell}
+use Rattle.session_takes.proofs.CommitmentPassesAlong.{after_then}
+use Rattle.session_takes.proofs.Journals.{closing_is, journals_report}
 use Rattle.session_takes.proofs.Pending.{event_of, is_unanswered}
 use Rattle.session_takes.proofs.Taken.{takes_are_first}
-use Rattle.session_takes.proofs.Told.{Tells, act, is_closing}
+use Rattle.session_takes.proofs.Report.{ReportsThat, act, is_closing}
 use Rattle.session_takes.proofs.Whole.{ended_whole, takes_are_whole}
-use Rattle.session_takes.specs.Journals.{JournalsTellFirst, JournalsTellWhole}
+use Rattle.session_takes.specs.Journals.{JournalsReportFirst, JournalsReportWhole}
 use Rattle.session_takes.specs.Takes.{EndsByAttempt, EndsComeAtOnce, taken_in, whole_response}
 use Rattle.std.proofs.Common.{Bool, List, None, Option, Some, [], ap, false, is_none, is_some, length, refl, subst, suc, sym, take, true, zero, ℕ, ◌∙◌, ◌∷◌, ◌≡◌}
 use Rattle.std.proofs.lemmas.Bool.{and_parts}
@@ -59,7 +59,7 @@ moves s reached o current a next true is fresh =
     let then_next : following s ≡ Some action.EntryCloses = next ∙ ap (λ (x : Action). Some x) closes in
     subst (λ (x : Action). Carried (after_in o x s)) (sym closes) (record { ends = closed_there s o current then_next; fresh = refl })
 moves s reached o current a next false is fresh =
-    let g : Tells 0 s reached o current fresh a (after_in o a s) = act 0 s reached o current fresh a next is in
+    let g : ReportsThat 0 s reached o current fresh a (after_in o a s) = act 0 s reached o current fresh a next is in
     record { ends = λ none k c there counts. absurd (still_made s (after_in o a s) o current g.event none); fresh = g.later }
 
 opens : (s : Seen) (posted word : ℕ) (x : Event) → s.current ≡ None → Carried (after (action.EntryOpens posted word x) s)
@@ -104,17 +104,17 @@ ends_come_at_once setup actions s does between k c there b =
     whole_there s c b c.end refl ((carried setup actions s does).ends between k c there counts)
 
 -- of journal and ledger
-told_so : (setup : Setup) (entries : List Entry) (ledger : Ledger) (x : IsConsistent setup entries ledger) (k : ℕ) → told k entries ≡ taken_in k x.actions
-told_so setup entries ledger x k = ap (told k) (sym x.journal) ∙ journals_tell setup x.actions x.end x.does x.between k
+reported_so : (setup : Setup) (entries : List Entry) (ledger : Ledger) (x : IsConsistent setup entries ledger) (k : ℕ) → reported k entries ≡ taken_in k x.actions
+reported_so setup entries ledger x k = ap (reported k) (sym x.journal) ∙ journals_report setup x.actions x.end x.does x.between k
 
-pub journals_tell_first : JournalsTellFirst
-journals_tell_first setup entries ledger x k c there =
+pub journals_report_first : JournalsReportFirst
+journals_report_first setup entries ledger x k c there =
     let h : (length (taken_in k x.actions) ≡ c.taken) × (taken_in k x.actions ≡ take c.taken (available c x.end)) = takes_are_first setup x.actions x.end x.does k c there in
-    (ap (λ (l : List Reply). length l) (told_so setup entries ledger x k) ∙ h.0, told_so setup entries ledger x k ∙ h.1)
+    (ap (λ (l : List Reply). length l) (reported_so setup entries ledger x k) ∙ h.0, reported_so setup entries ledger x k ∙ h.1)
 
-pub journals_tell_whole : JournalsTellWhole
-journals_tell_whole setup entries ledger x k c there b =
-    let same : told k entries ≡ taken_in k x.actions = told_so setup entries ledger x k in
+pub journals_report_whole : JournalsReportWhole
+journals_report_whole setup entries ledger x k c there b =
+    let same : reported k entries ≡ taken_in k x.actions = reported_so setup entries ledger x k in
     let h : (taken_in k x.actions ≡ take c.taken (whole_response b.attempt b.end x.end)) × (list_any is_end (taken_in k x.actions) ≡ true → taken_in k x.actions ≡ whole_response b.attempt b.end x.end)
     = takes_are_whole setup x.actions x.end x.does k c there b in
     (ends_come_at_once setup x.actions x.end x.does x.between k c there b, same ∙ h.0, λ e. same ∙ h.1 (sym (ap (list_any is_end) same) ∙ e))

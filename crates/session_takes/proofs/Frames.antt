@@ -26,11 +26,11 @@ use Rattle.session_order.proofs.Changed.{changed_away, changed_map}
 use Rattle.session_order.proofs.SessionLaws.Found.{AtFiltered, filter_at, none_of, same_of}
 use Rattle.session_order.specs.Stirs.{SawLess}
 use Rattle.session_takes.proofs.Cuts.{never_outstanding}
-use Rattle.session_takes.proofs.Fronts.{IsFront, front_of_none, front_same}
-use Rattle.session_takes.proofs.Goes.{Goes, early, goes_by, kept, one_changed, own_key, place, quiet_limits}
+use Rattle.session_takes.proofs.Prefixes.{IsPrefix, prefix_of_none, prefix_same}
+use Rattle.session_takes.proofs.Continues.{Continues, early, goes_by, kept, one_changed, own_key, place, quiet_limits}
 use Rattle.session_takes.proofs.Growing.{more_grows, read_is_later, written_adds_none}
-use Rattle.session_takes.proofs.Heard.{KeepsLimits, alike_items, items_at, items_is, limit_same, no_stream, row_moves, traffic_on}
-use Rattle.session_takes.proofs.Pairs.{AllMove, Hears, Moves, MovesIf, items, last_moves, moves_self}
+use Rattle.session_takes.proofs.Received.{KeepsLimits, alike_items, items_at, items_is, limit_same, no_stream, row_moves, traffic_on}
+use Rattle.session_takes.proofs.Pairs.{AllMove, Receives, Moves, MovesIf, items, last_moves, moves_self}
 use Rattle.session_takes.proofs.Rows.{OpensOne, opened_rows}
 use Rattle.std.proofs.Common.{Bool, List, None, Option, Some, [], ap, false, if◌then◌else◌, inl, inr, is_none, is_some, refl, slice_get, subst, suc, sym, true, ℕ, ◌&&◌, ◌++◌, ◌<◌, ◌==◌, ◌∙◌, ◌∷◌, ◌≡◌, ◌⊎◌}
 use Rattle.std.proofs.lemmas.Bool.{and_parts, eqb-false, eqb-true}
@@ -177,20 +177,20 @@ module _ (s : Seen) (reached : IsReached s) (c : Call) (own : numbered s.calls c
         ∙ ap (items_at (limit_of_attempt a s) ended (Some m.passed)) f
 
     more_by : (i : ℕ) (a : Attempt) → slice_get s.attempts i ≡ Some a → is_of c a ≡ true → (m : IsMore a l.number s.links t.links (traffic.Read r)) (ended : Option RowEnd) (stream : Option ℕ)
-        → a.row.ended ≡ ended → a.row.stream ≡ stream → Hears (is_some c.end) s t a a
+        → a.row.ended ≡ ended → a.row.stream ≡ stream → Receives (is_some c.end) s t a a
     more_by i a there mine m ended None e f =
         let same : items a t ≡ items a s = items_then a m ended None e f ∙ sym (items_now a m ended None e f) in
-        record { front = front_same (items a s) (items a t) same; still = λ x. same; ended = λ x. refl }
+        record { prefix = prefix_same (items a s) (items a t) same; still = λ x. same; ended = λ x. refl }
     more_by i a there mine m (Some end) (Some stream) e f =
         let later : end.seen < r.end = less (suc i) a end m.at there e m.placed m.on in
         let same : items a t ≡ items a s
         = items_then a m (Some end) (Some stream) e f
         ∙ ap (λ (ts : List Traffic). response_items (response_in (limit_of_attempt a s) stream ts)) (read_is_later end.seen r m.passed later)
         ∙ sym (items_now a m (Some end) (Some stream) e f) in
-        record { front = front_same (items a s) (items a t) same; still = λ x. same; ended = λ x. refl }
+        record { prefix = prefix_same (items a s) (items a t) same; still = λ x. same; ended = λ x. refl }
     more_by i a there mine m None (Some stream) e f = record {
-      front = subst (λ (x : List Reply). IsFront x (items a t)) (sym (items_now a m None (Some stream) e f))
-          (subst (λ (x : List Reply). IsFront (response_items (response_in (limit_of_attempt a s) stream m.passed)) x) (sym (items_then a m None (Some stream) e f))
+      prefix = subst (λ (x : List Reply). IsPrefix x (items a t)) (sym (items_now a m None (Some stream) e f))
+          (subst (λ (x : List Reply). IsPrefix (response_items (response_in (limit_of_attempt a s) stream m.passed)) x) (sym (items_then a m None (Some stream) e f))
           (more_grows (limit_of_attempt a s) stream m.passed (traffic.Read r)));
       still = λ closed. absurd
           (never_outstanding s (action.FrameRead link r) o current next refl c i a there (call_is a mine) closed
@@ -204,9 +204,9 @@ module _ (s : Seen) (reached : IsReached s) (c : Call) (own : numbered s.calls c
     read_moves : (i : ℕ) (a : Attempt) → slice_get s.attempts i ≡ Some a → (traffic_on a t.links ≡ traffic_on a s.links) ⊎ IsMore a l.number s.links t.links (traffic.Read r) → Moves c s t a a
     read_moves i a there (inl same) =
         row_moves c s t a a refl refl (λ e. refl) (alike_items s t a a (record { limit = at_limit a; ended = refl; traffic = same; stream = refl }))
-    read_moves i a there (inr m) = record { call = refl; committed = refl; hears = λ mine. more_by i a there mine m a.row.ended a.row.stream refl refl }
+    read_moves i a there (inr m) = record { call = refl; committed = refl; receives = λ mine. more_by i a there mine m a.row.ended a.row.stream refl refl }
 
-    pub read_goes : Goes s t c 0
+    pub read_goes : Continues s t c 0
     read_goes =
         goes_by s reached c own t (ap (λ (z : Seen). option_map own_key (numbered z.calls c.number)) t_is)
         (λ d number.
@@ -260,8 +260,8 @@ module _ (s : Seen) (reached : IsReached s) (c : Call) (own : numbered s.calls c
         record {
           call = refl;
           committed = refl;
-          hears = λ mine. record {
-            front = front_of_none (items a s) (items (with_stream n a) u) none;
+          receives = λ mine. record {
+            prefix = prefix_of_none (items a s) (items (with_stream n a) u) none;
             still = λ closed. absurd
                 (never_outstanding s (action.FrameWritten link x) o current next refl c f.index a (f.here ∙ ap (λ (z : Attempt). Some z) one) (call_is a mine) closed
                 (ap is_outstanding (sym one) ∙ f.goes));
@@ -278,7 +278,7 @@ module _ (s : Seen) (reached : IsReached s) (c : Call) (own : numbered s.calls c
         one_changed s reached c own u (with_stream k.number) k.waits.place (ap (λ (z : Seen). z.attempts) u_is ∙ k.is) others_move
         (λ a there. opens_move k.number k.waits a (waiting l s k.waits k.first) there) d number
 
-    pub written_goes : Goes s u c 0
+    pub written_goes : Continues s u c 0
     written_goes =
         goes_by s reached c own u
         (ap (λ (z : Seen). option_map own_key (numbered z.calls c.number)) u_is ∙ ap (λ (cs : List Call). option_map own_key (numbered cs c.number)) (opened_calls x l s))

@@ -22,11 +22,11 @@ use Rattle.session_order.proofs.Changed.{passes_not}
 use Rattle.session_order.proofs.SessionLaws.Found.{same_of}
 use Rattle.session_order.proofs.SessionLaws.Lines.{IsDueBy, IsRetried, next_asks}
 use Rattle.session_order.proofs.Waits.{ends_where_nothing_waits}
-use Rattle.session_order.specs.Calm.{NoneIs}
+use Rattle.session_order.specs.Quiescent.{NoneIs}
 use Rattle.session_order.specs.Waits.{NothingDueWaits}
 use Rattle.session_takes.proofs.Acts.{goes}
-use Rattle.session_takes.proofs.Goes.{Goes, none_yet}
-use Rattle.session_takes.proofs.HandedAlong.{entry_of, kept_of}
+use Rattle.session_takes.proofs.Continues.{Continues, none_yet}
+use Rattle.session_takes.proofs.CommitmentPassesAlong.{entry_of, kept_of}
 use Rattle.session_takes.proofs.Settled.{Settles, never_due}
 use Rattle.session_takes.proofs.Taken.{FreshIf, IsFresh, fresh_if}
 use Rattle.session_takes.specs.Commits.{FreeCallsAttempt}
@@ -53,7 +53,7 @@ settles_by_call s a n d reached later next h None none there =
 settles_by_call s a n d reached later next h (Some c) was there =
     let number : c.number ≡ n = (places_of s (kept_of s reached)).calls n c was in
     let own : numbered s.calls c.number ≡ Some c = ap (numbered s.calls) number ∙ was in
-    let g : Goes s (after a s) c (length (taken_by c.number a)) = goes s reached c own a next in
+    let g : Continues s (after a s) c (length (taken_by c.number a)) = goes s reached c own a next in
     let one : g.call ≡ d = same_of (numbered (after a s).calls n) g.call d (ap (numbered (after a s).calls) (sym number) ∙ g.there) there in
     subst (Settles (after a s)) one (g.settles (h n c was))
 
@@ -101,5 +101,5 @@ pub ends_come : (s : Seen) → IsNext action.EntryCloses s → (k : ℕ) (c : Ca
 ends_come s next k c there counts =
     let o : (o : OpenEntry) × (s.current ≡ Some o) = entry_of s action.EntryCloses next in
     let waits : (o.0.stage ≡ stage.Settling) × NothingDueWaits o.0 s = (ends_where_nothing_waits o.0 s o.1).0 next in
-    let none : NoneIs (is_over_by_row s) s.calls = waits.1.calm line.Row in
+    let none : NoneIs (is_over_by_row s) s.calls = waits.1.quiescent line.Row in
     not_open c.end (holds (λ (a : Attempt). is_counted a s) (commitment c s)) counts (passes_not (is_over_by_row s) s.calls k c none there)

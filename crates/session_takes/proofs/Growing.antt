@@ -1,4 +1,4 @@
--- What came of a response stays: a frame that is read or written adds behind it.
+-- What came of a response stays: a frame that is read or written adds after it.
 use Rattle.attempt_ledger.specs.declared.row.RowEnd.{RowEnd}
 use Rattle.grpc_base.specs.ErrorCodes.{cancel, flow_control_error, protocol_error}
 use Rattle.grpc_base.specs.declared.event.Reply.{Reply}
@@ -20,7 +20,7 @@ use Rattle.session_actions.specs.declared.link.Traffic.{Traffic}
 use Rattle.session_actions.specs.declared.response.Outcome.{Outcome}
 use Rattle.session_actions.specs.declared.response.Response.{Response}
 use Rattle.session_order.proofs.Lists.{none_is}
-use Rattle.session_takes.proofs.Fronts.{IsFront, front_join, front_of_none, front_same, front_self}
+use Rattle.session_takes.proofs.Prefixes.{IsPrefix, prefix_join, prefix_of_none, prefix_same, prefix_self}
 use Rattle.std.proofs.Common.{Bool, List, None, Option, Some, [], ap, append_assoc, arith, false, if◌then◌else◌, inl, inr, is_none, is_some, length, map, nat_le, nat_lt, refl, subst, sym, true, ℕ, ◌&&◌, ◌++◌, ◌+◌, ◌<◌, ◌==◌, ◌||◌, ◌∙◌, ◌∷◌, ◌≡◌, ◌⊎◌}
 use Rattle.std.proofs.lemmas.Bool.{or_parts}
 use Rattle.std.proofs.lemmas.Bool.Decides.{nat_tests}
@@ -39,21 +39,21 @@ abbrev pub HeadFirst : Response → Type 0
 HeadFirst p = is_none p.head ≡ true → p.messages ≡ []
 
 pub record Grows (p q : Response) : Type 0 where
-  pub front : IsFront (response_items p) (response_items q)
+  pub prefix : IsPrefix (response_items p) (response_items q)
   pub first : HeadFirst q
 
 module _ (p : Response) (first : HeadFirst p) where
   -- all but the end of the response is as before
   same : (q : Response) → q.head ≡ p.head → q.messages ≡ p.messages → Grows p q
   same q head messages = record {
-    front = front_same (response_items p) (response_items q)
+    prefix = prefix_same (response_items p) (response_items q)
         (ap (λ (h : Option (List Field)). option_to_list (option_map (λ (meta : List Field). reply.Head meta) h) ++ map (λ (m : List ℕ). reply.Message m) q.messages) head
         ∙ ap (λ (ms : List (List ℕ)). option_to_list (option_map (λ (meta : List Field). reply.Head meta) p.head) ++ map (λ (m : List ℕ). reply.Message m) ms) messages);
     first = λ none. messages ∙ first (sym (ap (λ (h : Option (List Field)). is_none h) head) ∙ none);
   }
 
   self : Grows p p
-  self = record { front = front_self (response_items p); first = first }
+  self = record { prefix = prefix_self (response_items p); first = first }
 
   either : (b : Bool) (x y : Response) → Grows p x → Grows p y → Grows p (if b then x else y)
   either true x y f g = f
@@ -77,7 +77,7 @@ module _ (p : Response) (first : HeadFirst p) where
 
   head_so : (meta : List Field) → is_some p.head ≡ false → Grows p (record p { head = Some meta })
   head_so meta none = record {
-    front = front_of_none (response_items p) (response_items (record p { head = Some meta })) (no_items none);
+    prefix = prefix_of_none (response_items p) (response_items (record p { head = Some meta })) (no_items none);
     first = λ no. absurd (let bad : false ≡ true = no in (cc));
   }
 
@@ -101,11 +101,11 @@ module _ (p : Response) (first : HeadFirst p) where
   messages_so : (m : Messages) (closes : Bool) → is_none p.head ≡ false → Grows p (with_messages p m closes)
   messages_so m closes some =
       let heads : List Reply = option_to_list (option_map (λ (meta : List Field). reply.Head meta) p.head) in
-      let told : List (List ℕ) → List Reply = map (λ (x : List ℕ). reply.Message x) in
+      let reported : List (List ℕ) → List Reply = map (λ (x : List ℕ). reply.Message x) in
       record {
-        front = record {
-          rest = told m.whole;
-          is = ap (λ (l : List Reply). heads ++ l) (map-append (λ (x : List ℕ). reply.Message x) p.messages m.whole) ∙ sym (append_assoc heads (told p.messages) (told m.whole));
+        prefix = record {
+          rest = reported m.whole;
+          is = ap (λ (l : List Reply). heads ++ l) (map-append (λ (x : List ℕ). reply.Message x) p.messages m.whole) ∙ sym (append_assoc heads (reported p.messages) (reported m.whole));
         };
         first = λ none. absurd (let bad : false ≡ true = sym some ∙ none in (cc));
       }
@@ -113,7 +113,7 @@ module _ (p : Response) (first : HeadFirst p) where
 -- what only ends it, or is kept beside, adds nothing
 grows_on : (p q r : Response) → Grows p q → r.head ≡ q.head → r.messages ≡ q.messages → Grows p r
 grows_on p q r g head messages =
-    let h : Grows q r = same q g.first r head messages in record { front = front_join (response_items p) (response_items q) (response_items r) g.front h.front; first = h.first }
+    let h : Grows q r = same q g.first r head messages in record { prefix = prefix_join (response_items p) (response_items q) (response_items r) g.prefix h.prefix; first = h.first }
 
 fault_if : (p q : Response) (b : Bool) (t : Outcome) → Grows p q → Grows p (if b then ended t q else q)
 fault_if p q true t g = grows_on p q (ended t q) g refl refl
@@ -184,11 +184,11 @@ module _ (limit stream : ℕ) where
   all_first [] p first = first
   all_first (t ∷ ts) p first = all_first ts (response_after limit stream p t) (one_so limit stream p first t).first
 
-  pub more_grows : (ts : List Traffic) (t : Traffic) → IsFront (response_items (response_in limit stream ts)) (response_items (response_in limit stream (ts ++ t ∷ [])))
+  pub more_grows : (ts : List Traffic) (t : Traffic) → IsPrefix (response_items (response_in limit stream ts)) (response_items (response_in limit stream (ts ++ t ∷ [])))
   more_grows ts t =
       let p : Response = response_in limit stream ts in
       let g : Grows p (response_after limit stream p t) = one_so limit stream p (all_first ts no_response (λ none. refl)) t in
-      subst (λ (q : Response). IsFront (response_items p) (response_items q)) (sym (fold-append (response_after limit stream) no_response ts (t ∷ []))) g.front
+      subst (λ (q : Response). IsPrefix (response_items p) (response_items q)) (sym (fold-append (response_after limit stream) no_response ts (t ∷ []))) g.prefix
 
   -- what is written brings nothing
   used_if : (p : Response) (f : FrameSeen) (b : Bool) → response_items (if b then record p { used = p.used + length f.payload } else p) ≡ response_items p

@@ -17,9 +17,9 @@ use Rattle.session_actions.specs.declared.entry.OpenEntry.{OpenEntry}
 use Rattle.session_actions.specs.declared.seen.Seen.{Seen}
 use Rattle.session_order.proofs.Changed.{changed_here}
 use Rattle.session_takes.proofs.Came.{row_open}
-use Rattle.session_takes.proofs.Fronts.{front_of_none}
-use Rattle.session_takes.proofs.Goes.{Goes, handed, no_more, place, retried}
-use Rattle.session_takes.proofs.Heard.{no_stream}
+use Rattle.session_takes.proofs.Prefixes.{prefix_of_none}
+use Rattle.session_takes.proofs.Continues.{Continues, transferred, no_more, place, retried}
+use Rattle.session_takes.proofs.Received.{no_stream}
 use Rattle.session_takes.proofs.Lasts.{IsIn, last_in}
 use Rattle.session_takes.proofs.Meant.{IsFirst, IsHeir, IsJoined}
 use Rattle.session_takes.proofs.Pairs.{items}
@@ -47,7 +47,7 @@ module _ (s : Seen) (reached : IsReached s) (c : Call) (own : numbered s.calls c
           index = i;
           later = m.here;
           here = got;
-          behind = omega (arith, less, at, to);
+          afterwards = omega (arith, less, at, to);
           same = (eqb-true k.before.row.call m.call.number p.0 ∙ number, eqb-true k.before.row.number m.here.row.number q.0);
         } in
         no_stream k.before s ((retried s reached c own).unsent f.index k.before f.here (unsent_by f.index k.before f.here later p.1 (was_unsent k.before) refl)).0
@@ -56,7 +56,7 @@ module _ (s : Seen) (reached : IsReached s) (c : Call) (own : numbered s.calls c
         unsent_by n b at later committed true is = is
         unsent_by n b at later committed false is =
             let less : n ≤ n = omega arith in
-            absurd (let bad : false ≡ true = sym ((handed s reached c own).free n n b b at at less (refl, refl) later is) ∙ committed in (cc))
+            absurd (let bad : false ≡ true = sym ((transferred s reached c own).free n n b b at at less (refl, refl) later is) ∙ committed in (cc))
 
     none_before : (r : ℕ) → numbered s.attempts r ≡ Some m.here → IsFirst m.here m.call s ⊎ IsHeir m.here m.call s → came c s ≡ []
     none_before zero got k = absurd (let bad : ◌≡◌ {A = Option Attempt} None (Some m.here) = got in (cc))
@@ -65,7 +65,7 @@ module _ (s : Seen) (reached : IsReached s) (c : Call) (own : numbered s.calls c
     none_before (suc i) got (inr k) =
         ap (λ (z : Call). came z s) (sym here) ∙ ap (λ (p : Option Attempt). option_map_or (λ (b : Attempt). items b s) p []) k.committed ∙ heir_none k i got
 
-    pub committed_goes : (o : OpenEntry) (why : CommitCause) → Goes s (after_in o (action.CallCommitted row why) s) c 0
+    pub committed_goes : (o : OpenEntry) (why : CommitCause) → Continues s (after_in o (action.CallCommitted row why) s) c 0
     committed_goes o why =
         let t : Seen = after_in o (action.CallCommitted row why) s in
         let u : Seen = with_attempt (with_commitment (entry s)) row s in
@@ -81,7 +81,7 @@ module _ (s : Seen) (reached : IsReached s) (c : Call) (own : numbered s.calls c
           number = refl;
           taken = no_more c.taken;
           step = record {
-            front = λ e. front_of_none (came c s) (came (mark_it c) t) (none_before row m.there m.joins);
+            prefix = λ e. prefix_of_none (came c s) (came (mark_it c) t) (none_before row m.there m.joins);
             stays = λ e. refl;
             still = λ e. absurd (never e);
             ended = λ e is. absurd (never e);

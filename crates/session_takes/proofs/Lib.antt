@@ -4,12 +4,12 @@ pub mod Came
 pub mod Cuts
 pub mod Frames
 pub mod Free
-pub mod Fronts
-pub mod Goes
+pub mod Prefixes
+pub mod Continues
 pub mod Growing
-pub mod Handed
-pub mod HandedAlong
-pub mod Heard
+pub mod Transferred
+pub mod CommitmentPassesAlong
+pub mod Received
 pub mod Joining
 pub mod Journals
 pub mod Lasts
@@ -21,6 +21,6 @@ pub mod Rows
 pub mod Settled
 pub mod Shut
 pub mod Taken
-pub mod Tells
-pub mod Told
+pub mod ReportsThat
+pub mod Report
 pub mod Whole

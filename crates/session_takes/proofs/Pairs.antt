@@ -7,7 +7,7 @@ use Rattle.session_actions.specs.Words.{changed, changed_if, find_last, numbered
 use Rattle.session_actions.specs.declared.attempt.Attempt.{Attempt}
 use Rattle.session_actions.specs.declared.call.Call.{Call}
 use Rattle.session_actions.specs.declared.seen.Seen.{Seen}
-use Rattle.session_takes.proofs.Fronts.{IsFront}
+use Rattle.session_takes.proofs.Prefixes.{IsPrefix}
 use Rattle.std.proofs.Common.{Bool, List, None, Option, Some, [], ap, false, if◌then◌else◌, is_some, refl, slice_get, subst, suc, true, zero, ℕ, ◌&&◌, ◌==◌, ◌∙◌, ◌∷◌, ◌≡◌}
 use Rattle.std.proofs.lemmas.Bool.{and_parts}
 use Rattle.std.specs.Option.{option_or}
@@ -17,15 +17,15 @@ abbrev pub items : Attempt → Seen → List Reply
 items a s = response_items (response a s)
 
 -- what becomes of an attempt of a call, which has ended or not: what came stays, and nothing more comes once the call has ended; and an end stays
-pub record Hears (closed : Bool) (s t : Seen) (a b : Attempt) : Type 0 where
-  pub front : IsFront (items a s) (items b t)
+pub record Receives (closed : Bool) (s t : Seen) (a b : Attempt) : Type 0 where
+  pub prefix : IsPrefix (items a s) (items b t)
   pub still : closed ≡ true → items b t ≡ items a s
   pub ended : is_some a.row.ended ≡ true → b.row.ended ≡ a.row.ended
 
 pub record Moves (c : Call) (s t : Seen) (a b : Attempt) : Type 0 where
   pub call : b.row.call ≡ a.row.call
   pub committed : is_some b.row.committed ≡ is_some a.row.committed
-  pub hears : is_of c a ≡ true → Hears (is_some c.end) s t a b
+  pub receives : is_of c a ≡ true → Receives (is_some c.end) s t a b
 
 abbrev pub AllMove : Call → Seen → Seen → List Attempt → List Attempt → Type 0
 AllMove c s t [] [] = Unit {0}
@@ -34,7 +34,7 @@ AllMove c s t _ _ = ⊥
 
 abbrev pub MovesIf : Bool → Seen → Seen → Option Attempt → Option Attempt → Type 0
 MovesIf closed s t None None = Unit {0}
-MovesIf closed s t (Some a) (Some b) = Hears closed s t a b
+MovesIf closed s t (Some a) (Some b) = Receives closed s t a b
 MovesIf closed s t _ _ = ⊥
 
 module _ (c d : Call) (s t : Seen) (same : d.number ≡ c.number) where
@@ -71,7 +71,7 @@ module _ (c d : Call) (s t : Seen) (same : d.number ≡ c.number) where
   last_by a b (Some x) (Some y) u v is e m h = h
   last_by a b (Some x) None u v is e m h = absurd h
   last_by a b None (Some y) u v is e m h = absurd h
-  last_by a b None None true true is e m h = m.hears (and_parts (is_of c a) (is_some a.row.committed) is).0
+  last_by a b None None true true is e m h = m.receives (and_parts (is_of c a) (is_some a.row.committed) is).0
   last_by a b None None false false is e m h = tt
   last_by a b None None true false is e m h = absurd (cc)
   last_by a b None None false true is e m h = absurd (cc)

@@ -1,6 +1,6 @@
--- What the entry that is being made has to tell of a call, and what an action does to it.
--- what it tells so far; and before its event it was not answered
-use Rattle.attempt_ledger.specs.Journals.{taken_by as told_by}
+-- What the entry that is being made has to report a call, and what an action does to it.
+-- what it reports so far; and before its event it was not answered
+use Rattle.attempt_ledger.specs.Journals.{taken_by as reported_by}
 use Rattle.attempt_ledger.specs.Ends.{is_cut}
 use Rattle.attempt_ledger.specs.Numbering.{is_transparent}
 use Rattle.attempt_ledger.specs.declared.row.RowEnd.{RowEnd}
@@ -45,7 +45,7 @@ use Rattle.session_actions.specs.declared.entry.Stage.TheVariants as stage
 
 abbrev pub pending : ℕ → Option OpenEntry → List Reply
 pending k None = []
-pending k (Some o) = option_map_or (λ r. told_by k o.event r) o.reply []
+pending k (Some o) = option_map_or (λ r. reported_by k o.event r) o.reply []
 
 abbrev pub is_at_event : Stage → Bool
 is_at_event stage.Event = true

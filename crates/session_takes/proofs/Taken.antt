@@ -1,4 +1,4 @@
--- All that was taken of a call is a front of what it has.
+-- All that was taken of a call is a prefix of what it has.
 -- a call that is new has nothing taken of it
 use Rattle.channel_actions.proofs.Calls.Few.Reached.{reached_on}
 use Rattle.channel_actions.proofs.KeptSessions.Along.{places_of}
@@ -26,10 +26,10 @@ use Rattle.session_order.proofs.SessionLaws.Lines.{IsTakeable, next_asks}
 use Rattle.session_order.proofs.SessionLaws.Lists.{past}
 use Rattle.session_order.proofs.SessionLaws.Same.{call_key, made_keeps, same_if, same_self}
 use Rattle.session_takes.proofs.Acts.{goes}
-use Rattle.session_takes.proofs.Came.{RowEnded, row_open, step_front, step_row}
-use Rattle.session_takes.proofs.Fronts.{IsFront, front_join, front_next, front_of_none, front_same, front_taken}
-use Rattle.session_takes.proofs.Goes.{Goes}
-use Rattle.session_takes.proofs.HandedAlong.{kept_of}
+use Rattle.session_takes.proofs.Came.{RowEnded, row_open, step_prefix, step_row}
+use Rattle.session_takes.proofs.Prefixes.{IsPrefix, prefix_join, prefix_next, prefix_of_none, prefix_same, prefix_taken}
+use Rattle.session_takes.proofs.Continues.{Continues}
+use Rattle.session_takes.proofs.CommitmentPassesAlong.{kept_of}
 use Rattle.session_takes.specs.Takes.{ItemsStay, OnlyCallsAreTaken, TakesAreFirst, taken_by, taken_in}
 use Rattle.std.proofs.Common.{Bool, Err, List, None, Ok, Option, Result, Some, [], ap, append-nil, append_assoc, arith, false, if◌then◌else◌, inl, inr, length, length-append, refl, slice_get, subst, suc, sym, take, true, zero, ℕ, ◌++◌, ◌+◌, ◌==◌, ◌∙◌, ◌∷◌, ◌≡◌, ◌⊎◌}
 use Rattle.std.proofs.lemmas.Bool.{eqb-true}
@@ -127,24 +127,24 @@ taken_none s n (action.ItemTaken call item) next none = by (call == n) refl
 taken_none s n _ next none = refl
 
 -- and of one that is there what comes next
-takes_next : (s : Seen) (n : ℕ) (c : Call) (before : List Reply) (a : Action) → IsNext a s → numbered s.calls n ≡ Some c → c.taken ≡ length before → IsFront before (available c s)
-    → IsFront (before ++ taken_by n a) (available c s)
-takes_next s n c before (action.ItemTaken call item) next there count front = by (call == n) refl
+takes_next : (s : Seen) (n : ℕ) (c : Call) (before : List Reply) (a : Action) → IsNext a s → numbered s.calls n ≡ Some c → c.taken ≡ length before → IsPrefix before (available c s)
+    → IsPrefix (before ++ taken_by n a) (available c s)
+takes_next s n c before (action.ItemTaken call item) next there count prefix = by (call == n) refl
   where
-    by : (b : Bool) → (call == n) ≡ b → IsFront (before ++ (if b then item ∷ [] else [])) (available c s)
-    by false e = subst (λ (l : List Reply). IsFront l (available c s)) (sym (append-nil before)) front
+    by : (b : Bool) → (call == n) ≡ b → IsPrefix (before ++ (if b then item ∷ [] else [])) (available c s)
+    by false e = subst (λ (l : List Reply). IsPrefix l (available c s)) (sym (append-nil before)) prefix
     by true e =
         let t : IsTakeable call item s = next_asks s (action.ItemTaken call item) next in
         let here : t.here ≡ c = same_of (numbered s.calls call) t.here c t.there (ap (numbered s.calls) (eqb-true call n e) ∙ there) in
         let item_is : numbered (available c s) (c.taken + 1) ≡ Some item = ap (λ (d : Call). next_item d s) (sym here) ∙ t.next in
         let index : c.taken + 1 ≡ suc (length before) = omega (arith, count) in
-        front_next before (available c s) item front (ap (numbered (available c s)) (sym index) ∙ item_is)
-takes_next s n c before _ next there count front = subst (λ (l : List Reply). IsFront l (available c s)) (sym (append-nil before)) front
+        prefix_next before (available c s) item prefix (ap (numbered (available c s)) (sym index) ∙ item_is)
+takes_next s n c before _ next there count prefix = subst (λ (l : List Reply). IsPrefix l (available c s)) (sym (append-nil before)) prefix
 
 -- what was taken so far
 abbrev HasTaken : List Reply → Seen → Option Call → Type 0
 HasTaken before s None = before ≡ []
-HasTaken before s (Some c) = (c.taken ≡ length before) × IsFront before (available c s) × RowEnded s c
+HasTaken before s (Some c) = (c.taken ≡ length before) × IsPrefix before (available c s) × RowEnded s c
 
 joined_none : (before more : List Reply) → before ≡ [] → more ≡ [] → before ++ more ≡ []
 joined_none before more e f = ap (λ (l : List Reply). l ++ more) e ∙ f
@@ -152,22 +152,22 @@ joined_none before more e f = ap (λ (l : List Reply). l ++ more) e ∙ f
 taken_fresh : (before : List Reply) (t : Seen) (o : Option Call) → FreshIf o → before ≡ [] → HasTaken before t o
 taken_fresh before t None f e = e
 taken_fresh before t (Some d) f e =
-    (f.taken ∙ ap (λ (l : List Reply). length l) (sym e), front_of_none before (available d t) e, row_open t d f.open_now)
+    (f.taken ∙ ap (λ (l : List Reply). length l) (sym e), prefix_of_none before (available d t) e, row_open t d f.open_now)
 
 step_there : (s : Seen) (a : Action) (n : ℕ) (before : List Reply) (c : Call) → IsReached s → IsNext a s → numbered s.calls n ≡ Some c → c.taken ≡ length before
-    → IsFront before (available c s) → RowEnded s c → HasTaken (before ++ taken_by n a) (after a s) (numbered (after a s).calls n)
-step_there s a n before c reached next there count front row =
+    → IsPrefix before (available c s) → RowEnded s c → HasTaken (before ++ taken_by n a) (after a s) (numbered (after a s).calls n)
+step_there s a n before c reached next there count prefix row =
     let number : c.number ≡ n = (places_of s (kept_of s reached)).calls n c there in
     let own : numbered s.calls c.number ≡ Some c = ap (numbered s.calls) number ∙ there in
-    let g : Goes s (after a s) c (length (taken_by c.number a)) = goes s reached c own a next in
+    let g : Continues s (after a s) c (length (taken_by c.number a)) = goes s reached c own a next in
     let at : numbered (after a s).calls n ≡ Some g.call = ap (numbered (after a s).calls) (sym number) ∙ g.there in
     let taken : g.call.taken ≡ c.taken + length (taken_by n a) = g.taken ∙ ap (λ (m : ℕ). c.taken + length (taken_by m a)) number in
     let both : length (before ++ taken_by n a) ≡ length before + length (taken_by n a) = length-append before (taken_by n a) in
     let all : g.call.taken ≡ length (before ++ taken_by n a) = omega (arith, taken, both, count) in
     subst (HasTaken (before ++ taken_by n a) (after a s)) (sym at) (
       all,
-      front_join (before ++ taken_by n a) (available c s) (available g.call (after a s)) (takes_next s n c before a next there count front)
-          (step_front c g.call s (after a s) row g.step),
+      prefix_join (before ++ taken_by n a) (available c s) (available g.call (after a s)) (takes_next s n c before a next there count prefix)
+          (step_prefix c g.call s (after a s) row g.step),
       step_row c g.call s (after a s) row g.step,
     )
 
@@ -202,37 +202,37 @@ has_taken setup actions s does n =
 -- of a call that is there
 pub record AllTaken (n : ℕ) (actions : List Action) (s : Seen) (c : Call) : Type 0 where
   pub count : c.taken ≡ length (taken_in n actions)
-  pub front : IsFront (taken_in n actions) (available c s)
+  pub prefix : IsPrefix (taken_in n actions) (available c s)
   pub row : RowEnded s c
 
 pub all_taken : (setup : Setup) (actions : List Action) (s : Seen) → Does actions (new_session setup) s → (n : ℕ) (c : Call) → numbered s.calls n ≡ Some c → AllTaken n actions s c
 all_taken setup actions s does n c there =
     let h : HasTaken (taken_in n actions) s (Some c) = subst (HasTaken (taken_in n actions) s) there (has_taken setup actions s does n) in
-    record { count = h.0; front = h.1; row = h.2 }
+    record { count = h.0; prefix = h.1; row = h.2 }
 
 pub takes_are_first : TakesAreFirst
 takes_are_first setup actions s does k c there =
     let h : AllTaken k actions s c = all_taken setup actions s does k c there in
-    (sym h.count, front_taken (taken_in k actions) (available c s) h.front ∙ ap (λ (n : ℕ). take n (available c s)) (sym h.count))
+    (sym h.count, prefix_taken (taken_in k actions) (available c s) h.prefix ∙ ap (λ (n : ℕ). take n (available c s)) (sym h.count))
 
 pub only_calls_are_taken : OnlyCallsAreTaken
 only_calls_are_taken setup actions s does k none = subst (HasTaken (taken_in k actions) s) none (has_taken setup actions s does k)
 
 -- what a call has later
 grown : (more : List Action) (s t : Seen) (k : ℕ) (c d : Call) → IsReached s → numbered s.calls k ≡ Some c → RowEnded s c → Does more s t → numbered t.calls k ≡ Some d
-    → IsFront (available c s) (available d t)
+    → IsPrefix (available c s) (available d t)
 grown [] s t k c d reached there row does at =
     let one : c ≡ d = same_of (numbered s.calls k) c d there (ap (λ (u : Seen). numbered u.calls k) (sym does) ∙ at) in
-    front_same (available c s) (available d t) (ap (λ (u : Seen). available d u) does ∙ ap (λ (z : Call). available z s) (sym one))
+    prefix_same (available c s) (available d t) (ap (λ (u : Seen). available d u) does ∙ ap (λ (z : Call). available z s) (sym one))
 grown (a ∷ more) s t k c d reached there row does at =
     let number : c.number ≡ k = (places_of s (kept_of s reached)).calls k c there in
     let own : numbered s.calls c.number ≡ Some c = ap (numbered s.calls) number ∙ there in
-    let g : Goes s (after a s) c (length (taken_by c.number a)) = goes s reached c own a does.0 in
-    front_join (available c s) (available g.call (after a s)) (available d t) (step_front c g.call s (after a s) row g.step)
+    let g : Continues s (after a s) c (length (taken_by c.number a)) = goes s reached c own a does.0 in
+    prefix_join (available c s) (available g.call (after a s)) (available d t) (step_prefix c g.call s (after a s) row g.step)
     (grown more (after a s) t k g.call d (reached_on s (after a s) (a ∷ []) reached (does.0, refl)) (ap (numbered (after a s).calls) (sym number) ∙ g.there)
     (step_row c g.call s (after a s) row g.step) does.1 at)
 
 pub items_stay : ItemsStay
 items_stay setup actions more s t does on k c d there at =
     let h : AllTaken k actions s c = all_taken setup actions s does k c there in
-    front_taken (available c s) (available d t) (grown more s t k c d (record { setup = setup; actions = actions; does = does }) there h.row on at)
+    prefix_taken (available c s) (available d t) (grown more s t k c d (record { setup = setup; actions = actions; does = does }) there h.row on at)

@@ -1,4 +1,4 @@
--- What was taken of a call whose attempt ended by itself, in all; and that no item is taken behind an end.
+-- What was taken of a call whose attempt ended by itself, in all; and that no item is taken after an end.
 -- a response has no end among its items
 use Rattle.attempt_ledger.specs.declared.ledger.CallEnd.{CallEnd}
 use Rattle.attempt_ledger.specs.declared.row.RowEnd.{RowEnd}
@@ -17,7 +17,7 @@ use Rattle.session_actions.specs.declared.seen.Seen.{Seen}
 use Rattle.session_actions.specs.declared.seen.Setup.{Setup}
 use Rattle.session_order.proofs.Changed.{passes_not}
 use Rattle.session_order.proofs.SessionLaws.Lists.{past}
-use Rattle.session_takes.proofs.Fronts.{IsFront, front_at, front_length, front_more, front_taken, front_whole, inside}
+use Rattle.session_takes.proofs.Prefixes.{IsPrefix, prefix_at, prefix_length, prefix_more, prefix_taken, prefix_whole, inside}
 use Rattle.session_takes.proofs.Taken.{AllTaken, all_taken, only_calls_are_taken}
 use Rattle.session_takes.specs.Takes.{EndsAreLast, EndsByAttempt, TakesAreWhole, taken_in, whole_response}
 use Rattle.std.proofs.Common.{Bool, List, None, Option, Some, [], ap, append-nil, arith, false, if◌then◌else◌, inl, inr, length, length-append, map, refl, slice_get, subst, suc, sym, take, true, ℕ, ◌++◌, ◌+◌, ◌||◌, ◌∙◌, ◌∷◌, ◌≡◌, ◌≤◌}
@@ -39,7 +39,7 @@ no_ends : (s : Seen) (o : Option Attempt) → list_any is_end (option_map_or (λ
 no_ends s None = refl
 no_ends s (Some k) = no_ends_by (response k s).head (response k s).messages
 
--- so an end stands behind all that came
+-- so an end stands after all that came
 end_at : (c : Call) (s : Seen) (i : ℕ) (x : Reply) → slice_get (came c s) i ≡ Some x → is_end x ≡ true → ⊥
 end_at c s i x got e =
     let bad : false ≡ true = sym (passes_not is_end (came c s) (suc i) x (no_ends s (commitment c s)) got) ∙ e in (cc)
@@ -72,9 +72,9 @@ ends_by setup actions s does k i item got is None none =
     absurd (let bad : ◌≡◌ {A = Option Reply} None (Some item) = ap (λ (l : List Reply). slice_get l i) (sym (only_calls_are_taken setup actions s does k none)) ∙ got in (cc))
 ends_by setup actions s does k i item got is (Some c) there =
     let h : AllTaken k actions s c = all_taken setup actions s does k c there in
-    let at : slice_get (available c s) i ≡ Some item = front_at (taken_in k actions) (available c s) i item h.front got in
+    let at : slice_get (available c s) i ≡ Some item = prefix_at (taken_in k actions) (available c s) i item h.prefix got in
     same_length i (length (taken_in k actions)) (length (available c s)) (last_by c s c.end refl i item at is) (inside (taken_in k actions) i item got)
-    (front_length (taken_in k actions) (available c s) h.front)
+    (prefix_length (taken_in k actions) (available c s) h.prefix)
 
 pub ends_are_last : EndsAreLast
 ends_are_last setup actions s does k i item got is = ends_by setup actions s does k i item got is (numbered s.calls k) refl
@@ -91,13 +91,13 @@ ended_whole s c b y e =
     ∙ ap (λ (l : List Reply). l ++ end_item c s y.cause ∷ []) came_is ∙ ap (λ (r : Reply). response_items (response b.attempt s) ++ r ∷ []) end_is
 
 -- the whole response of the attempt to which it is committed
-whole_by : (s : Seen) (c : Call) (b : EndsByAttempt s c) (o : Option CallEnd) → c.end ≡ o → (xs : List Reply) → IsFront xs (available c s) → IsFront xs (whole_response b.attempt b.end s)
+whole_by : (s : Seen) (c : Call) (b : EndsByAttempt s c) (o : Option CallEnd) → c.end ≡ o → (xs : List Reply) → IsPrefix xs (available c s) → IsPrefix xs (whole_response b.attempt b.end s)
 whole_by s c b None e xs f =
     let came_is : came c s ≡ response_items (response b.attempt s) = ap (λ (o : Option Attempt). option_map_or (λ (k : Attempt). response_items (response k s)) o []) b.committed in
     let all : available c s ≡ response_items (response b.attempt s)
     = ap (λ (o : Option CallEnd). came c s ++ option_to_list (option_map (λ (z : CallEnd). end_item c s z.cause) o)) e ∙ append-nil (came c s) ∙ came_is in
-    front_more xs (response_items (response b.attempt s)) (end_by_row b.end ∷ []) (subst (λ (l : List Reply). IsFront xs l) all f)
-whole_by s c b (Some y) e xs f = subst (λ (l : List Reply). IsFront xs l) (ended_whole s c b y e) f
+    prefix_more xs (response_items (response b.attempt s)) (end_by_row b.end ∷ []) (subst (λ (l : List Reply). IsPrefix xs l) all f)
+whole_by s c b (Some y) e xs f = subst (λ (l : List Reply). IsPrefix xs l) (ended_whole s c b y e) f
 
 -- one that passes
 abbrev HasOne : (Reply → Bool) → List Reply → Type 0
@@ -111,23 +111,23 @@ any_at : (test : Reply → Bool) (xs : List Reply) → list_any test xs ≡ true
 any_at test [] e = absurd (cc)
 any_at test (x ∷ xs) e = any_by test x xs (test x) refl e (any_at test xs)
 
-all_of_it : (s : Seen) (c : Call) (b : EndsByAttempt s c) (xs : List Reply) → IsFront xs (whole_response b.attempt b.end s) → list_any is_end xs ≡ true → xs ≡ whole_response b.attempt b.end s
+all_of_it : (s : Seen) (c : Call) (b : EndsByAttempt s c) (xs : List Reply) → IsPrefix xs (whole_response b.attempt b.end s) → list_any is_end xs ≡ true → xs ≡ whole_response b.attempt b.end s
 all_of_it s c b xs f e =
     let r : HasOne is_end xs = any_at is_end xs e in
     let items : List Reply = response_items (response b.attempt s) in
-    let at : slice_get (whole_response b.attempt b.end s) r.0 ≡ Some r.1.0 = front_at xs (whole_response b.attempt b.end s) r.0 r.1.0 f r.1.1 in
+    let at : slice_get (whole_response b.attempt b.end s) r.0 ≡ Some r.1.0 = prefix_at xs (whole_response b.attempt b.end s) r.0 r.1.0 f r.1.1 in
     let last : suc r.0 ≡ length (whole_response b.attempt b.end s)
     = last_at items (end_by_row b.end) r.1.0 r.0
     (λ old.
     (let bad : false ≡ true
     = sym (passes_not is_end items (suc r.0) r.1.0 (no_ends_by (response b.attempt s).head (response b.attempt s).messages) old) ∙ r.1.2 in (cc))) at in
     let most : suc r.0 ≤ length xs = inside xs r.0 r.1.0 r.1.1 in
-    front_whole xs (whole_response b.attempt b.end s) f (omega (arith, last, most))
+    prefix_whole xs (whole_response b.attempt b.end s) f (omega (arith, last, most))
 
 pub takes_are_whole : TakesAreWhole
 takes_are_whole setup actions s does k c there b =
     let h : AllTaken k actions s c = all_taken setup actions s does k c there in
-    let f : IsFront (taken_in k actions) (whole_response b.attempt b.end s) = whole_by s c b c.end refl (taken_in k actions) h.front in (
-      front_taken (taken_in k actions) (whole_response b.attempt b.end s) f ∙ ap (λ (n : ℕ). take n (whole_response b.attempt b.end s)) (sym h.count),
+    let f : IsPrefix (taken_in k actions) (whole_response b.attempt b.end s) = whole_by s c b c.end refl (taken_in k actions) h.prefix in (
+      prefix_taken (taken_in k actions) (whole_response b.attempt b.end s) f ∙ ap (λ (n : ℕ). take n (whole_response b.attempt b.end s)) (sym h.count),
       λ e. all_of_it s c b (taken_in k actions) f e,
     )

@@ -1,5 +1,5 @@
--- What the journal of a session tells of a call, for whoever knows the journal and the ledger alone: they are those of a list of actions (`IsConsistent`).
--- Example: the Takes of call 1 in the journal told a head, the message `ab` and the end OK. In its list of actions call 1 is committed to an attempt whose
+-- What the journal of a session reports of a call, for whoever knows the journal and the ledger alone: they are those of a list of actions (`IsConsistent`).
+-- Example: the Takes of call 1 in the journal reported a head, the message `ab` and the end OK. In its list of actions call 1 is committed to an attempt whose
 -- response is this head and `ab`, and which ended with OK.
 use Rattle.std.specs.List.{list_any}
 use Rattle.std.specs.Prelude.{List, Some, length, take, true, ℕ, ◌≡◌}
@@ -13,15 +13,15 @@ use Rattle.session_actions.specs.declared.call.Call.{Call}
 use Rattle.session_actions.specs.declared.seen.Setup.{Setup}
 use Rattle.session_takes.specs.Takes.{EndsByAttempt, whole_response}
 
--- its Takes of a call told the first items of what the call has at last
-abbrev pub JournalsTellFirst : Type 0
-JournalsTellFirst =
+-- its Takes of a call reported the first items of what the call has at last
+abbrev pub JournalsReportFirst : Type 0
+JournalsReportFirst =
     (setup : Setup) (entries : List Entry) (ledger : Ledger) (x : IsConsistent setup entries ledger) (k : ℕ) (c : Call) → numbered x.end.calls k ≡ Some c
     → (length (taken k entries) ≡ c.taken) × (taken k entries ≡ take c.taken (available c x.end))
 
--- and where its attempt ended by itself, head, messages and end of the response, all of them once an end was told
-abbrev pub JournalsTellWhole : Type 0
-JournalsTellWhole =
+-- and where its attempt ended by itself, head, messages and end of the response, all of them once an end was reported
+abbrev pub JournalsReportWhole : Type 0
+JournalsReportWhole =
     (setup : Setup) (entries : List Entry) (ledger : Ledger) (x : IsConsistent setup entries ledger) (k : ℕ) (c : Call) → numbered x.end.calls k ≡ Some c
     → (b : EndsByAttempt x.end c)
     → (available c x.end ≡ whole_response b.attempt b.end x.end) × (taken k entries ≡ take c.taken (whole_response b.attempt b.end x.end))

@@ -1,8 +1,8 @@
--- What an application took of a call in a list of actions, and that it is a front of what the call has at last (gRPC, "Core concepts": unary and streaming
+-- What an application took of a call in a list of actions, and that it is a prefix of what the call has at last (gRPC, "Core concepts": unary and streaming
 -- calls; gRPC over HTTP/2, "Responses"; gRFC A6, "When Retries are Valid"). A session is any list of actions from a new one, each of which is the one that
 -- follows; between two entries or not.
 -- Example: on the stream of the one attempt of call 1 come a head, a message `ab`, and trailers with status 0. Three Takes give the head, `ab`, and the end OK.
--- Had the application taken twice, it would have the head and `ab`: a front of these three. A fourth Take is refused, and gives no item.
+-- Had the application taken twice, it would have the head and `ab`: a prefix of these three. A fourth Take is refused, and gives no item.
 use Rattle.std.specs.List.{list_any}
 use Rattle.std.specs.Prelude.{List, None, Some, [], if◌then◌else◌, length, slice_get, suc, take, true, ℕ, ◌++◌, ◌==◌, ◌∷◌, ◌≡◌}
 use Rattle.attempt_ledger.specs.Journals.{taken}
@@ -43,7 +43,7 @@ OnlyCallsAreTaken =
     (setup : Setup) (actions : List Action) (s : Seen) → Does actions (new_session setup) s
     → (k : ℕ) → numbered s.calls k ≡ None → taken_in k actions ≡ []
 
--- what a call has is the front of what it has later
+-- what a call has is the prefix of what it has later
 abbrev pub ItemsStay : Type 0
 ItemsStay =
     (setup : Setup) (actions more : List Action) (s t : Seen) → Does actions (new_session setup) s → Does more s t
@@ -77,12 +77,12 @@ EndsComeAtOnce =
     (setup : Setup) (actions : List Action) (s : Seen) → Does actions (new_session setup) s → s.current ≡ None
     → (k : ℕ) (c : Call) → numbered s.calls k ≡ Some c → (b : EndsByAttempt s c) → available c s ≡ whole_response b.attempt b.end s
 
--- between two entries the journal tells just these: its Takes of the call were answered with them, in this order
-abbrev pub JournalsTell : Type 0
-JournalsTell =
+-- between two entries the journal reports just these: its Takes of the call were answered with them, in this order
+abbrev pub JournalsReport : Type 0
+JournalsReport =
     (setup : Setup) (actions : List Action) (s : Seen) → Does actions (new_session setup) s → s.current ≡ None → (k : ℕ) → taken k s.entries ≡ taken_in k actions
 
--- whatever ended a call, no item is taken behind its end
+-- whatever ended a call, no item is taken after its end
 abbrev pub EndsAreLast : Type 0
 EndsAreLast =
     (setup : Setup) (actions : List Action) (s : Seen) → Does actions (new_session setup) s

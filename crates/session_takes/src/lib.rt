@@ -4,6 +4,6 @@
 mod laws;
 
 pub use laws::{
-    channels_stay_shut, commitments_are_one, committed_calls_rest, items_stay, journals_tell,
+    channels_stay_shut, commitments_are_one, committed_calls_rest, items_stay, journals_report,
     takes_are_first, takes_are_whole,
 };

@@ -28,9 +28,9 @@ last_made xs e =
     ap (λ (o : Option Entry). option_map_or (λ (x : Entry). x.moment) o 0)
     (ap (slice_get (xs ++ e ∷ [])) place ∙ at_last xs e)
 
--- what is told of the entries behind one entry more
-told_step : {X : Type 0} → (f : Entry → X) (before : List Entry) (e : Entry) (rest : List X) → map f (before ++ e ∷ []) ++ rest ≡ map f before ++ f e ∷ rest
-told_step f before e rest =
+-- what is reported of the entries after one entry more
+reported_step : {X : Type 0} → (f : Entry → X) (before : List Entry) (e : Entry) (rest : List X) → map f (before ++ e ∷ []) ++ rest ≡ map f before ++ f e ∷ rest
+reported_step f before e rest =
     ap (λ (t : List _). t ++ rest) (map-append f before (e ∷ []))
     ∙ append_assoc (map f before) (f e ∷ []) rest
 
@@ -57,16 +57,16 @@ adds old (s ∷ events) new runs =
       events_are =
           more.events_are
           ∙ ap (λ (es : List Entry). map (λ (x : Entry). x.event) es ++ map (λ (x : Stamped). x.event) events) step.journal
-          ∙ told_step (λ (x : Entry). x.event) before made (map (λ (x : Stamped). x.event) events);
+          ∙ reported_step (λ (x : Entry). x.event) before made (map (λ (x : Stamped). x.event) events);
       words_are =
           more.words_are
           ∙ ap (λ (es : List Entry). map (λ (x : Entry). x.word) es ++ map (λ (x : Stamped). x.word) events) step.journal
-          ∙ told_step (λ (x : Entry). x.word) before made (map (λ (x : Stamped). x.word) events);
+          ∙ reported_step (λ (x : Entry). x.word) before made (map (λ (x : Stamped). x.word) events);
       moments_are =
           more.moments_are
           ∙ ap (λ (m : ℕ). map (λ (x : Entry). x.moment) next.journal.entries ++ highest_so_far m (map (λ (x : Stamped). x.moment) events)) last
           ∙ ap (λ (es : List Entry). map (λ (x : Entry). x.moment) es ++ highest_so_far made.moment (map (λ (x : Stamped). x.moment) events)) step.journal
-          ∙ told_step (λ (x : Entry). x.moment) before made (highest_so_far made.moment (map (λ (x : Stamped). x.moment) events));
+          ∙ reported_step (λ (x : Entry). x.moment) before made (highest_so_far made.moment (map (λ (x : Stamped). x.moment) events));
     }
 
 -- and to that of a new channel

@@ -1,23 +1,23 @@
 -- How much of an output was written, for one that is more than another.
 use Rattle.std.proofs.Common.{◌≡◌, ◌∙◌, ℕ, Option, List, ap, inl, inr}
 use Rattle.std.specs.Prelude.{Result, Ok, Err, OnOk, OnErr}
-use Rattle.gate_io.specs.Outside.{AppendsFront}
-use Rattle.script_text.proofs.Passing.{AppendsFront-none}
-use Rattle.session_text.specs.Writing.{WritesAll, WritesFront, WritesSome}
+use Rattle.gate_io.specs.Outside.{AppendsPrefix}
+use Rattle.script_text.proofs.Passing.{AppendsPrefix-none}
+use Rattle.session_text.specs.Writing.{WritesAll, WritesPrefix, WritesSome}
 
--- nothing written is a front of any text
-pub none_written : (taken : Option (List ℕ)) (text : List ℕ) → AppendsFront taken taken text
-none_written taken text = AppendsFront-none taken text
+-- nothing written is a prefix of any text
+pub none_written : (taken : Option (List ℕ)) (text : List ℕ) → AppendsPrefix taken taken text
+none_written taken text = AppendsPrefix-none taken text
 
 pub all_as : (P Q : List ℕ → Type 0) (taken taken' : Option (List ℕ)) → ((text : List ℕ) → P text → Q text) → WritesAll P taken taken' → WritesAll Q taken taken'
 all_as P Q taken taken' more all = (all.0, more all.0 all.1, all.2)
 
-pub front_as : (P Q : List ℕ → Type 0) (taken taken' : Option (List ℕ)) → ((text : List ℕ) → P text → Q text) → WritesFront P taken taken' → WritesFront Q taken taken'
-front_as P Q taken taken' more front = (front.0, more front.0 front.1, front.2)
+pub prefix_as : (P Q : List ℕ → Type 0) (taken taken' : Option (List ℕ)) → ((text : List ℕ) → P text → Q text) → WritesPrefix P taken taken' → WritesPrefix Q taken taken'
+prefix_as P Q taken taken' more prefix = (prefix.0, more prefix.0 prefix.1, prefix.2)
 
 pub some_as : (P Q : List ℕ → Type 0) (taken taken' : Option (List ℕ)) → ((text : List ℕ) → P text → Q text) → WritesSome P taken taken' → WritesSome Q taken taken'
 some_as P Q taken taken' more (inl same) = inl same
-some_as P Q taken taken' more (inr front) = inr (front_as P Q taken taken' more front)
+some_as P Q taken taken' more (inr prefix) = inr (prefix_as P Q taken taken' more prefix)
 
 -- what holds where a call succeeded, or where it failed, holds of what follows from it
 pub on_ok_as : {T E P Q : Type 0} → (r : Result T E) → (P → Q) → OnOk r P → OnOk r Q

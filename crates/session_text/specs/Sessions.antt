@@ -10,7 +10,7 @@ use Rattle.script_text.specs.Report.{report_of}
 use Rattle.session_text.specs.declared.ran.Ran.{Ran}
 use Rattle.session_text.specs.declared.ran.Ran.TheVariants as ran
 
--- the line that tells the first bad line of a script
+-- the line that reports the first bad line of a script
 abbrev pub line_fault_text : ℕ → ℕ → List ℕ
 line_fault_text line cause = codes "fault line " ++ decimal line ++ codes " cause " ++ decimal cause ++ 10 ∷ []
 
@@ -19,7 +19,7 @@ abbrev pub highest_so_far : ℕ → List ℕ → List ℕ
 highest_so_far last [] = []
 highest_so_far last (m ∷ moments) = max m last ∷ highest_so_far (max m last) moments
 
--- the line behind the report of a session whose journal is full
+-- the line after the report of a session whose journal is full
 abbrev pub session_full_text : List ℕ
 session_full_text = codes "fault session full" ++ 10 ∷ []
 

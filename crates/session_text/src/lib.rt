@@ -2,9 +2,9 @@
 #![tactic(auto)]
 
 mod ran;
+mod reporting;
 mod session;
-mod tell;
 
 pub use ran::Ran;
+pub use reporting::{SESSION_FULL, append_number, report_bad, unwritten, write_text};
 pub use session::write_session;
-pub use tell::{SESSION_FULL, append_number, tell_bad, unwritten, write_text};

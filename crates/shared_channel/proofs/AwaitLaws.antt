@@ -54,8 +54,8 @@ come_by moment word call old new r can stepped =
 
 pub take_comes : (moment word call : ℕ) (old new : CoreSeen) (b : Bool) (result : Result Reply PostError) → CanTake call b old → b ≡ true
     → StepGives (record { moment = moment; word = word; event = event.Take call }) old result new → IfOk result (λ r. is_not_yet r ≡ false)
-take_comes moment word call old new b (Ok r) told can did = come_by moment word call old new r (λ waits. clash (sym can ∙ told.1 waits)) did.0.by
-take_comes moment word call old new b (Err error) told can did = tt
+take_comes moment word call old new b (Ok r) reported can did = come_by moment word call old new r (λ waits. clash (sym can ∙ reported.1 waits)) did.0.by
+take_comes moment word call old new b (Err error) reported can did = tt
 
 room_by : (moment word call : ℕ) (message : List ℕ) (old new : CoreSeen) (r : Reply) → (((held : ℕ) × WouldReply old (event.Send call message) (reply.Full held)) → ⊥)
     → Stepped (next_entry old.journal.entries) (moment_of old.journal.entries (record { moment = moment; word = word; event = event.Send call message })) word (event.Send call message) old.state new.state r
@@ -69,8 +69,8 @@ room_by moment word call message old new r can stepped =
 
 pub send_fits : (moment word call len : ℕ) (message : List ℕ) (old new : CoreSeen) (b : Bool) (result : Result Reply PostError) → CanSend call len b old → length message ≡ len → b ≡ true
     → StepGives (record { moment = moment; word = word; event = event.Send call message }) old result new → IfOk result (λ r. is_full r ≡ false)
-send_fits moment word call len message old new b (Ok r) told long can did = room_by moment word call message old new r (λ full. clash (sym can ∙ (told message long).1 full)) did.0.by
-send_fits moment word call len message old new b (Err error) told long can did = tt
+send_fits moment word call len message old new b (Ok r) reported long can did = room_by moment word call message old new r (λ full. clash (sym can ∙ (reported message long).1 full)) did.0.by
+send_fits moment word call len message old new b (Err error) reported long can did = tt
 
 -- a message for which no journal has room makes no entry
 pub send_huge : (call : ℕ) (message : List ℕ) (n bytes : ℕ) (result : Result Reply PostError) → 4294967295 < length message

@@ -101,18 +101,18 @@ module _ {S J A : Type 0} {origin : S → List ℕ} (core_of : S → CoreSeen) (
       }
 
   -- a turn that left the channel as it was
-  pub looks_at : (tells : CoreSeen → Type 0) (job job_after : J) (answer : A) (before turned after : SeatSeen Entry)
+  pub looks_at : (reports_that : CoreSeen → Type 0) (job job_after : J) (answer : A) (before turned after : SeatSeen Entry)
       → (turned ≡ record before { found = after.found }) → StartsWith after.found before.found
       → (turn : TakesTurn (λ s. (core_of s).journal.entries) origin runs job turned answer job_after after)
-      → (core_of turn.end ≡ core_of turn.start) × tells (core_of turn.start)
-      → Looks tells before after
-  looks_at tells job job_after answer before turned after is found turn said =
+      → (core_of turn.end ≡ core_of turn.start) × reports_that (core_of turn.start)
+      → Looks reports_that before after
+  looks_at reports_that job job_after answer before turned after is found turn said =
       let same : (core_of turn.end).journal.entries ≡ (core_of turn.start).journal.entries = ap (λ (c : CoreSeen). c.journal.entries) said.0 in
       let none : turn.made ≡ [] =
       append_cancel_left (core_of turn.start).journal.entries turn.made [] (sym turn.appends ∙ same ∙ sym (append-nil (core_of turn.start).journal.entries)) in
       record {
         core = core_of turn.start;
-        told = said.1;
+        reported = said.1;
         sees = subst (λ (t : SeatSeen Entry). StartsWith (core_of turn.start).journal.entries t.seen) is turn.sees;
         seen = ap (λ (t : SeatSeen Entry). t.seen) turn.seat ∙ same;
         own = ap (λ (t : SeatSeen Entry). t.own) turn.seat ∙ ap (λ (made : List Entry). turned.own ++ places (length (core_of turn.start).journal.entries) made) none
@@ -122,13 +122,13 @@ module _ {S J A : Type 0} {origin : S → List ℕ} (core_of : S → CoreSeen) (
         found = found;
       }
 
-  pub looks_of : (tells : CoreSeen → Type 0) (job job_after : J) (answer : A) (before turned after : SeatSeen Entry)
-      → ((a b : S) → runs job a answer job_after b → (core_of b ≡ core_of a) × tells (core_of a))
+  pub looks_of : (reports_that : CoreSeen → Type 0) (job job_after : J) (answer : A) (before turned after : SeatSeen Entry)
+      → ((a b : S) → runs job a answer job_after b → (core_of b ≡ core_of a) × reports_that (core_of a))
       → (turned ≡ record before { found = after.found }) → StartsWith after.found before.found
       → TakesTurn (λ s. (core_of s).journal.entries) origin runs job turned answer job_after after
-      → Looks tells before after
-  looks_of tells job job_after answer before turned after says is found turn =
-      looks_at tells job job_after answer before turned after is found turn (says turn.start turn.end turn.ran)
+      → Looks reports_that before after
+  looks_of reports_that job job_after answer before turned after says is found turn =
+      looks_at reports_that job job_after answer before turned after is found turn (says turn.start turn.end turn.ran)
 
   -- the authority of the channel in a turn is the origin of the handle's lock
   pub root_of : (job job_after : J) (answer : A) (before turned after : SeatSeen Entry)
@@ -141,8 +141,8 @@ module _ {S J A : Type 0} {origin : S → List ℕ} (core_of : S → CoreSeen) (
 pub more_none : (s : SeatSeen Entry) → SeesMore s s
 more_none s = record { sees = ([], sym (append-nil s.seen)); own = refl; lock = refl; parts = refl; found = ([], sym (append-nil s.found)) }
 
-pub more_looks : (tells : CoreSeen → Type 0) (a b c : SeatSeen Entry) → SeesMore a b → Looks tells b c → SeesMore a c
-more_looks tells a b c more looks = record {
+pub more_looks : (reports_that : CoreSeen → Type 0) (a b c : SeatSeen Entry) → SeesMore a b → Looks reports_that b c → SeesMore a c
+more_looks reports_that a b c more looks = record {
   sees = starts_after a.seen b.seen c.seen more.sees (subst (λ (t : List Entry). StartsWith t b.seen) (sym looks.seen) looks.sees);
   own = looks.own ∙ more.own;
   lock = looks.lock ∙ more.lock;
@@ -233,8 +233,8 @@ from_less may_give word call result less more begins from = record {
   come = from.come;
 }
 
-pub looks_begin : (tells : CoreSeen → Type 0) (before after : SeatSeen Entry) → Looks tells before after → StartsWith after.seen before.seen
-looks_begin tells before after looks = subst (λ (t : List Entry). StartsWith t before.seen) (sym looks.seen) looks.sees
+pub looks_begin : (reports_that : CoreSeen → Type 0) (before after : SeatSeen Entry) → Looks reports_that before after → StartsWith after.seen before.seen
+looks_begin reports_that before after looks = subst (λ (t : List Entry). StartsWith t before.seen) (sym looks.seen) looks.sees
 
 -- a turn that was tried finds no holder
 module _ {S J A : Type 0} {origin : S → List ℕ} (entries : S → List Entry) (runs : J → S → A → J → S → Type 0) where
@@ -248,15 +248,15 @@ pub starts_same : (a b : List ℕ) → b ≡ a → StartsWith b a
 starts_same a b same = ([], same ∙ sym (append-nil a))
 
 -- the same turn by other words for it
-pub take_as : (moment word told call : ℕ) (old new : CoreSeen) (answer : Option (Result Reply PostError)) → word ≡ told
-    → TakeGives moment word call old answer new → TakeGives moment told call old answer new
-take_as moment word told call old new answer is gives =
+pub take_as : (moment word reported call : ℕ) (old new : CoreSeen) (answer : Option (Result Reply PostError)) → word ≡ reported
+    → TakeGives moment word call old answer new → TakeGives moment reported call old answer new
+take_as moment word reported call old new answer is gives =
     let P : ℕ → Type 0 = λ w. TakeGives moment w call old answer new in
     subst P is gives
 
-pub send_as : (moment word told call of : ℕ) (message sent : List ℕ) (old new : CoreSeen) (answer : Option (Result Reply PostError)) → word ≡ told → call ≡ of → message ≡ sent
-    → SendGives moment word call message old answer new → SendGives moment told of sent old answer new
-send_as moment word told call of message sent old new answer is same text gives =
+pub send_as : (moment word reported call of : ℕ) (message sent : List ℕ) (old new : CoreSeen) (answer : Option (Result Reply PostError)) → word ≡ reported → call ≡ of → message ≡ sent
+    → SendGives moment word call message old answer new → SendGives moment reported of sent old answer new
+send_as moment word reported call of message sent old new answer is same text gives =
     let P : ℕ → Type 0 = λ w. SendGives moment w of sent old answer new in
     let Q : ℕ → Type 0 = λ c. SendGives moment word c sent old answer new in
     let R : List ℕ → Type 0 = λ m. SendGives moment word call m old answer new in

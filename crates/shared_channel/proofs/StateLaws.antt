@@ -1,4 +1,4 @@
--- The state that a history tells, and what one entry more does to it.
+-- The state that a history reports, and what one entry more does to it.
 use Rattle.std.proofs.Common.{◌≡◌, ◌≤◌, ◌<◌, ◌∙◌, ◌↔◌, ℕ, ◌+◌, Bool, true, false, ◌||◌, Result, Ok, Err, IfOk, List, [], ◌∷◌, ◌++◌, length, refl, sym, ap, subst, inl, length-append, arith}
 use Rattle.std.proofs.Math.Nat.{lt_of_not-le}
 use Rattle.grpc_base.specs.Conns.{conn_number}
@@ -97,18 +97,18 @@ watched_more shut shuts es new e more is kept fits =
       omega (arith, length-append es (e ∷ []), fits),
     )
 
--- what an answer tells
+-- what an answer reports
 pub ok_of : {A E : Type 0} (P : A → Type 0) (r : Result A E) (x : A) → r ≡ Ok x → IfOk r P → P x
-ok_of {A = A} {E = E} P r x is told = let Q : Result A E → Type 0 = λ s. IfOk s P in subst Q is told
+ok_of {A = A} {E = E} P r x is reported = let Q : Result A E → Type 0 = λ s. IfOk s P in subst Q is reported
 
-pub error_as : (e : Event) (old seen new : CoreSeen) (error told : PostError) → old ≡ seen → told ≡ error → Fails e old error new → Fails e seen told new
-error_as e old seen new error told is same fails =
-    let P : CoreSeen → Type 0 = λ s. Fails e s told new in
+pub error_as : (e : Event) (old seen new : CoreSeen) (error reported : PostError) → old ≡ seen → reported ≡ error → Fails e old error new → Fails e seen reported new
+error_as e old seen new error reported is same fails =
+    let P : CoreSeen → Type 0 = λ s. Fails e s reported new in
     let Q : PostError → Type 0 = λ x. Fails e old x new in
     subst P is (subst Q (sym same) fails)
 
 pub watched_now : (now shut shuts : Bool) (es new : List Entry) (e : Entry) → now ≡ (shut || shuts) → new ≡ es ++ e ∷ [] → shuts ≡ is_shutdown e.event → IsWatched shut es
     → length es + 1 ≤ 1048576 → IsWatched now new
-watched_now now shut shuts es new e is more told kept fits =
+watched_now now shut shuts es new e is more reported kept fits =
     let P : Bool → Type 0 = λ b. IsWatched b new in
-    subst P (sym is) (watched_more shut shuts es new e more told kept fits)
+    subst P (sym is) (watched_more shut shuts es new e more reported kept fits)

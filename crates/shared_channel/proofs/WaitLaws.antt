@@ -1,4 +1,4 @@
--- Deadlines that have come only end calls: what could be taken before them can be taken behind them, and a message that had room has room.
+-- Deadlines that have come only end calls: what could be taken before them can be taken after them, and a message that had room has room.
 use Rattle.std.proofs.Common.{◌≡◌, ◌∙◌, ℕ, zero, suc, Bool, true, false, not, ◌||◌, nat_le, if◌then◌else◌, is_some, Option, Some, None, List, [], ◌∷◌, length, slice_get, slice_set, refl, sym, subst, inl, inr}
 use Rattle.std.proofs.lemmas.Bool.{cases_Bool}
 use Rattle.std.specs.Set.{remove_key}

@@ -1,5 +1,5 @@
--- What is under the lock: a channel that was new was given events, one behind another.
--- Example: the origin of a channel with the authority `a` and `pick_first` alone is 1, 97, 0, 1: the length and the bytes of the authority, and behind them the
+-- What is under the lock: a channel that was new was given events, one after another.
+-- Example: the origin of a channel with the authority `a` and `pick_first` alone is 1, 97, 0, 1: the length and the bytes of the authority, and after them the
 -- number of the kind, and the width, of each policy.
 use Rattle.std.specs.Prelude.{◌≡◌, ◌⊎◌, ℕ, true, List, [], ◌∷◌, ◌++◌, length}
 use Rattle.grpc_base.specs.Kinds.{kind_number}
@@ -9,17 +9,17 @@ use Rattle.channel_core.specs.Core.{CoreSeen}
 use Rattle.journal_room.specs.Runs.{HasRunBy, looks_of}
 use Rattle.lb_policy.specs.Table.{PolicySeen}
 
--- what is under the lock: a channel, and the numbers that tell with what it was new
+-- what is under the lock: a channel, and the numbers that report with what it was new
 pub record WatchedSeen : Type 0 where
   pub core : CoreSeen
   pub origin : List ℕ
 
--- each kind by its number, and the width behind it
+-- each kind by its number, and the width after it
 abbrev pub look_numbers : List (Kind × ℕ) → List ℕ
 look_numbers [] = []
 look_numbers (look ∷ looks) = kind_number look.0 ∷ look.1 ∷ look_numbers looks
 
--- the numbers that tell an authority and how policies look
+-- the numbers that report an authority and how policies look
 abbrev pub origin_of : List ℕ → List PolicySeen → List ℕ
 origin_of authority policies = length authority ∷ (authority ++ look_numbers (looks_of policies))
 

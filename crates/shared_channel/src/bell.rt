@@ -87,7 +87,7 @@ impl Bell {
         })
     }
 
-    /// A place for a thread that waits for what comes for a call. It has it before it looks, so that no ring behind the look is missed.
+    /// A place for a thread that waits for what comes for a call. It has it before it looks, so that no ring after the look is missed.
     pub(crate) fn wait_for(&self, call: u32) -> Waiter<'_> {
         self.waiter(u64::from(call) + 1)
     }
@@ -112,7 +112,7 @@ impl Bell {
         None
     }
 
-    /// In a turn, behind a step: rings for those for whose calls something has come. Those that wait for room all look again.
+    /// In a turn, after a step: rings for those for whose calls something has come. Those that wait for room all look again.
     pub(crate) fn ring<P: Balancer>(&self, core: &ChannelCore<P>) {
         for place in self.places.iter() {
             let word = place.call.load(Ordering::SeqCst);
@@ -136,7 +136,7 @@ impl Bell {
         self.lacks.load(Ordering::SeqCst)
     }
 
-    /// Behind a turn: wakes those that were rung for.
+    /// After a turn: wakes those that were rung for.
     pub(crate) fn wake(&self) {
         for place in self.places.iter() {
             place.wake();

@@ -38,7 +38,7 @@ where
     pub(crate) tally: Tally,
     /// Where its looks note that a link is given up.
     pub(crate) given_up: Option<GivenUp>,
-    /// What those that keep links open are to be told of its posts.
+    /// What those that keep links open are to be reported of its posts.
     pub(crate) owed: Owed,
     ghost own: { seat.lock ≡ lock.now },
 }
@@ -66,7 +66,7 @@ impl<'a, P: Balancer, W, C: Clock, D: Draws> ChannelSeat<'a, P, W, C, D> {
         ensures other { Stands self.new.seat.seen other.own × Ascends 0 other.own }
         ensures kept { (self.new.clock.now ≡ self.old.clock.now) × (self.new.next ≡ self.old.next) × (self.new.draws ≡ self.old.draws) × (self.new.tally ≡ self.old.tally) }
     {
-        // The look tells the order of the other's entries, which the joined lists don't.
+        // The look reports the order of the other's entries, which the joined lists don't.
         self.lock.front(&mut other);
         self.lock.join_seat(&mut self.seat, other);
     }
@@ -105,7 +105,7 @@ impl<P: Balancer, W: Wait, C: Clock, D: Draws> Post for ChannelSeat<'_, P, W, C,
         ensures words { (k : ℕ) → words_of self.new.next (D.words self.new.draws) k ≡ words_of self.old.next (D.words self.old.draws) (k + 1) }
     {
         let is_news = is_news(&event);
-        let owed = self.owed.behind(&event);
+        let owed = self.owed.afterwards(&event);
         let mut step = Step {
             stamped: Stamped {
                 moment: moment_of(self.clock.now()),
@@ -133,7 +133,7 @@ impl<P: Balancer, W: Wait, C: Clock, D: Draws> Glance for ChannelSeat<'_, P, W, 
         ensures errors { (self.new.tally.errors ≡ self.old.tally.errors) × (self.new.tally.last_error ≡ self.old.tally.last_error) }
         ensures looks { (self.new.tally.looks ≡ one_more self.old.tally.looks) × (self.new.tally.last_look ≡ Some (look.Glance result)) }
         ensures share { share_of self.new.seat ≡ share_of self.old.seat }
-        ensures told { Looks (λ core. ShowsView core result) self.old.seat self.new.seat }
+        ensures reported { Looks (λ core. ShowsView core result) self.old.seat self.new.seat }
     {
         let view = self.lock.turn(self.rt, &mut self.seat, &mut AtView);
         self.tally.looked(Look::Glance { view });
@@ -145,7 +145,7 @@ impl<P: Balancer, W: Wait, C: Clock, D: Draws> Glance for ChannelSeat<'_, P, W, 
         ensures errors { (self.new.tally.errors ≡ self.old.tally.errors) × (self.new.tally.last_error ≡ self.old.tally.last_error) }
         ensures looks { (self.new.tally.looks ≡ one_more self.old.tally.looks) × (self.new.tally.last_look ≡ Some (look.CanDrain link result)) }
         ensures share { share_of self.new.seat ≡ share_of self.old.seat }
-        ensures told { Looks (λ core. result ≡ can_drain_in link core.state) self.old.seat self.new.seat }
+        ensures reported { Looks (λ core. result ≡ can_drain_in link core.state) self.old.seat self.new.seat }
     {
         let mut look = AtDrain {
             link,
@@ -162,7 +162,7 @@ impl<P: Balancer, W: Wait, C: Clock, D: Draws> Glance for ChannelSeat<'_, P, W, 
         ensures errors { (self.new.tally.errors ≡ self.old.tally.errors) × (self.new.tally.last_error ≡ self.old.tally.last_error) }
         ensures looks { (self.new.tally.looks ≡ one_more self.old.tally.looks) × (self.new.tally.last_look ≡ Some (look.CanTake call result)) }
         ensures share { share_of self.new.seat ≡ share_of self.old.seat }
-        ensures told { Looks (CanTake call result) self.old.seat self.new.seat }
+        ensures reported { Looks (CanTake call result) self.old.seat self.new.seat }
     {
         self.clock.wake(self.owed.at_wait());
         self.owed = Owed::Nothing;
@@ -178,7 +178,7 @@ impl<P: Balancer, W: Wait, C: Clock, D: Draws> Glance for ChannelSeat<'_, P, W, 
         ensures errors { (self.new.tally.errors ≡ self.old.tally.errors) × (self.new.tally.last_error ≡ self.old.tally.last_error) }
         ensures looks { (self.new.tally.looks ≡ one_more self.old.tally.looks) × (self.new.tally.last_look ≡ Some (look.CanSend call len result)) }
         ensures share { share_of self.new.seat ≡ share_of self.old.seat }
-        ensures told { Looks (CanSend call len result) self.old.seat self.new.seat }
+        ensures reported { Looks (CanSend call len result) self.old.seat self.new.seat }
     {
         self.clock.wake(self.owed.at_wait());
         self.owed = Owed::Nothing;
@@ -257,7 +257,7 @@ impl<P: Balancer, W: Wait, C: Clock, D: Draws> Caller for ChannelSeat<'_, P, W, 
                 bell.wake();
                 self.next = self.draws.word();
                 self.tally.posted(&result);
-                let owed = self.owed.behind_send();
+                let owed = self.owed.after_send();
                 self.clock.wake(owed.now());
                 self.owed = owed.left();
                 return result;

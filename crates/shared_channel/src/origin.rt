@@ -29,9 +29,9 @@ struct Start<'a, P> {
 }
 
 /// Reads a start as the numbers of its origin.
-struct Told;
+struct Report;
 
-impl<P: Balancer> Names<Start<'_, P>> for Told {
+impl<P: Balancer> Names<Start<'_, P>> for Report {
     ghost numbers = { λ start. origin_of start.authority.now (map P.seen start.policies.now.items) };
 }
 
@@ -45,7 +45,7 @@ impl Origin {
             policies,
         };
         Origin {
-            tag: Tag::of::<Start<P>, Told>(&start),
+            tag: Tag::of::<Start<P>, Report>(&start),
         }
     }
 }

@@ -1,9 +1,9 @@
-// What those that keep links open are still to be told of a handle's posts.
+// What those that keep links open are still to be reported of a handle's posts.
 use gate_io::Woken;
 use grpc_base::Event;
 
-/// What a handle posted that may give them something to send, and of which they were not told. A call that is sent whole at once goes out in
-/// one piece, so its Begin and its first message wait for what comes behind them: its Finish, a further message, or a wait of the handle.
+/// What a handle posted that may give them something to send, and of which they were not reported. A call that is sent whole at once goes out in
+/// one piece, so its Begin and its first message wait for what comes after them: its Finish, a further message, or a wait of the handle.
 #[derive(Clone, Copy, Debug, PartialEq, Eq)]
 pub(crate) enum Owed {
     Nothing,
@@ -11,15 +11,15 @@ pub(crate) enum Owed {
     Call,
     /// A call was begun and has its first message.
     Message,
-    /// They are to be told now.
+    /// They are to be notified now.
     News,
-    /// All are to be told now, also those without links.
+    /// All are to be notified now, also those without links.
     End,
 }
 
 impl Owed {
-    /// What is owed behind an event.
-    pub(crate) fn behind(self, event: &Event) -> Owed {
+    /// What is owed after an event.
+    pub(crate) fn afterwards(self, event: &Event) -> Owed {
         match event {
             Event::Begin { .. } => Owed::Call,
             Event::Send { .. } => match self {
@@ -32,15 +32,15 @@ impl Owed {
         }
     }
 
-    /// What is owed behind a message that a handle had waited for room with.
-    pub(crate) fn behind_send(self) -> Owed {
+    /// What is owed after a message that a handle had waited for room with.
+    pub(crate) fn after_send(self) -> Owed {
         match self {
             Owed::Call => Owed::Message,
             _ => Owed::News,
         }
     }
 
-    /// Who is to be told now.
+    /// Who is to be notified now.
     pub(crate) fn now(self) -> Woken {
         match self {
             Owed::Nothing | Owed::Call | Owed::Message => Woken::Nobody,
@@ -49,7 +49,7 @@ impl Owed {
         }
     }
 
-    /// What is owed still once these were told.
+    /// What is owed still once these were reported.
     pub(crate) fn left(self) -> Owed {
         match self {
             Owed::Call | Owed::Message => self,
@@ -57,7 +57,7 @@ impl Owed {
         }
     }
 
-    /// Who is to be told as the handle is to wait.
+    /// Who is to be notified as the handle is to wait.
     pub(crate) fn at_wait(self) -> Woken {
         match self {
             Owed::Nothing => Woken::Nobody,

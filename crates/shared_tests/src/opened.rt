@@ -49,11 +49,11 @@ pub fn begin<H: Post>(alloc: Global, handle: &mut H) -> Result<(), PostError> {
     let Ok(request) = Request::new(path, Metadata::new(alloc), None, None) else {
         return Ok(());
     };
-    tell(handle, Event::Begin { request })
+    report(handle, Event::Begin { request })
 }
 
 /// Posts an event, and drops its reply.
-pub fn tell<H: Post>(handle: &mut H, event: Event) -> Result<(), PostError> {
+pub fn report<H: Post>(handle: &mut H, event: Event) -> Result<(), PostError> {
     let _reply = handle.post(event)?;
     Ok(())
 }

@@ -1,6 +1,6 @@
 // A Take that is polled: before anything has come, within a turn of another handle, and by an executor. A Take that is awaited where a
 // worker lacked memory.
-use crate::opened::{Count, begin, make_channel, tell};
+use crate::opened::{Count, begin, make_channel, report};
 use channel_core::ChannelCore;
 use futures::executor::block_on;
 use futures::future::Future;
@@ -61,7 +61,7 @@ fn a_take_polled_within_a_turn_is_pending_and_ready_after_it(rt: HostRuntime) ->
     let seat = channel.split_seat(&mut other);
     let mut handle = channel.seat(&rt, seat, &clock, PcgDraws::new(1));
     begin(alloc, &mut handle)?;
-    tell(&mut handle, Event::Cancel { call: 1 })?;
+    report(&mut handle, Event::Cancel { call: 1 })?;
     let mut inside = Inside {
         take: channel.take(&mut handle, 1),
         task: MockTask::new(&rt)?,
@@ -103,7 +103,7 @@ fn an_awaited_take_ends_where_a_worker_lacked_memory_and_gives_what_has_come(
     begin(alloc, &mut caller)?;
     worker.note_lack();
     assert!(rt; is_without_memory(&caller.await_take(1)));
-    tell(&mut caller, Event::Cancel { call: 1 })?;
+    report(&mut caller, Event::Cancel { call: 1 })?;
     assert!(rt; is_cancelled(&caller.await_take(1)));
     Ok(())
 }

@@ -25,4 +25,4 @@ pub use due::{attempts_made, is_licensed, is_number, kind_of_next, next_due};
 pub use final_ends::is_final;
 pub use ledger_words::{delay_of, is_cut, is_hedge, is_success, is_transparent};
 pub use tokens::{allows_attempt, has_tokens, run_of, tokens_after, tokens_in, tokens_of};
-pub use words::{last_of, narrow, numbered, sum};
+pub use words::{fits_in_32_bits, last_of, numbered, sum};

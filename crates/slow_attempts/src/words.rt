@@ -30,11 +30,11 @@ pub fn sum(first: u64, second: u64) -> Result<u64, NoMemory>
 }
 
 /// A number in 32 bits. One that has more is out of memory.
-pub fn narrow(number: u64) -> Result<u32, NoMemory>
+pub fn fits_in_32_bits(number: u64) -> Result<u32, NoMemory>
     ensures { IfOk result (λ n. n ≡ number) }
 {
     match u32::try_from(number) {
-        Ok(narrow) => Ok(narrow),
+        Ok(fits_in_32_bits) => Ok(fits_in_32_bits),
         Err(_) => Err(NoMemory),
     }
 }

@@ -3,7 +3,7 @@ use Rattle.std.proofs.Common.{◌≡◌, ap, sym, ◌∙◌, ℕ, List, ◌∷�
 use Rattle.std.proofs.lemmas.List.Concat.{flat_map-cons}
 use Rattle.grpc_frame.specs.Messages.{framed, framed_all}
 
--- a message behind some bytes, and others behind it
+-- a message after some bytes, and others after it
 pub framed_more : (bytes message : List ℕ) (messages : List (List ℕ)) → (bytes ++ framed message) ++ framed_all messages ≡ bytes ++ framed_all (message ∷ messages)
 framed_more bytes message messages =
     append_assoc bytes (framed message) (framed_all messages)

@@ -12,7 +12,7 @@ ghost use Rattle.grpc_base.specs.declared.event.Reply.TheVariants as reply;
 use attempt_ledger::RowEnd;
 use grpc_base::{Code, EndCause, Items, Metadata, NoMemory, Octets, Reply, Text};
 use session_actions::{Action, Call, Response, Seen};
-use slow_attempts::{commitment, is_too_long, narrow, numbered, sum};
+use slow_attempts::{commitment, fits_in_32_bits, is_too_long, numbered, sum};
 use slow_ends::{accepted_bytes, drained, furthest, response};
 use std::alloc::Global;
 
@@ -70,7 +70,7 @@ fn is_accepted(call: &Call, message: &[u8], seen: &Seen) -> Result<bool, NoMemor
 fn full_reply(call: &Call, seen: &Seen) -> Result<Action, NoMemory>
     ensures { IfOk result (λ a. a ≡ action.EventAnswered (reply.Full (held_bytes call.now seen.now))) }
 {
-    let held = narrow(held_bytes(call, seen)?)?;
+    let held = fits_in_32_bits(held_bytes(call, seen)?)?;
     Ok(Action::EventAnswered {
         reply: Reply::Full { held },
     })
@@ -153,7 +153,7 @@ fn end_item(alloc: Global, call: &Call, seen: &Seen, cause: EndCause) -> Result<
     }
 }
 
-/// One reply behind others.
+/// One reply after others.
 fn with_item(items: Items<Reply>, item: Reply) -> Result<Items<Reply>, NoMemory>
     ensures { IfOk result (λ l. l ≡ items ++ item ∷ []) }
 {
@@ -162,7 +162,7 @@ fn with_item(items: Items<Reply>, item: Reply) -> Result<Items<Reply>, NoMemory>
     Ok(items)
 }
 
-/// Messages, as replies behind others.
+/// Messages, as replies after others.
 #[tactic(auto, using(std::proofs::lemmas::List::append_assoc))]
 fn with_messages(items: Items<Reply>, messages: &[Octets]) -> Result<Items<Reply>, NoMemory>
     ensures { IfOk result (λ l. l ≡ items ++ map (λ m. reply.Message m) messages.now) }

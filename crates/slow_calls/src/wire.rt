@@ -10,7 +10,7 @@ use crate::writing::sendable;
 use grpc_base::{Items, NoMemory, Reply};
 use h2_frame::{flags, kinds};
 use session_actions::{Action, Attempt, Link, NextRead, OpenEntry, Seen, Sent, WireFrame};
-use slow_attempts::{narrow, numbered, sum};
+use slow_attempts::{fits_in_32_bits, numbered, sum};
 use slow_ends::has_head;
 use slow_link::{
     bytes_of, has_flag, is_outstanding_on, is_settings, next_read, ping_ack, ping_word,
@@ -86,7 +86,7 @@ fn two_frames(
 fn leave(frame: &WireFrame) -> Result<u32, NoMemory>
     ensures { IfOk result (λ n. n ≡ length frame.now.payload) }
 {
-    narrow(frame.payload.len() as u64)
+    fits_in_32_bits(frame.payload.len() as u64)
 }
 
 /// What DATA makes the client queue.

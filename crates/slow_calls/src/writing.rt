@@ -31,8 +31,8 @@ fn time_left(call: &Call, seen: &Seen) -> Option<u64>
     Some(deadline(call, seen)?.saturating_sub(now(seen).nanos()))
 }
 
-/// Whether so much time can be told to the server.
-fn can_tell(left: Option<u64>) -> bool
+/// Whether so much time can be distinguished to the server.
+fn can_distinguish(left: Option<u64>) -> bool
     ensures { IsTrue result ↔ IfSome left (λ t. (1 ≤ t) × (t ≤ duration_limit)) }
 {
     match left {
@@ -54,7 +54,7 @@ fn fields_block(
     let left = time_left(call, seen);
     let authority = &seen.setup.authority;
     let number = attempt.row.number;
-    if !can_tell(left) {
+    if !can_distinguish(left) {
         return Err(NoMemory);
     }
     if number == 0 {
@@ -162,16 +162,16 @@ fn add_message(alloc: Global, bytes: &mut Vec<u8>, message: &[u8]) -> Result<(),
     Ok(())
 }
 
-/// So many bytes of the messages of a call behind those that were written.
+/// So many bytes of the messages of a call after those that were written.
 #[tactic(auto, using(std::proofs::lemmas::List::drop_min, std::proofs::lemmas::List::take_min))]
 fn data_bytes(alloc: Global, call: &Call, done: u64, len: u64) -> Result<Octets, NoMemory>
     ensures { IfOk result (λ o. o ≡ take len (drop done (framed_all call.now.messages))) }
 {
     let bytes = framed_all(alloc, call.messages.as_slice())?;
     let start = (done as usize).min(bytes.len());
-    let behind = &bytes.as_slice()[start..];
-    let count = (len as usize).min(behind.len());
-    Octets::of_slice(alloc, &behind[..count])
+    let afterwards = &bytes.as_slice()[start..];
+    let count = (len as usize).min(afterwards.len());
+    Octets::of_slice(alloc, &afterwards[..count])
 }
 
 /// DATA of a stream with so many bytes, or none where it would have neither bytes nor END_STREAM.

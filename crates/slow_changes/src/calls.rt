@@ -14,7 +14,7 @@ use crate::table::Table;
 use attempt_ledger::CallEnd;
 use grpc_base::{EndCause, Event, Items, Moment, NoMemory, Reply, Request};
 use session_actions::{Call, Mark, MarkKind, OpenEntry, Seen};
-use slow_attempts::{entry, narrow, now, sum};
+use slow_attempts::{entry, fits_in_32_bits, now, sum};
 use std::alloc::Global;
 
 /// Something happened to a call now.
@@ -61,7 +61,7 @@ fn begun_call(alloc: Global, number: u32, entry: u64, moment: Moment, request: R
 fn begun_with(alloc: Global, seen: &mut Seen, request: Request) -> Result<(), NoMemory>
     ensures { OnOk result (seen.new ≡ call_begun_by (Event.Begin request) seen.old) }
 {
-    let number = narrow(sum(seen.calls.len() as u64, 1)?)?;
+    let number = fits_in_32_bits(sum(seen.calls.len() as u64, 1)?)?;
     let call = begun_call(alloc, number, entry(seen)?, now(seen), request);
     seen.calls.push(call)?;
     replied(seen, Reply::Call { call: number });

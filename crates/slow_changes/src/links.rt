@@ -46,7 +46,7 @@ pub fn link_lost(alloc: Global, seen: &mut Seen, link: u32)
     replied(seen, Reply::Done);
 }
 
-/// Frames behind those of a list.
+/// Frames after those of a list.
 pub fn append(
     alloc: Global,
     list: &mut Items<WireFrame>,

@@ -13,7 +13,7 @@ use attempt_ledger::Generation;
 use grpc_base::{Address, Conn, Items, Kind, NoMemory};
 use lb_policy::SubSeen;
 use session_actions::{PolicyUse, Seen, Subchannel};
-use slow_attempts::{entry, narrow, sum};
+use slow_attempts::{entry, fits_in_32_bits, sum};
 use slow_net::{current_policy, is_live_policy, is_one_of, is_open, is_ready, view_of};
 use std::alloc::Global;
 use std::mem;
@@ -41,7 +41,7 @@ fn begun_policy(alloc: Global, number: u32, kind: Kind, seen: &Seen) -> Result<P
 pub fn policy_begun(alloc: Global, seen: &mut Seen, kind: Kind) -> Result<(), NoMemory>
     ensures { OnOk result (seen.new ≡ policy_begun kind seen.old) }
 {
-    let number = narrow(sum(seen.policies.len() as u64, 1)?)?;
+    let number = fits_in_32_bits(sum(seen.policies.len() as u64, 1)?)?;
     let policy = begun_policy(alloc, number, kind, seen)?;
     seen.policies.push(policy)
 }

@@ -13,7 +13,7 @@ use crate::policies::noted_by_policies;
 use crate::table::Table;
 use grpc_base::{Address, Conn, Items, NoMemory, Octets, Reply};
 use session_actions::{Link, LinkOver, Seen, Subchannel};
-use slow_attempts::{entry, narrow, numbered, sum};
+use slow_attempts::{entry, fits_in_32_bits, numbered, sum};
 use slow_net::is_ready;
 use std::alloc::Global;
 
@@ -131,7 +131,7 @@ pub fn with_sub(alloc: Global, seen: &mut Seen, change: SubChange, sub: u32) -> 
 pub fn sub_added(seen: &mut Seen, address: Address) -> Result<(), NoMemory>
     ensures { OnOk result (seen.new ≡ sub_added address seen.old) }
 {
-    let number = narrow(sum(seen.subs.len() as u64, 1)?)?;
+    let number = fits_in_32_bits(sum(seen.subs.len() as u64, 1)?)?;
     seen.subs.push(Subchannel {
         number,
         address,
@@ -239,6 +239,6 @@ fn linked(alloc: Global, seen: &mut Seen, sub: u32, number: u32) -> Result<(), N
 pub fn link_up(alloc: Global, seen: &mut Seen, sub: u32) -> Result<(), NoMemory>
     ensures { OnOk result (seen.new ≡ link_up sub seen.old) }
 {
-    let number = narrow(sum(seen.links.len() as u64, 1)?)?;
+    let number = fits_in_32_bits(sum(seen.links.len() as u64, 1)?)?;
     linked(alloc, seen, sub, number)
 }

@@ -18,7 +18,7 @@ use session_actions::{Link, OpenEntry, ReadFrame, Seen, Sent, Traffic, WireFrame
 use slow_link::bytes_of;
 use std::alloc::Global;
 
-/// Bytes, and others behind them.
+/// Bytes, and others after them.
 fn joined(alloc: Global, first: &[u8], second: &[u8]) -> Result<Octets, NoMemory>
     ensures { IfOk result (λ o. o ≡ first.now ++ second.now) }
 {

@@ -7,7 +7,7 @@ use Rattle.grpc_frame.specs.Messages.{framed, framed_all}
 pub framed_size_one : (message : List ℕ) → length (framed message) ≡ length message + 5
 framed_size_one message = omega arith
 
--- one message in front of others
+-- one message before others
 pub framed_size_of : (message : List ℕ) (messages : List (List ℕ)) → length (framed_all (message ∷ messages)) ≡ length message + 5 + length (framed_all messages)
 framed_size_of message messages =
     ap (λ (xs : List ℕ). length xs) (flat_map-cons framed message messages)

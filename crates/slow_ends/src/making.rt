@@ -8,7 +8,8 @@ use attempt_ledger::RowKind;
 use grpc_base::NoMemory;
 use session_actions::{Action, Call, Seen};
 use slow_attempts::{
-    attempts_made, has_tokens, is_hedge, kind_of_next, narrow, next_due, now, sum, wants_follower,
+    attempts_made, fits_in_32_bits, has_tokens, is_hedge, kind_of_next, next_due, now, sum,
+    wants_follower,
 };
 
 /// The next transparent retry, by the place of the row that it follows.
@@ -31,7 +32,7 @@ pub fn next_transparent(seen: &Seen) -> Option<Action>
 fn next_number(call: &Call, seen: &Seen) -> Result<u32, NoMemory>
     ensures { IfOk result (λ n. n ≡ attempts_made call.now seen.now + 1) }
 {
-    narrow(sum(attempts_made(call, seen), 1)?)
+    fits_in_32_bits(sum(attempts_made(call, seen), 1)?)
 }
 
 /// The attempt of a call that is due, or the hedge that is withheld.

@@ -11,13 +11,13 @@ use Rattle.slow_link.specs.declared.messages.MessageStep.TheVariants as step
 abbrev pub is_end_of : ℕ → FrameSeen → Bool
 is_end_of stream f = (f.kind == data_type) && (f.stream == stream) && has_flag f.flags end_stream_flag
 
--- what stands at the front of a text
+-- what stands at the start of a text
 abbrev pub next_found : MessageStep → NextMessage
 next_found (step.Whole len) = next.Whole len
 next_found step.Partial = next.Partial
 next_found (step.Fault fault) = next.Fault fault
 
--- a message in front is there whole
+-- a message before is there whole
 abbrev pub WholeFits : MessageStep → List ℕ → Type 0
 WholeFits (step.Whole len) text = 5 + len ≤ length text
 WholeFits step.Partial text = Unit {0}

@@ -196,7 +196,7 @@ pub(crate) fn content_of(frame: &WireFrame) -> &[u8]
 {
     let payload = frame.payload.as_slice();
     let fields = fields_size(frame.kind, frame.flags).min(payload.len());
-    let behind = &payload[fields..];
-    let count = behind.len().saturating_sub(padding_of(frame));
-    &behind[..count]
+    let afterwards = &payload[fields..];
+    let count = afterwards.len().saturating_sub(padding_of(frame));
+    &afterwards[..count]
 }

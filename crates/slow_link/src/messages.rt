@@ -1,13 +1,13 @@
 // The messages in the bytes of a stream (gRPC over HTTP/2, "Length-Prefixed-Message").
 ghost use Rattle.std.specs.Prelude.{◌≡◌, ◌<◌, ◌-◌, ◌++◌, [], IfErr, IfOk, OnOk};
-ghost use Rattle.grpc_frame.specs.Messages.{before, length_told, messages_within, next_of};
+ghost use Rattle.grpc_frame.specs.Messages.{before, length_reported, messages_within, next_of};
 ghost use Rattle.slow_link.specs.Parts.{WholeFits, next_found};
 
 use grpc_base::{Items, NoMemory, Octets};
 use grpc_frame::MessageFault;
 use std::alloc::Global;
 
-/// What stands at the front of a text.
+/// What stands at the start of a text.
 #[derive(Clone, Copy, Debug)]
 pub(crate) enum MessageStep {
     /// A message of so many bytes after its prefix.
@@ -43,7 +43,7 @@ pub(crate) fn add_messages<'a>(
     }
 }
 
-/// The message in front of a text and what follows it; where there is none, what is wrong with the text.
+/// The message before a text and what follows it; where there is none, what is wrong with the text.
 #[tactic(auto, using(crate::proofs::LinkLaws::messages_by_one))]
 fn first_message(
     limit: u32,
@@ -57,15 +57,15 @@ fn first_message(
     let _ = most;
     match next_message(limit, text) {
         MessageStep::Whole { length } => {
-            let (_, behind) = text.split_at(5);
-            Ok(behind.split_at(length as usize))
+            let (_, afterwards) = text.split_at(5);
+            Ok(afterwards.split_at(length as usize))
         }
         MessageStep::Partial => Err(None),
         MessageStep::Fault { fault } => Err(Some(fault)),
     }
 }
 
-/// What stands at the front of a text.
+/// What stands at the start of a text.
 pub(crate) fn next_message(limit: u32, text: &[u8]) -> MessageStep
     ensures next { next_found result ≡ next_of limit text.now }
     ensures fits { WholeFits result text.now }
@@ -78,7 +78,7 @@ pub(crate) fn next_message(limit: u32, text: &[u8]) -> MessageStep
             fault: MessageFault::BadFlag,
         };
     }
-    match length_told(text) {
+    match length_reported(text) {
         Some(length) if limit < length => MessageStep::Fault {
             fault: MessageFault::TooLarge { length },
         },
@@ -87,9 +87,9 @@ pub(crate) fn next_message(limit: u32, text: &[u8]) -> MessageStep
     }
 }
 
-/// The length that a prefix tells, where all of it is there.
-fn length_told(text: &[u8]) -> Option<u32>
-    ensures { result ≡ length_told text.now }
+/// The length that a prefix reports, where all of it is there.
+fn length_reported(text: &[u8]) -> Option<u32>
+    ensures { result ≡ length_reported text.now }
 {
     match text {
         [0, a, b, c, d, ..] => Some(u32::from_be_bytes([*a, *b, *c, *d])),

@@ -356,7 +356,7 @@ pub fn traffic_by(seen: u64, traffic: &[Traffic]) -> &[Traffic]
 
 /// How much passed until then.
 fn count_by(seen: u64, traffic: &[Traffic]) -> usize
-    ensures front { take result traffic.now ≡ traffic_by seen traffic.now }
+    ensures prefix { take result traffic.now ≡ traffic_by seen traffic.now }
     ensures within { result ≤ length traffic.now }
 {
     let Some((first, rest)) = traffic.split_first() else {

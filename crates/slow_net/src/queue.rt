@@ -15,7 +15,7 @@ use slow_attempts::{call_of, is_queued, waits_for_ready};
 use std::alloc::Global;
 
 /// Whether the call of an attempt does not wait for ready.
-fn is_impatient(attempt: &Attempt, seen: &Seen) -> bool
+fn is_fail_fast(attempt: &Attempt, seen: &Seen) -> bool
     ensures { result ≡ of_its_call (λ c. not (waits_for_ready c seen.now)) attempt.now seen.now }
 {
     match call_of(attempt, seen) {
@@ -29,7 +29,7 @@ fn is_served_by(state: Conn, attempt: &Attempt, seen: &Seen) -> bool
 {
     match state {
         Conn::Ready => true,
-        Conn::Failure => is_impatient(attempt, seen),
+        Conn::Failure => is_fail_fast(attempt, seen),
         _ => false,
     }
 }

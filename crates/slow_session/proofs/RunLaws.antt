@@ -25,7 +25,7 @@ unposted : (a : Action) → is_opening a ≡ false → posted_by a ≡ None
 unposted (action.EntryOpens posted word event) opening = absurd (cc)
 unposted a opening = refl
 
--- one action more in front
+-- one action more before
 pub one_more : (a : Action) (s u t : Seen) → is_opening a ≡ false → IsNext a s → u ≡ after a s → Settles u t → Settles s t
 one_more a s u t opening next made h = record {
   actions = a ∷ h.actions;
@@ -37,7 +37,7 @@ one_more a s u t opening next made h = record {
 pub none_more : (s : Seen) → s.current ≡ None → Settles s s
 none_more s h = record { actions = []; does = refl; unposted = refl; between = h }
 
--- an event more in front, and none
+-- an event more before, and none
 pub one_event : (x : Stamped) (xs all : List Stamped) (s u t : Seen) → all ≡ x ∷ xs → Makes x s u → Plays xs u t → Plays all s t
 one_event x xs all s u t split made more = subst (λ (ys : List Stamped). Plays ys s t) (sym split) (u, made, more)
 

@@ -7,7 +7,7 @@ use Rattle.subchannel.specs.Records.{SubRecord, is_live, new_sub, shut_down}
 use Rattle.subchannel.specs.Boards.{numbered, changed, changed_at, kept_or_shut, kept, lacking}
 use Rattle.subchannel.specs.Insides.{live_numbers, stays, numbers_from, kept_numbers, IsBoard, made_limit}
 use Rattle.subchannel.specs.Boards.{passes, passes_test}
-use Rattle.subchannel.proofs.NumberLaws.{numbered-behind, one-moved, one-longer, live_numbers-live, live_numbers-shut, length-changed}
+use Rattle.subchannel.proofs.NumberLaws.{numbered-afterwards, one-moved, one-longer, live_numbers-live, live_numbers-shut, length-changed}
 
 -- which ones are live afterwards
 live-kept : (s : SubRecord) (live wanted : Bool) → is_live s ≡ live → is_live (if live && not wanted then shut_down s else s) ≡ (live && wanted)
@@ -23,65 +23,65 @@ kept_or_shut-shut : (current pending : List Address) (s : SubRecord) → is_live
 kept_or_shut-shut current pending s e =
     ap (λ (b : Bool). if b && not (has_address current s.address || has_address pending s.address) then shut_down s else s) e
 
--- what a place behind a front becomes
-changed-behind : (f : SubRecord → SubRecord) (front rest : List SubRecord) (s : SubRecord) → changed f (front ++ s ∷ rest) (length front) ≡ front ++ f s ∷ rest
-changed-behind f [] rest s = refl
-changed-behind f (x ∷ front) rest s = ap (λ (zs : List SubRecord). x ∷ zs) (changed-behind f front rest s)
+-- what a place after a prefix becomes
+changed-afterwards : (f : SubRecord → SubRecord) (prefix rest : List SubRecord) (s : SubRecord) → changed f (prefix ++ s ∷ rest) (length prefix) ≡ prefix ++ f s ∷ rest
+changed-afterwards f [] rest s = refl
+changed-afterwards f (x ∷ prefix) rest s = ap (λ (zs : List SubRecord). x ∷ zs) (changed-afterwards f prefix rest s)
 
-changed_at-behind : (f : SubRecord → SubRecord) (front rest : List SubRecord) (s : SubRecord) (n : ℕ) → n ≡ length front + 1 → changed_at f (front ++ s ∷ rest) n ≡ front ++ f s ∷ rest
-changed_at-behind f front rest s n e =
-    let number : n ≡ suc (length front) = omega arith in
-    ap (changed_at f (front ++ s ∷ rest)) number ∙ changed-behind f front rest s
+changed_at-afterwards : (f : SubRecord → SubRecord) (prefix rest : List SubRecord) (s : SubRecord) (n : ℕ) → n ≡ length prefix + 1 → changed_at f (prefix ++ s ∷ rest) n ≡ prefix ++ f s ∷ rest
+changed_at-afterwards f prefix rest s n e =
+    let number : n ≡ suc (length prefix) = omega arith in
+    ap (changed_at f (prefix ++ s ∷ rest)) number ∙ changed-afterwards f prefix rest s
 
 -- looking at the live ones is looking at all
 module _ (current pending : List Address) where
-  by_live : (front rest tail : List SubRecord) (s : SubRecord) (n : ℕ) (b : Bool) → is_live s ≡ b → n ≡ length front + 1 → kept_numbers current pending (live_numbers (n + 1) rest) (front ++ kept_or_shut current pending s ∷ (rest ++ tail)) ≡ front ++ kept_or_shut current pending s ∷ (map (kept_or_shut current pending) rest ++ tail) → kept_numbers current pending (live_numbers n (s ∷ rest)) (front ++ s ∷ (rest ++ tail)) ≡ front ++ kept_or_shut current pending s ∷ (map (kept_or_shut current pending) rest ++ tail)
-  by_live front rest tail s n true live e moved =
-      ap (λ (ns : List ℕ). kept_numbers current pending ns (front ++ s ∷ (rest ++ tail))) (live_numbers-live s rest n live) ∙ ap (kept_numbers current pending (live_numbers (n + 1) rest)) (changed_at-behind (kept_or_shut current pending) front (rest ++ tail) s n e) ∙ moved
-  by_live front rest tail s n false shut e moved =
-      ap (λ (ns : List ℕ). kept_numbers current pending ns (front ++ s ∷ (rest ++ tail))) (live_numbers-shut s rest n shut) ∙ ap (λ (t : SubRecord). kept_numbers current pending (live_numbers (n + 1) rest) (front ++ t ∷ (rest ++ tail))) (sym (kept_or_shut-shut current pending s shut)) ∙ moved
+  by_live : (prefix rest tail : List SubRecord) (s : SubRecord) (n : ℕ) (b : Bool) → is_live s ≡ b → n ≡ length prefix + 1 → kept_numbers current pending (live_numbers (n + 1) rest) (prefix ++ kept_or_shut current pending s ∷ (rest ++ tail)) ≡ prefix ++ kept_or_shut current pending s ∷ (map (kept_or_shut current pending) rest ++ tail) → kept_numbers current pending (live_numbers n (s ∷ rest)) (prefix ++ s ∷ (rest ++ tail)) ≡ prefix ++ kept_or_shut current pending s ∷ (map (kept_or_shut current pending) rest ++ tail)
+  by_live prefix rest tail s n true live e moved =
+      ap (λ (ns : List ℕ). kept_numbers current pending ns (prefix ++ s ∷ (rest ++ tail))) (live_numbers-live s rest n live) ∙ ap (kept_numbers current pending (live_numbers (n + 1) rest)) (changed_at-afterwards (kept_or_shut current pending) prefix (rest ++ tail) s n e) ∙ moved
+  by_live prefix rest tail s n false shut e moved =
+      ap (λ (ns : List ℕ). kept_numbers current pending ns (prefix ++ s ∷ (rest ++ tail))) (live_numbers-shut s rest n shut) ∙ ap (λ (t : SubRecord). kept_numbers current pending (live_numbers (n + 1) rest) (prefix ++ t ∷ (rest ++ tail))) (sym (kept_or_shut-shut current pending s shut)) ∙ moved
 
-  numbers-behind : (front rest tail : List SubRecord) (n : ℕ) → n ≡ length front + 1 → kept_numbers current pending (live_numbers n rest) (front ++ (rest ++ tail)) ≡ front ++ (map (kept_or_shut current pending) rest ++ tail)
-  numbers-behind front [] tail n e = refl
-  numbers-behind front (s ∷ rest) tail n e =
+  numbers-afterwards : (prefix rest tail : List SubRecord) (n : ℕ) → n ≡ length prefix + 1 → kept_numbers current pending (live_numbers n rest) (prefix ++ (rest ++ tail)) ≡ prefix ++ (map (kept_or_shut current pending) rest ++ tail)
+  numbers-afterwards prefix [] tail n e = refl
+  numbers-afterwards prefix (s ∷ rest) tail n e =
       let f : SubRecord → SubRecord = kept_or_shut current pending in
-      let next : kept_numbers current pending (live_numbers (n + 1) rest) ((front ++ f s ∷ []) ++ (rest ++ tail)) ≡ (front ++ f s ∷ []) ++ (map f rest ++ tail) =
-      numbers-behind (front ++ f s ∷ []) rest tail (n + 1) (one-longer front (f s) n e) in
-      let moved : kept_numbers current pending (live_numbers (n + 1) rest) (front ++ f s ∷ (rest ++ tail)) ≡ front ++ f s ∷ (map f rest ++ tail) =
-      ap (kept_numbers current pending (live_numbers (n + 1) rest)) (sym (one-moved front (rest ++ tail) (f s))) ∙ next ∙ one-moved front (map f rest ++ tail) (f s) in
-      by_live front rest tail s n (is_live s) refl e moved
+      let next : kept_numbers current pending (live_numbers (n + 1) rest) ((prefix ++ f s ∷ []) ++ (rest ++ tail)) ≡ (prefix ++ f s ∷ []) ++ (map f rest ++ tail) =
+      numbers-afterwards (prefix ++ f s ∷ []) rest tail (n + 1) (one-longer prefix (f s) n e) in
+      let moved : kept_numbers current pending (live_numbers (n + 1) rest) (prefix ++ f s ∷ (rest ++ tail)) ≡ prefix ++ f s ∷ (map f rest ++ tail) =
+      ap (kept_numbers current pending (live_numbers (n + 1) rest)) (sym (one-moved prefix (rest ++ tail) (f s))) ∙ next ∙ one-moved prefix (map f rest ++ tail) (f s) in
+      by_live prefix rest tail s n (is_live s) refl e moved
 
   pub kept_numbers-live : (subs tail : List SubRecord) (live : List ℕ) → live ≡ live_numbers 1 subs → kept_numbers current pending live (subs ++ tail) ≡ map (kept_or_shut current pending) subs ++ tail
-  kept_numbers-live subs tail live e = ap (λ (ns : List ℕ). kept_numbers current pending ns (subs ++ tail)) e ∙ numbers-behind [] subs tail 1 refl
+  kept_numbers-live subs tail live e = ap (λ (ns : List ℕ). kept_numbers current pending ns (subs ++ tail)) e ∙ numbers-afterwards [] subs tail 1 refl
 
 -- the numbers that stay live
-filter-front : (p : ℕ → Bool) (n : ℕ) (ns : List ℕ) (b : Bool) → p n ≡ b → filter p (n ∷ ns) ≡ cond b (n ∷ filter p ns) (filter p ns)
-filter-front p n ns b e = ap (λ (t : Bool). cond t (n ∷ filter p ns) (filter p ns)) e
+filter-prefix : (p : ℕ → Bool) (n : ℕ) (ns : List ℕ) (b : Bool) → p n ≡ b → filter p (n ∷ ns) ≡ cond b (n ∷ filter p ns) (filter p ns)
+filter-prefix p n ns b e = ap (λ (t : Bool). cond t (n ∷ filter p ns) (filter p ns)) e
 
 module _ (current pending : List Address) where
   staying-step : (subs rest : List SubRecord) (s : SubRecord) (n : ℕ) (b : Bool) → is_live s ≡ b → numbered subs n ≡ Some s → live_numbers (n + 1) (map (kept_or_shut current pending) rest) ≡ filter (passes (stays current pending) subs) (live_numbers (n + 1) rest) → live_numbers n (map (kept_or_shut current pending) (s ∷ rest)) ≡ filter (passes (stays current pending) subs) (live_numbers n (s ∷ rest))
   staying-step subs rest s n true live at next =
       let f : SubRecord → SubRecord = kept_or_shut current pending in
       let p : ℕ → Bool = passes (stays current pending) subs in
-      ap (λ (t : Bool). if t then n ∷ live_numbers (n + 1) (map f rest) else live_numbers (n + 1) (map f rest)) (is_live-kept current pending s) ∙ ap (λ (ns : List ℕ). cond (stays current pending s) (n ∷ ns) ns) next ∙ sym (ap (filter p) (live_numbers-live s rest n live) ∙ filter-front p n (live_numbers (n + 1) rest) (stays current pending s) (ap (passes_test (stays current pending)) at))
+      ap (λ (t : Bool). if t then n ∷ live_numbers (n + 1) (map f rest) else live_numbers (n + 1) (map f rest)) (is_live-kept current pending s) ∙ ap (λ (ns : List ℕ). cond (stays current pending s) (n ∷ ns) ns) next ∙ sym (ap (filter p) (live_numbers-live s rest n live) ∙ filter-prefix p n (live_numbers (n + 1) rest) (stays current pending s) (ap (passes_test (stays current pending)) at))
   staying-step subs rest s n false shut at next =
       let f : SubRecord → SubRecord = kept_or_shut current pending in
       let same : is_live (f s) ≡ false = ap (λ (t : SubRecord). is_live t) (kept_or_shut-shut current pending s shut) ∙ shut in
       live_numbers-shut (f s) (map f rest) n same ∙ next ∙ sym (ap (filter (passes (stays current pending) subs)) (live_numbers-shut s rest n shut))
 
-  staying-behind : (front rest : List SubRecord) (n : ℕ) → n ≡ length front + 1 → live_numbers n (map (kept_or_shut current pending) rest) ≡ filter (passes (stays current pending) (front ++ rest)) (live_numbers n rest)
-  staying-behind front [] n e = refl
-  staying-behind front (s ∷ rest) n e =
-      let next : live_numbers (n + 1) (map (kept_or_shut current pending) rest) ≡ filter (passes (stays current pending) ((front ++ s ∷ []) ++ rest)) (live_numbers (n + 1) rest) =
-      staying-behind (front ++ s ∷ []) rest (n + 1) (one-longer front s n e) in
-      let moved : live_numbers (n + 1) (map (kept_or_shut current pending) rest) ≡ filter (passes (stays current pending) (front ++ s ∷ rest)) (live_numbers (n + 1) rest) =
-      subst (λ (xs : List SubRecord). live_numbers (n + 1) (map (kept_or_shut current pending) rest) ≡ filter (passes (stays current pending) xs) (live_numbers (n + 1) rest)) (one-moved front rest s) next in
-      staying-step (front ++ s ∷ rest) rest s n (is_live s) refl (numbered-behind front rest s n e) moved
+  staying-afterwards : (prefix rest : List SubRecord) (n : ℕ) → n ≡ length prefix + 1 → live_numbers n (map (kept_or_shut current pending) rest) ≡ filter (passes (stays current pending) (prefix ++ rest)) (live_numbers n rest)
+  staying-afterwards prefix [] n e = refl
+  staying-afterwards prefix (s ∷ rest) n e =
+      let next : live_numbers (n + 1) (map (kept_or_shut current pending) rest) ≡ filter (passes (stays current pending) ((prefix ++ s ∷ []) ++ rest)) (live_numbers (n + 1) rest) =
+      staying-afterwards (prefix ++ s ∷ []) rest (n + 1) (one-longer prefix s n e) in
+      let moved : live_numbers (n + 1) (map (kept_or_shut current pending) rest) ≡ filter (passes (stays current pending) (prefix ++ s ∷ rest)) (live_numbers (n + 1) rest) =
+      subst (λ (xs : List SubRecord). live_numbers (n + 1) (map (kept_or_shut current pending) rest) ≡ filter (passes (stays current pending) xs) (live_numbers (n + 1) rest)) (one-moved prefix rest s) next in
+      staying-step (prefix ++ s ∷ rest) rest s n (is_live s) refl (numbered-afterwards prefix rest s n e) moved
 
   pub staying-live : (subs : List SubRecord) (live : List ℕ) → live ≡ live_numbers 1 subs → filter (passes (stays current pending) subs) live ≡ live_numbers 1 (map (kept_or_shut current pending) subs)
-  staying-live subs live e = ap (filter (passes (stays current pending) subs)) e ∙ sym (staying-behind [] subs 1 refl)
+  staying-live subs live e = ap (filter (passes (stays current pending) subs)) e ∙ sym (staying-afterwards [] subs 1 refl)
 
--- the numbers of new ones behind
+-- the numbers of new ones after
 new_numbers : (n : ℕ) (addresses : List Address) → live_numbers n (map new_sub addresses) ≡ numbers_from n (length addresses)
 new_numbers n [] = refl
 new_numbers n (a ∷ addresses) = ap (λ (ns : List ℕ). n ∷ ns) (new_numbers (n + 1) addresses)
@@ -114,9 +114,9 @@ numbers_from-more n (suc count) =
     let last : n + 1 + count ≡ n + suc count = omega arith in
     ap (numbers_from n) more ∙ ap (λ (ns : List ℕ). n ∷ ns) (numbers_from-more (n + 1) count ∙ ap (λ (k : ℕ). numbers_from (n + 1) count ++ k ∷ []) last)
 
-pub numbers-pushed : (front numbers after : List ℕ) (n count next : ℕ) → numbers ≡ front ++ numbers_from n count → after ≡ numbers ++ next ∷ [] → next ≡ n + count → after ≡ front ++ numbers_from n (count + 1)
-numbers-pushed front numbers after n count next e pushed same =
-    pushed ∙ ap (λ (ns : List ℕ). ns ++ next ∷ []) e ∙ append_assoc front (numbers_from n count) (next ∷ []) ∙ ap (λ (ns : List ℕ). front ++ ns) (ap (λ (k : ℕ). numbers_from n count ++ k ∷ []) same ∙ sym (numbers_from-more n count))
+pub numbers-pushed : (prefix numbers after : List ℕ) (n count next : ℕ) → numbers ≡ prefix ++ numbers_from n count → after ≡ numbers ++ next ∷ [] → next ≡ n + count → after ≡ prefix ++ numbers_from n (count + 1)
+numbers-pushed prefix numbers after n count next e pushed same =
+    pushed ∙ ap (λ (ns : List ℕ). ns ++ next ∷ []) e ∙ append_assoc prefix (numbers_from n count) (next ∷ []) ∙ ap (λ (ns : List ℕ). prefix ++ ns) (ap (λ (k : ℕ). numbers_from n count ++ k ∷ []) same ∙ sym (numbers_from-more n count))
 
 -- what a board keeps after two lists were kept
 pub IsBoard-kept : (current pending : List Address) (subs : List SubRecord) (live : List ℕ) → IsBoard live subs → (after : List ℕ) (made : List SubRecord) → made ≡ kept current pending subs → length made ≤ made_limit → after ≡ filter (passes (stays current pending) subs) live ++ numbers_from (length subs + 1) (length (lacking subs [] current ++ lacking subs current pending)) → IsBoard after made

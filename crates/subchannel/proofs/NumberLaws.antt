@@ -11,22 +11,22 @@ use Rattle.subchannel.specs.Boards.{HasNumber, changed_at, clocked_at, first_clo
 use Rattle.subchannel.specs.Insides.{live_numbers, next_of_one, next_of_numbers}
 use Rattle.subchannel.specs.Boards.{passes, passes_test}
 
--- the element behind a front
-slice_get-behind : (front rest : List SubRecord) (s : SubRecord) → slice_get (front ++ s ∷ rest) (length front) ≡ Some s
-slice_get-behind [] rest s = refl
-slice_get-behind (x ∷ front) rest s = slice_get-behind front rest s
+-- the element after a prefix
+slice_get-afterwards : (prefix rest : List SubRecord) (s : SubRecord) → slice_get (prefix ++ s ∷ rest) (length prefix) ≡ Some s
+slice_get-afterwards [] rest s = refl
+slice_get-afterwards (x ∷ prefix) rest s = slice_get-afterwards prefix rest s
 
-pub numbered-behind : (front rest : List SubRecord) (s : SubRecord) (n : ℕ) → n ≡ length front + 1 → numbered (front ++ s ∷ rest) n ≡ Some s
-numbered-behind front rest s n e =
-    let f : suc (length front) ≡ n = omega arith in
-    subst (λ (k : ℕ). numbered (front ++ s ∷ rest) k ≡ Some s) f (slice_get-behind front rest s)
+pub numbered-afterwards : (prefix rest : List SubRecord) (s : SubRecord) (n : ℕ) → n ≡ length prefix + 1 → numbered (prefix ++ s ∷ rest) n ≡ Some s
+numbered-afterwards prefix rest s n e =
+    let f : suc (length prefix) ≡ n = omega arith in
+    subst (λ (k : ℕ). numbered (prefix ++ s ∷ rest) k ≡ Some s) f (slice_get-afterwards prefix rest s)
 
--- one element moved to the front
-pub one-moved : (front rest : List SubRecord) (s : SubRecord) → (front ++ s ∷ []) ++ rest ≡ front ++ s ∷ rest
-one-moved front rest s = append_assoc front (s ∷ []) rest
+-- one element moved to the prefix
+pub one-moved : (prefix rest : List SubRecord) (s : SubRecord) → (prefix ++ s ∷ []) ++ rest ≡ prefix ++ s ∷ rest
+one-moved prefix rest s = append_assoc prefix (s ∷ []) rest
 
-pub one-longer : (front : List SubRecord) (s : SubRecord) (n : ℕ) → n ≡ length front + 1 → n + 1 ≡ length (front ++ s ∷ []) + 1
-one-longer front s n e = let l : length (front ++ s ∷ []) ≡ length front + length (s ∷ []) = length-append front (s ∷ []) in omega arith
+pub one-longer : (prefix : List SubRecord) (s : SubRecord) (n : ℕ) → n ≡ length prefix + 1 → n + 1 ≡ length (prefix ++ s ∷ []) + 1
+one-longer prefix s n e = let l : length (prefix ++ s ∷ []) ≡ length prefix + length (s ∷ []) = length-append prefix (s ∷ []) in omega arith
 
 -- the numbers where the first one is live, and where it is not
 pub live_numbers-live : (s : SubRecord) (rest : List SubRecord) (n : ℕ) → is_live s ≡ true → live_numbers n (s ∷ rest) ≡ n ∷ live_numbers (n + 1) rest
@@ -41,27 +41,27 @@ live_numbers-shut s rest n shut =
 abbrev pub OnlyLive : (SubRecord → Bool) → Type 0
 OnlyLive p = (s : SubRecord) → is_live s ≡ false → p s ≡ false
 
-find-front : (p : ℕ → Bool) (all ns : List ℕ) (n : ℕ) (b : Bool) → all ≡ n ∷ ns → p n ≡ b → find p all ≡ cond b (Some n) (find p ns)
-find-front p all ns n b e pass = ap (find p) e ∙ ap (λ (t : Bool). cond t (Some n) (find p ns)) pass
+find-prefix : (p : ℕ → Bool) (all ns : List ℕ) (n : ℕ) (b : Bool) → all ≡ n ∷ ns → p n ≡ b → find p all ≡ cond b (Some n) (find p ns)
+find-prefix p all ns n b e pass = ap (find p) e ∙ ap (λ (t : Bool). cond t (Some n) (find p ns)) pass
 
 find-step : (p : SubRecord → Bool) (subs rest : List SubRecord) (s : SubRecord) (n : ℕ) (b : Bool) → OnlyLive p → is_live s ≡ b → numbered subs n ≡ Some s → find (passes p subs) (live_numbers (n + 1) rest) ≡ position_from p (n + 1) rest → find (passes p subs) (live_numbers n (s ∷ rest)) ≡ position_from p n (s ∷ rest)
 find-step p subs rest s n true only live at next =
-    find-front (passes p subs) (live_numbers n (s ∷ rest)) (live_numbers (n + 1) rest) n (p s) (live_numbers-live s rest n live) (ap (passes_test p) at) ∙ ap (λ (o : Option ℕ). cond (p s) (Some n) o) next
+    find-prefix (passes p subs) (live_numbers n (s ∷ rest)) (live_numbers (n + 1) rest) n (p s) (live_numbers-live s rest n live) (ap (passes_test p) at) ∙ ap (λ (o : Option ℕ). cond (p s) (Some n) o) next
 find-step p subs rest s n false only shut at next =
     ap (find (passes p subs)) (live_numbers-shut s rest n shut) ∙ next ∙ sym (ap (λ (t : Bool). cond t (Some n) (position_from p (n + 1) rest)) (only s shut))
 
-find-behind : (p : SubRecord → Bool) (front rest : List SubRecord) (n : ℕ) → OnlyLive p → n ≡ length front + 1 → find (passes p (front ++ rest)) (live_numbers n rest) ≡ position_from p n rest
-find-behind p front [] n only e = refl
-find-behind p front (s ∷ rest) n only e =
-    let next : find (passes p ((front ++ s ∷ []) ++ rest)) (live_numbers (n + 1) rest) ≡ position_from p (n + 1) rest =
-    find-behind p (front ++ s ∷ []) rest (n + 1) only (one-longer front s n e) in
-    let moved : find (passes p (front ++ s ∷ rest)) (live_numbers (n + 1) rest) ≡ position_from p (n + 1) rest =
-    subst (λ (xs : List SubRecord). find (passes p xs) (live_numbers (n + 1) rest) ≡ position_from p (n + 1) rest) (one-moved front rest s) next in
-    find-step p (front ++ s ∷ rest) rest s n (is_live s) only refl (numbered-behind front rest s n e) moved
+find-afterwards : (p : SubRecord → Bool) (prefix rest : List SubRecord) (n : ℕ) → OnlyLive p → n ≡ length prefix + 1 → find (passes p (prefix ++ rest)) (live_numbers n rest) ≡ position_from p n rest
+find-afterwards p prefix [] n only e = refl
+find-afterwards p prefix (s ∷ rest) n only e =
+    let next : find (passes p ((prefix ++ s ∷ []) ++ rest)) (live_numbers (n + 1) rest) ≡ position_from p (n + 1) rest =
+    find-afterwards p (prefix ++ s ∷ []) rest (n + 1) only (one-longer prefix s n e) in
+    let moved : find (passes p (prefix ++ s ∷ rest)) (live_numbers (n + 1) rest) ≡ position_from p (n + 1) rest =
+    subst (λ (xs : List SubRecord). find (passes p xs) (live_numbers (n + 1) rest) ≡ position_from p (n + 1) rest) (one-moved prefix rest s) next in
+    find-step p (prefix ++ s ∷ rest) rest s n (is_live s) only refl (numbered-afterwards prefix rest s n e) moved
 
 -- the first live number that passes is the first number that passes
 pub find-live : (p : SubRecord → Bool) (subs : List SubRecord) (live : List ℕ) → OnlyLive p → live ≡ live_numbers 1 subs → find (passes p subs) live ≡ first_number p subs
-find-live p subs live only e = ap (find (passes p subs)) e ∙ find-behind p [] subs 1 only refl
+find-live p subs live only e = ap (find (passes p subs)) e ∙ find-afterwards p [] subs 1 only refl
 
 -- what only live ones pass
 next-shut : (c : Conn) (a u : Option ℕ) → not (is_shut c) ≡ false → (if is_failure c then a else (if is_connecting c then u else None)) ≡ None
@@ -110,17 +110,17 @@ next-step subs rest s n true live at next =
 next-step subs rest s n false shut at next =
     ap (next_of_numbers subs) (live_numbers-shut s rest n shut) ∙ next ∙ sym (ap (λ (o : Option ℕ). sooner o (next_of_all rest)) (next_of-shut s shut))
 
-next-behind : (front rest : List SubRecord) (n : ℕ) → n ≡ length front + 1 → next_of_numbers (front ++ rest) (live_numbers n rest) ≡ next_of_all rest
-next-behind front [] n e = refl
-next-behind front (s ∷ rest) n e =
-    let next : next_of_numbers ((front ++ s ∷ []) ++ rest) (live_numbers (n + 1) rest) ≡ next_of_all rest =
-    next-behind (front ++ s ∷ []) rest (n + 1) (one-longer front s n e) in
-    let moved : next_of_numbers (front ++ s ∷ rest) (live_numbers (n + 1) rest) ≡ next_of_all rest =
-    subst (λ (xs : List SubRecord). next_of_numbers xs (live_numbers (n + 1) rest) ≡ next_of_all rest) (one-moved front rest s) next in
-    next-step (front ++ s ∷ rest) rest s n (is_live s) refl (numbered-behind front rest s n e) moved
+next-afterwards : (prefix rest : List SubRecord) (n : ℕ) → n ≡ length prefix + 1 → next_of_numbers (prefix ++ rest) (live_numbers n rest) ≡ next_of_all rest
+next-afterwards prefix [] n e = refl
+next-afterwards prefix (s ∷ rest) n e =
+    let next : next_of_numbers ((prefix ++ s ∷ []) ++ rest) (live_numbers (n + 1) rest) ≡ next_of_all rest =
+    next-afterwards (prefix ++ s ∷ []) rest (n + 1) (one-longer prefix s n e) in
+    let moved : next_of_numbers (prefix ++ s ∷ rest) (live_numbers (n + 1) rest) ≡ next_of_all rest =
+    subst (λ (xs : List SubRecord). next_of_numbers xs (live_numbers (n + 1) rest) ≡ next_of_all rest) (one-moved prefix rest s) next in
+    next-step (prefix ++ s ∷ rest) rest s n (is_live s) refl (numbered-afterwards prefix rest s n e) moved
 
 pub next-live : (subs : List SubRecord) (live : List ℕ) → live ≡ live_numbers 1 subs → next_of_numbers subs live ≡ next_of_all subs
-next-live subs live e = ap (next_of_numbers subs) e ∙ next-behind [] subs 1 refl
+next-live subs live e = ap (next_of_numbers subs) e ∙ next-afterwards [] subs 1 refl
 
 -- the sooner of three
 pub sooner_none : (a : Option ℕ) → sooner a None ≡ a
@@ -149,7 +149,7 @@ length-changed f [] i = refl
 length-changed f (s ∷ xs) zero = refl
 length-changed f (s ∷ xs) (suc i) = ap suc (length-changed f xs i)
 
--- a change at a number is one at the place in front of it
+-- a change at a number is one at the place before it
 changed-number : (f : SubRecord → SubRecord) (xs : List SubRecord) (n : ℕ) → 1 ≤ n → changed f xs (n - 1) ≡ changed_at f xs n
 changed-number f xs zero h = absurd (omega arith)
 changed-number f xs (suc place) h = let e : suc place - 1 ≡ place = omega arith in ap (changed f xs) e

@@ -4,12 +4,12 @@ use Rattle.std.proofs.lemmas.Bool.{eqb-true}
 use Rattle.std.proofs.lemmas.List.Elements.{Contains-append_right, Contains-get_or}
 use Rattle.grpc_base.specs.declared.address.Address.{Address}
 use Rattle.grpc_base.specs.Addresses.{IsWithoutRepeats, has_address}
-use Rattle.subchannel.specs.Records.{SubRecord, is_live, is_due, wished, dialed, linked_up, failed, greeted, lost, clocked, new_sub, shut_down}
+use Rattle.subchannel.specs.Records.{SubRecord, is_live, is_due, wished, dialed, linked_up, failed, prefaced, lost, clocked, new_sub, shut_down}
 use Rattle.subchannel.specs.Boards.{changed, changed_at, clocked_at, first_number, kept_or_shut, lacking, kept, is_live_at, has_live}
-use Rattle.subchannel.specs.Runs.{BoardCall, Keep, Wished, Dial, Up, Failed, Ready, Lost, Clock, after_call, after_calls, AreLists, AllAreLists, live_count}
+use Rattle.subchannel.specs.Runs.{BoardCall, Keep, Wished, Dial, Up, Failed, Ready, Lost, Clock, after_call, after_calls, ListsAreDistinct, AllAreLists, live_count}
 use Rattle.subchannel.proofs.NumberLaws.{only_live-at}
 use Rattle.subchannel.proofs.KeepLaws.{KeepsLive}
-use Rattle.subchannel.proofs.StepLaws.{keeps_live-wished, keeps_live-dialed, keeps_live-linked_up, keeps_live-failed, keeps_live-greeted, keeps_live-lost, keeps_live-clocked}
+use Rattle.subchannel.proofs.StepLaws.{keeps_live-wished, keeps_live-dialed, keeps_live-linked_up, keeps_live-failed, keeps_live-prefaced, keeps_live-lost, keeps_live-clocked}
 use Rattle.subchannel.proofs.RunLaws.{address-step}
 
 -- whether two addresses are one
@@ -193,14 +193,14 @@ one_at_most false = omega arith
 within : (m n : ℕ) → m ≡ n → n ≤ 1 → m ≤ 1
 within m n e h = omega arith
 
-once-step : (call : BoardCall) (subs : List SubRecord) → AreLists call → ((a : Address) → live_count a subs ≤ 1) → (a : Address) → live_count a (after_call call subs) ≤ 1
+once-step : (call : BoardCall) (subs : List SubRecord) → ListsAreDistinct call → ((a : Address) → live_count a subs ≤ 1) → (a : Address) → live_count a (after_call call subs) ≤ 1
 once-step (Keep current pending) subs lists once a =
     within (live_count a (kept current pending subs)) (if has_address current a || has_address pending a then 1 else 0) (count-kept current pending subs a lists.0 lists.1 (once a)) (one_at_most (has_address current a || has_address pending a))
 once-step (Wished n) subs lists once a = within _ (live_count a subs) (count-changed_at wished a subs n keeps_live-wished (address-step (Wished n))) (once a)
 once-step (Dial n moment word) subs lists once a = within _ (live_count a subs) (count-changed_at (dialed moment word) a subs n (keeps_live-dialed moment word) (address-step (Dial n moment word))) (once a)
 once-step (Up n) subs lists once a = within _ (live_count a subs) (count-changed_at linked_up a subs n keeps_live-linked_up (address-step (Up n))) (once a)
 once-step (Failed n) subs lists once a = within _ (live_count a subs) (count-changed_at failed a subs n keeps_live-failed (address-step (Failed n))) (once a)
-once-step (Ready n) subs lists once a = within _ (live_count a subs) (count-changed_at greeted a subs n keeps_live-greeted (address-step (Ready n))) (once a)
+once-step (Ready n) subs lists once a = within _ (live_count a subs) (count-changed_at prefaced a subs n keeps_live-prefaced (address-step (Ready n))) (once a)
 once-step (Lost n) subs lists once a = within _ (live_count a subs) (count-changed_at lost a subs n keeps_live-lost (address-step (Lost n))) (once a)
 once-step (Clock moment) subs lists once a = within _ (live_count a subs) (count-clocked moment a subs (first_number (is_due moment) subs)) (once a)
 
@@ -215,6 +215,6 @@ after-append : (calls : List BoardCall) (call : BoardCall) (subs : List SubRecor
 after-append [] call subs = refl
 after-append (c ∷ calls) call subs = after-append calls call (after_call c subs)
 
-pub live-where-kept : (calls : List BoardCall) (current pending : List Address) → AllAreLists calls → AreLists (Keep current pending) → (a : Address) → live_count a (after_calls (calls ++ Keep current pending ∷ []) []) ≡ (if has_address current a || has_address pending a then 1 else 0)
+pub live-where-kept : (calls : List BoardCall) (current pending : List Address) → AllAreLists calls → ListsAreDistinct (Keep current pending) → (a : Address) → live_count a (after_calls (calls ++ Keep current pending ∷ []) []) ≡ (if has_address current a || has_address pending a then 1 else 0)
 live-where-kept calls current pending lists both a =
     ap (live_count a) (after-append calls (Keep current pending) []) ∙ count-kept current pending (after_calls calls []) a both.0 both.1 (live-once calls lists a)

@@ -4,11 +4,11 @@ use Rattle.grpc_base.specs.declared.address.Address.{Address}
 use Rattle.grpc_base.specs.declared.event.Conn.{Conn}
 use Rattle.grpc_base.specs.declared.event.Conn.TheVariants as conn
 use Rattle.grpc_base.specs.Addresses.{has_address}
-use Rattle.subchannel.specs.Records.{SubRecord, is_live, is_connecting, is_ready, is_failure, is_idle, is_dialable, is_dialing, is_greeting, is_due, wished, dialed, linked_up, failed, greeted, lost, clocked, backing_off, shut_down, next_dials, again_after, until_after}
+use Rattle.subchannel.specs.Records.{SubRecord, is_live, is_connecting, is_ready, is_failure, is_idle, is_dialable, is_dialing, awaits_preface, is_due, wished, dialed, linked_up, failed, prefaced, lost, clocked, backing_off, shut_down, next_dials, again_after, until_after}
 use Rattle.subchannel.specs.Boards.{numbered, changed, changed_at, clocked_at, first_number, kept_or_shut}
 use Rattle.subchannel.specs.Runs.{BoardCall, Keep, Wished, Dial, Up, Failed, Ready, Lost, Clock, after_call, after_calls, IsLater, MayEndFailure}
 use Rattle.subchannel.proofs.KeepLaws.{is_live-kept}
-use Rattle.subchannel.proofs.StepLaws.{keeps_live-wished, keeps_live-dialed, keeps_live-linked_up, keeps_live-failed, keeps_live-greeted, keeps_live-lost, keeps_live-clocked}
+use Rattle.subchannel.proofs.StepLaws.{keeps_live-wished, keeps_live-dialed, keeps_live-linked_up, keeps_live-failed, keeps_live-prefaced, keeps_live-lost, keeps_live-clocked}
 
 -- what a call does to one subchannel, if it does anything
 abbrev pub step_of : BoardCall → SubRecord → SubRecord
@@ -17,7 +17,7 @@ step_of (Wished number) = wished
 step_of (Dial number moment word) = dialed moment word
 step_of (Up number) = linked_up
 step_of (Failed number) = failed
-step_of (Ready number) = greeted
+step_of (Ready number) = prefaced
 step_of (Lost number) = lost
 step_of (Clock moment) = clocked moment
 
@@ -57,7 +57,7 @@ step-at (Wished n) subs number s e = numbered-changed_at wished subs n number s 
 step-at (Dial n moment word) subs number s e = numbered-changed_at (dialed moment word) subs n number s e
 step-at (Up n) subs number s e = numbered-changed_at linked_up subs n number s e
 step-at (Failed n) subs number s e = numbered-changed_at failed subs n number s e
-step-at (Ready n) subs number s e = numbered-changed_at greeted subs n number s e
+step-at (Ready n) subs number s e = numbered-changed_at prefaced subs n number s e
 step-at (Lost n) subs number s e = numbered-changed_at lost subs n number s e
 step-at (Clock moment) subs number s e = clocked-step moment subs (first_number (is_due moment) subs) number s e
 
@@ -93,9 +93,9 @@ failure-step (Dial n moment word) s e =
 failure-step (Up n) s e = inl (state-if (is_dialing s) (record s { linked = true }) s conn.Failure (ap (λ (c : Conn). is_connecting c && is_some s.until && not s.linked) e) e)
 failure-step (Failed n) s e = inl (state-if (is_dialing s) (backing_off s) s conn.Failure (ap (λ (c : Conn). is_connecting c && is_some s.until && not s.linked) e) e)
 failure-step (Ready n) s e =
-    inl (state-if (is_greeting s) (record s { state = conn.Ready; dials = 0; again = None; until = None }) s conn.Failure (ap (λ (c : Conn). is_connecting c && is_some s.until && s.linked) e) e)
+    inl (state-if (awaits_preface s) (record s { state = conn.Ready; dials = 0; again = None; until = None }) s conn.Failure (ap (λ (c : Conn). is_connecting c && is_some s.until && s.linked) e) e)
 failure-step (Lost n) s e =
-    inl (state-if (is_greeting s) (backing_off s) (if is_ready s.state then record s { state = conn.Idle; linked = false } else s) conn.Failure (ap (λ (c : Conn). is_connecting c && is_some s.until && s.linked) e) (state-if (is_ready s.state) (record s { state = conn.Idle; linked = false }) s conn.Failure (ap is_ready e) e))
+    inl (state-if (awaits_preface s) (backing_off s) (if is_ready s.state then record s { state = conn.Idle; linked = false } else s) conn.Failure (ap (λ (c : Conn). is_connecting c && is_some s.until && s.linked) e) (state-if (is_ready s.state) (record s { state = conn.Idle; linked = false }) s conn.Failure (ap is_ready e) e))
 failure-step (Clock moment) s e = clock-failure moment s (is_due moment s) refl e
 
 pub failure-stays : (call : BoardCall) (subs : List SubRecord) (number : ℕ) (s : SubRecord) → numbered subs number ≡ Some s → s.state ≡ conn.Failure → IsSomeAnd (numbered (after_call call subs) number) (λ t. (t.state ≡ conn.Failure) ⊎ MayEndFailure call s)
@@ -112,9 +112,9 @@ address-step (Dial n moment word) s =
 address-step (Up n) s = address-if (is_dialing s) (record s { linked = true }) s s.address refl refl
 address-step (Failed n) s = address-if (is_dialing s) (backing_off s) s s.address refl refl
 address-step (Ready n) s =
-    address-if (is_greeting s) (record s { state = conn.Ready; dials = 0; again = None; until = None }) s s.address refl refl
+    address-if (awaits_preface s) (record s { state = conn.Ready; dials = 0; again = None; until = None }) s s.address refl refl
 address-step (Lost n) s =
-    address-if (is_greeting s) (backing_off s) (if is_ready s.state then record s { state = conn.Idle; linked = false } else s) s.address refl (address-if (is_ready s.state) (record s { state = conn.Idle; linked = false }) s s.address refl refl)
+    address-if (awaits_preface s) (backing_off s) (if is_ready s.state then record s { state = conn.Idle; linked = false } else s) s.address refl (address-if (is_ready s.state) (record s { state = conn.Idle; linked = false }) s s.address refl refl)
 address-step (Clock moment) s =
     address-if (is_due moment s) (if is_failure s.state then record s { state = conn.Idle; again = None } else backing_off s) s s.address (address-if (is_failure s.state) (record s { state = conn.Idle; again = None }) (backing_off s) s.address refl refl) refl
 
@@ -125,7 +125,7 @@ shut-step (Wished n) s e = keeps_live-wished s ∙ e
 shut-step (Dial n moment word) s e = keeps_live-dialed moment word s ∙ e
 shut-step (Up n) s e = keeps_live-linked_up s ∙ e
 shut-step (Failed n) s e = keeps_live-failed s ∙ e
-shut-step (Ready n) s e = keeps_live-greeted s ∙ e
+shut-step (Ready n) s e = keeps_live-prefaced s ∙ e
 shut-step (Lost n) s e = keeps_live-lost s ∙ e
 shut-step (Clock moment) s e = keeps_live-clocked moment s ∙ e
 

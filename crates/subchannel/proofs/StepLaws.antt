@@ -2,7 +2,7 @@
 use Rattle.std.proofs.Common.{◌≡◌, ℕ, Bool, true, false, refl, sym, ◌∙◌, not, ◌&&◌, if◌then◌else◌, is_some, Some, None}
 use Rattle.grpc_base.specs.declared.event.Conn.{Conn}
 use Rattle.grpc_base.specs.declared.event.Conn.TheVariants as conn
-use Rattle.subchannel.specs.Records.{SubRecord, is_live, is_shut, is_connecting, is_ready, is_failure, is_idle, is_dialable, is_dialing, is_greeting, is_due, wished, dialed, linked_up, failed, greeted, lost, clocked, backing_off, next_dials, again_after, until_after}
+use Rattle.subchannel.specs.Records.{SubRecord, is_live, is_shut, is_connecting, is_ready, is_failure, is_idle, is_dialable, is_dialing, awaits_preface, is_due, wished, dialed, linked_up, failed, prefaced, lost, clocked, backing_off, next_dials, again_after, until_after}
 use Rattle.subchannel.proofs.NumberLaws.{only_live-due}
 use Rattle.subchannel.proofs.KeepLaws.{KeepsLive}
 
@@ -39,8 +39,8 @@ and_left false b e = (cc)
 dialing-live : (s : SubRecord) → is_dialing s ≡ true → true ≡ is_live s
 dialing-live s e = connecting-live s.state (and_left (is_connecting s.state) (is_some s.until) (and_left (is_connecting s.state && is_some s.until) (not s.linked) e))
 
-greeting-live : (s : SubRecord) → is_greeting s ≡ true → true ≡ is_live s
-greeting-live s e = connecting-live s.state (and_left (is_connecting s.state) (is_some s.until) (and_left (is_connecting s.state && is_some s.until) s.linked e))
+preface-live : (s : SubRecord) → awaits_preface s ≡ true → true ≡ is_live s
+preface-live s e = connecting-live s.state (and_left (is_connecting s.state) (is_some s.until) (and_left (is_connecting s.state && is_some s.until) s.linked e))
 
 pub keeps_live-wished : KeepsLive wished
 keeps_live-wished s = live-if (is_idle s.state) s (record s { state = conn.Connecting }) s (λ e. idle-live s.state e) refl
@@ -55,13 +55,13 @@ keeps_live-linked_up s = live-if (is_dialing s) s (record s { linked = true }) s
 pub keeps_live-failed : KeepsLive failed
 keeps_live-failed s = live-if (is_dialing s) s (backing_off s) s (dialing-live s) refl
 
-pub keeps_live-greeted : KeepsLive greeted
-keeps_live-greeted s =
-    live-if (is_greeting s) s (record s { state = conn.Ready; dials = 0; again = None; until = None }) s (greeting-live s) refl
+pub keeps_live-prefaced : KeepsLive prefaced
+keeps_live-prefaced s =
+    live-if (awaits_preface s) s (record s { state = conn.Ready; dials = 0; again = None; until = None }) s (preface-live s) refl
 
 pub keeps_live-lost : KeepsLive lost
 keeps_live-lost s =
-    live-if (is_greeting s) s (backing_off s) (if is_ready s.state then record s { state = conn.Idle; linked = false } else s) (greeting-live s) (live-if (is_ready s.state) s (record s { state = conn.Idle; linked = false }) s (ready-live s.state) refl)
+    live-if (awaits_preface s) s (backing_off s) (if is_ready s.state then record s { state = conn.Idle; linked = false } else s) (preface-live s) (live-if (is_ready s.state) s (record s { state = conn.Idle; linked = false }) s (ready-live s.state) refl)
 
 due-live : (moment : ℕ) (s : SubRecord) (b : Bool) → is_live s ≡ b → is_due moment s ≡ true → true ≡ is_live s
 due-live moment s true live e = sym live

@@ -73,7 +73,7 @@ kept_or_shut current pending s =
 abbrev pub lacking : List SubRecord → List Address → List Address → List Address
 lacking subs others addresses = filter (λ a. not (has_live subs a) && not (has_address others a)) addresses
 
--- the list after these two lists of addresses are kept: those of neither are shut, new ones come behind
+-- the list after these two lists of addresses are kept: those of neither are shut, new ones come after
 abbrev pub kept : List Address → List Address → List SubRecord → List SubRecord
 kept current pending subs =
     map (kept_or_shut current pending) subs ++ map new_sub (lacking subs [] current ++ lacking subs current pending)

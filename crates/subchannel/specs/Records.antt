@@ -53,8 +53,8 @@ abbrev pub is_dialing : SubRecord → Bool
 is_dialing s = is_connecting s.state && is_some s.until && not s.linked
 
 -- CONNECTING, with a link that has not shown the server's SETTINGS
-abbrev pub is_greeting : SubRecord → Bool
-is_greeting s = is_connecting s.state && is_some s.until && s.linked
+abbrev pub awaits_preface : SubRecord → Bool
+awaits_preface s = is_connecting s.state && is_some s.until && s.linked
 
 -- a new subchannel
 abbrev pub new_sub : Address → SubRecord
@@ -94,13 +94,13 @@ abbrev pub failed : SubRecord → SubRecord
 failed s = if is_dialing s then backing_off s else s
 
 -- the server's first SETTINGS came
-abbrev pub greeted : SubRecord → SubRecord
-greeted s = if is_greeting s then record s { state = conn.Ready; dials = 0; again = None; until = None } else s
+abbrev pub prefaced : SubRecord → SubRecord
+prefaced s = if awaits_preface s then record s { state = conn.Ready; dials = 0; again = None; until = None } else s
 
 -- its link is lost, broken or retiring
 abbrev pub lost : SubRecord → SubRecord
 lost s =
-    if is_greeting s then backing_off s
+    if awaits_preface s then backing_off s
     else if is_ready s.state then record s { state = conn.Idle; linked = false }
     else s
 

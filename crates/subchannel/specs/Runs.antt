@@ -3,7 +3,7 @@ use Rattle.std.specs.Prelude.{◌≡◌, ◌≤◌, ◌⊎◌, ℕ, ◌+◌, tru
 use Rattle.grpc_base.specs.declared.address.Address.{Address}
 use Rattle.grpc_base.specs.declared.event.Conn.TheVariants as conn
 use Rattle.grpc_base.specs.Addresses.{IsWithoutRepeats, has_address}
-use Rattle.subchannel.specs.Records.{SubRecord, is_live, is_due, wished, dialed, linked_up, failed, greeted, lost}
+use Rattle.subchannel.specs.Records.{SubRecord, is_live, is_due, wished, dialed, linked_up, failed, prefaced, lost}
 use Rattle.subchannel.specs.Boards.{numbered, changed_at, first_clocked, is_live_at, kept}
 
 -- a call that may change a board
@@ -24,7 +24,7 @@ after_call (Wished number) subs = changed_at wished subs number
 after_call (Dial number moment word) subs = changed_at (dialed moment word) subs number
 after_call (Up number) subs = changed_at linked_up subs number
 after_call (Failed number) subs = changed_at failed subs number
-after_call (Ready number) subs = changed_at greeted subs number
+after_call (Ready number) subs = changed_at prefaced subs number
 after_call (Lost number) subs = changed_at lost subs number
 after_call (Clock moment) subs = first_clocked moment subs
 
@@ -33,13 +33,13 @@ after_calls [] subs = subs
 after_calls (call ∷ calls) subs = after_calls calls (after_call call subs)
 
 -- each list that is to be kept has no address twice, as every list of addresses
-abbrev pub AreLists : BoardCall → Type 0
-AreLists (Keep current pending) = IsWithoutRepeats current × IsWithoutRepeats pending
-AreLists _ = Unit {0}
+abbrev pub ListsAreDistinct : BoardCall → Type 0
+ListsAreDistinct (Keep current pending) = IsWithoutRepeats current × IsWithoutRepeats pending
+ListsAreDistinct _ = Unit {0}
 
 abbrev pub AllAreLists : List BoardCall → Type 0
 AllAreLists [] = Unit {0}
-AllAreLists (call ∷ calls) = AreLists call × AllAreLists calls
+AllAreLists (call ∷ calls) = ListsAreDistinct call × AllAreLists calls
 
 -- how many live subchannels an address has
 abbrev pub live_count : Address → List SubRecord → ℕ
@@ -63,7 +63,7 @@ LiveOnce = (calls : List BoardCall) → AllAreLists calls → (a : Address) → 
 
 abbrev pub LiveWhereKept : Type 0
 LiveWhereKept =
-    (calls : List BoardCall) (current pending : List Address) → AllAreLists calls → AreLists (Keep current pending) → (a : Address) → live_count a (after_calls (calls ++ Keep current pending ∷ []) []) ≡ (if has_address current a || has_address pending a then 1 else 0)
+    (calls : List BoardCall) (current pending : List Address) → AllAreLists calls → ListsAreDistinct (Keep current pending) → (a : Address) → live_count a (after_calls (calls ++ Keep current pending ∷ []) []) ≡ (if has_address current a || has_address pending a then 1 else 0)
 
 -- a number is that of one subchannel for good
 abbrev pub NumbersStay : Type 0

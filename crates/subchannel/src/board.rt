@@ -2,7 +2,7 @@
 ghost use Rattle.std.specs.Prelude.{◌≡◌, ◌≤◌, ◌<◌, ◌↔◌, [], length, Some, None, OnOk, OnErr, IfOk, IsErr, IfSome, IfNone, false};
 ghost use Rattle.std.specs.Option.{option_copied};
 ghost use Rattle.grpc_base.specs.Limits.{moment_limit};
-ghost use Rattle.subchannel.specs.Records.{wished, dialed, until_after, linked_up, failed, greeted, lost, is_dialable, is_dialing, is_due};
+ghost use Rattle.subchannel.specs.Records.{wished, dialed, until_after, linked_up, failed, prefaced, lost, is_dialable, is_dialing, is_due};
 ghost use Rattle.subchannel.specs.Boards.{numbered, HasNumber, changed_at, first_number, is_live_at, first_clocked, next_of_all, kept};
 ghost use Rattle.subchannel.specs.Insides.{live_numbers};
 
@@ -99,7 +99,7 @@ impl Board {
         chosen.wished();
     }
 
-    /// Takes the dial of this subchannel at a moment, and tells when it is given up.
+    /// Takes the dial of this subchannel at a moment, and reports when it is given up.
     pub fn dial(&mut self, sub: u32, moment: u64, word: u64) -> Result<u64, NotDialing>
         requires number { HasNumber self.old sub }
         requires moment { moment ≤ moment_limit }
@@ -133,7 +133,7 @@ impl Board {
     /// The server's first SETTINGS came on the link of this subchannel.
     pub fn ready(&mut self, sub: u32)
         requires { HasNumber self.old sub }
-        ensures { self.new ≡ changed_at greeted self.old sub }
+        ensures { self.new ≡ changed_at prefaced self.old sub }
     {
         let chosen = &mut self.subs[sub as usize - 1];
         chosen.ready();
@@ -148,7 +148,7 @@ impl Board {
         chosen.lost();
     }
 
-    /// Makes the first change, by number, that the clock has made due by this moment, and tells the state reached.
+    /// Makes the first change, by number, that the clock has made due by this moment, and reports the state reached.
     pub fn clock(&mut self, moment: u64) -> Option<(u32, Conn)>
         requires { moment ≤ moment_limit }
         ensures after { self.new ≡ first_clocked moment self.old }

@@ -63,7 +63,7 @@ fn has_live_sub(subs: &[Subchannel], live: &[u32], address: Address) -> bool
     first_of_address(subs, live, address).is_some()
 }
 
-/// The numbers that stay live, and those of as many new subchannels behind all others.
+/// The numbers that stay live, and those of as many new subchannels after all others.
 pub fn live_after(
     alloc: Global,
     subs: &[Subchannel],

@@ -9,7 +9,7 @@ pub enum Phase {
     /// CONNECTING, and its dial is taken.
     Dialing { again: u64, until: u64 },
     /// CONNECTING, with a link that has not shown the server's SETTINGS.
-    Greeting { again: u64, until: u64 },
+    AwaitingPreface { again: u64, until: u64 },
     Ready,
     /// TRANSIENT_FAILURE.
     Failure { again: u64 },

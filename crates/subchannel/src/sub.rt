@@ -1,7 +1,7 @@
 // One subchannel.
 ghost use Rattle.std.specs.Prelude.{◌≡◌, ◌≤◌, ◌↔◌, IfOk, IsErr, false};
 ghost use Rattle.grpc_base.specs.Limits.{moment_limit};
-ghost use Rattle.subchannel.specs.Records.{new_sub, wished, dialed, until_after, linked_up, failed, greeted, lost, shut_down, clocked, next_of, is_dialable, is_dialing};
+ghost use Rattle.subchannel.specs.Records.{new_sub, wished, dialed, until_after, linked_up, failed, prefaced, lost, shut_down, clocked, next_of, is_dialable, is_dialing};
 
 use crate::phase::Phase;
 use a6_numbers::next_connect_wait;
@@ -53,7 +53,7 @@ impl Subchannel {
         }
     }
 
-    /// Takes its dial at a moment, and tells when it is given up. The word spreads the wait of a further dial.
+    /// Takes its dial at a moment, and reports when it is given up. The word spreads the wait of a further dial.
     pub fn dial(&mut self, moment: u64, word: u64) -> Result<u64, NotDialing>
         requires { moment ≤ moment_limit }
         ensures after { self.new ≡ dialed moment word self.old }
@@ -79,7 +79,7 @@ impl Subchannel {
         let Phase::Dialing { again, until } = self.phase else {
             return Err(NotDialing);
         };
-        self.phase = Phase::Greeting { again, until };
+        self.phase = Phase::AwaitingPreface { again, until };
         Ok(())
     }
 
@@ -94,9 +94,9 @@ impl Subchannel {
 
     /// The server's first SETTINGS came on its link: it is READY, and its backoff begins anew.
     pub fn ready(&mut self)
-        ensures { self.new ≡ greeted self.old }
+        ensures { self.new ≡ prefaced self.old }
     {
-        if let Phase::Greeting { .. } = self.phase {
+        if let Phase::AwaitingPreface { .. } = self.phase {
             self.phase = Phase::Ready;
             self.dials = 0;
         }
@@ -107,7 +107,7 @@ impl Subchannel {
         ensures { self.new ≡ lost self.old }
     {
         match self.phase {
-            Phase::Greeting { again, .. } => self.phase = Phase::Failure { again },
+            Phase::AwaitingPreface { again, .. } => self.phase = Phase::Failure { again },
             Phase::Ready => self.phase = Phase::Idle,
             _ => {}
         }
@@ -120,10 +120,10 @@ impl Subchannel {
     {
         match self.phase {
             Phase::Failure { again } if again <= moment => self.phase = Phase::Idle,
-            Phase::Dialing { again, until } | Phase::Greeting { again, until } if until <= moment =>
-                {
-                    self.phase = Phase::Failure { again };
-                }
+            Phase::Dialing { again, until } | Phase::AwaitingPreface { again, until }
+                if until <= moment => {
+                self.phase = Phase::Failure { again };
+            }
             _ => {}
         }
     }
@@ -141,7 +141,8 @@ impl Subchannel {
     {
         match self.phase {
             Phase::Idle => Conn::Idle,
-            Phase::Waiting | Phase::Dialing { .. } | Phase::Greeting { .. } => Conn::Connecting,
+            Phase::Waiting | Phase::Dialing { .. } | Phase::AwaitingPreface { .. } =>
+                Conn::Connecting,
             Phase::Ready => Conn::Ready,
             Phase::Failure { .. } => Conn::Failure,
             Phase::Shutdown => Conn::Shutdown,
@@ -154,7 +155,7 @@ impl Subchannel {
     {
         match self.phase {
             Phase::Failure { again } => Some(again),
-            Phase::Dialing { until, .. } | Phase::Greeting { until, .. } => Some(until),
+            Phase::Dialing { until, .. } | Phase::AwaitingPreface { until, .. } => Some(until),
             _ => None,
         }
     }

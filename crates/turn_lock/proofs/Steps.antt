@@ -1,4 +1,4 @@
--- Each kind of step keeps the rule of the table, and tells what it says.
+-- Each kind of step keeps the rule of the table, and reports what it says.
 use Rattle.std.proofs.Common.{◌≡◌, ◌≢◌, ◌⊎◌, ℕ, zero, suc, ◌+◌, ◌*◌, ◌<◌, ◌≤◌, ◌%◌, Bool, true, false, true≢false, cond, eqb, MatchBool, List, [], ◌∷◌, ◌++◌, length, drop, get_or, set, refl, sym, ap, ◌∙◌, subst, inl, inr, ⊎_elim, Option, Some, arith, le_refl, length-set, get_or-set_other, get_or-set_same, eq-eqb, ne_eqb}
 use Rattle.std.proofs.lemmas.List.{set-get_or}
 use Rattle.std.proofs.lemmas.Bool.Decides.{nat_tests}
@@ -100,15 +100,15 @@ module _ {S E : Type 0} (entries : S → List E) (mark : List E → ℕ) (origin
     whole = λ all x. sym (total-alone (λ (u : V). times x u.own) (λ (u : V). u.parts) s.views id v at (k.parts ∙ sym all) (λ j u e z. ap (times x) (k.idle j u e z))) ∙ k.own x;
   }
 
-  -- a step that changes neither the front nor the holder, and of a view without the turn neither entries nor parts
+  -- a step that changes neither the prefix nor the holder, and of a view without the turn neither entries nor parts
   kept_view : (s : St) (h : List E) → Kept entries mark origin root s h → (ws : List ℕ) → length ws ≡ 3 → get_or ws 0 0 ≡ get_or s.words 0 0 → get_or ws 1 0 ≡ get_or s.words 1 0 → (id : ℕ) (v w : V)
-      → get_elem? s.views id ≡ some v → v.turn ≡ false → w.turn ≡ false → StartsWith h w.seen × StartsWith h w.told → w.own ≡ v.own → w.parts ≡ v.parts → w.origin ≡ v.origin
+      → get_elem? s.views id ≡ some v → v.turn ≡ false → w.turn ≡ false → StartsWith h w.seen × StartsWith h w.reported → w.own ≡ v.own → w.parts ≡ v.parts → w.origin ≡ v.origin
       → Kept entries mark origin root record { words = ws; homes = s.homes; views = set s.views id w } h
   kept_view s h k ws wide w0 w1 id v w at vt wt sees own parts origins = record {
     wide = wide;
     front = w0 ∙ k.front;
     small = k.small;
-    seen = each_set (λ _ (u : V). StartsWith h u.seen × StartsWith h u.told) s.views id w sees (λ j u _ e. k.seen j u e);
+    seen = each_set (λ _ (u : V). StartsWith h u.seen × StartsWith h u.reported) s.views id w sees (λ j u _ e. k.seen j u e);
     own = λ x. same_total (λ (u : V). times x u.own) s.views id v w at (ap (times x) own) ∙ k.own x;
     stand = each_set (λ _ (u : V). Stands h u.own × Ascends 0 u.own) s.views id w (subst (λ (ps : List (ℕ × E)). Stands h ps × Ascends 0 ps) (sym own) (k.stand id v at)) (λ j u _ e. k.stand j u e);
     parts = same_total (λ (u : V). u.parts) s.views id v w at parts ∙ k.parts;
@@ -118,7 +118,7 @@ module _ {S E : Type 0} (entries : S → List E) (mark : List E → ℕ) (origin
   }
 
   -- the same, where no word changes
-  kept_same : (s : St) (h : List E) → Kept entries mark origin root s h → (i id : ℕ) (v w : V) → get_elem? s.views id ≡ some v → v.turn ≡ false → w.turn ≡ false → StartsWith h w.seen × StartsWith h w.told → w.own ≡ v.own → w.parts ≡ v.parts → w.origin ≡ v.origin
+  kept_same : (s : St) (h : List E) → Kept entries mark origin root s h → (i id : ℕ) (v w : V) → get_elem? s.views id ≡ some v → v.turn ≡ false → w.turn ≡ false → StartsWith h w.seen × StartsWith h w.reported → w.own ≡ v.own → w.parts ≡ v.parts → w.origin ≡ v.origin
       → Kept entries mark origin root record { words = set s.words i (get_or s.words i 0); homes = s.homes; views = set s.views id w } h
   kept_same s h k i id v w at vt wt sees own parts origins = let e = set-get_or s.words i 0 in
       kept_view s h k (set s.words i (get_or s.words i 0)) (ap length e ∙ k.wide) (ap (λ (ws : List ℕ). get_or ws 0 0) e) (ap (λ (ws : List ℕ). get_or ws 1 0) e) id v w at vt wt sees own parts origins
@@ -137,7 +137,7 @@ module _ {S E : Type 0} (entries : S → List E) (mark : List E → ℕ) (origin
   )
 
   pub looks : (slots id : ℕ) (me : M) → me.0.turn ≡ false → Allows Rule slots id me 0 (λ n. n) (looked mark (step slots 0 0 0 none) me)
-  looks slots id me waits s r _ at _ = let w : V = record me.0 { seen = r.0; told = [] } in let seen = r.1.seen id me.0 at in (
+  looks slots id me waits s r _ at _ = let w : V = record me.0 { seen = r.0; reported = [] } in let seen = r.1.seen id me.0 at in (
     w,
     keeps,
     tt,
@@ -163,7 +163,7 @@ module _ {S E : Type 0} (entries : S → List E) (mark : List E → ℕ) (origin
             wide = length-set s.words 1 number ∙ wide;
             front = get_or-set_other s.words 1 0 number 0 (λ e. omega arith) ∙ k.front;
             small = k.small;
-            seen = each_set (λ _ (u : V). StartsWith h u.seen × StartsWith h u.told) s.views id w (subst (λ (l : List E). StartsWith h l) (sym f.whole) (starts_self h), seen.1) (λ j u _ e. k.seen j u e);
+            seen = each_set (λ _ (u : V). StartsWith h u.seen × StartsWith h u.reported) s.views id w (subst (λ (l : List E). StartsWith h l) (sym f.whole) (starts_self h), seen.1) (λ j u _ e. k.seen j u e);
             own = λ x. same_total (λ (u : V). times x u.own) s.views id me.0 w at refl ∙ k.own x;
             stand = each_set (λ _ (u : V). Stands h u.own × Ascends 0 u.own) s.views id w (k.stand id me.0 at) (λ j u _ e. k.stand j u e);
             parts = same_total (λ (u : V). u.parts) s.views id me.0 w at refl ∙ k.parts;
@@ -235,8 +235,8 @@ module _ {S E : Type 0} (entries : S → List E) (mark : List E → ℕ) (origin
             wide = length-set s.words 0 front ∙ wide;
             front = get_or-set_same s.words 0 front 0 (omega arith) ∙ is;
             small = small;
-            seen = each_set (λ _ (u : V). StartsWith l u.seen × StartsWith l u.told) s.views id w (starts_self l, starts_longer me.0.told h l (k.seen id me.0 at).1 later)
-                (λ j u _ e. (starts_longer u.seen h l (k.seen j u e).0 later, starts_longer u.told h l (k.seen j u e).1 later));
+            seen = each_set (λ _ (u : V). StartsWith l u.seen × StartsWith l u.reported) s.views id w (starts_self l, starts_longer me.0.reported h l (k.seen id me.0 at).1 later)
+                (λ j u _ e. (starts_longer u.seen h l (k.seen j u e).0 later, starts_longer u.reported h l (k.seen j u e).1 later));
             own = λ x. all_own x h l me.0.own (total (λ (u : V). times x u.own) s.views) (total (λ (u : V). times x u.own) (set s.views id w)) me.0.seen sees ext (total-set (λ (u : V). times x u.own) s.views id me.0 w at) (k.own x);
             stand = each_set (λ _ (u : V). Stands l u.own × Ascends 0 u.own) s.views id w (stands-append l me.0.own (places (length me.0.seen) d) (stands-later h l me.0.own later mine.0) (stands-places me.0.seen l d whole), ascends-append me.0.seen 0 me.0.own (places (length me.0.seen) d) (omega arith) (subst (λ (f : List E). Stands f me.0.own) (sym sees) mine.0) mine.1 (ascends-places (length me.0.seen) (length me.0.seen) d (le_refl (length me.0.seen))))
                 (λ j u _ e. (stands-later h l u.own later (k.stand j u e).0, (k.stand j u e).1));
@@ -269,7 +269,7 @@ module _ {S E : Type 0} (entries : S → List E) (mark : List E → ℕ) (origin
         wide = length-set s.words 1 0 ∙ wide;
         front = get_or-set_other s.words 1 0 0 0 (λ e. omega arith) ∙ k.front;
         small = k.small;
-        seen = each_set (λ _ (u : V). StartsWith h u.seen × StartsWith h u.told) s.views id w (k.seen id v at) (λ j u _ e. k.seen j u e);
+        seen = each_set (λ _ (u : V). StartsWith h u.seen × StartsWith h u.reported) s.views id w (k.seen id v at) (λ j u _ e. k.seen j u e);
         own = λ x. same_total (λ (u : V). times x u.own) s.views id v w at refl ∙ k.own x;
         stand = each_set (λ _ (u : V). Stands h u.own × Ascends 0 u.own) s.views id w (k.stand id v at) (λ j u _ e. k.stand j u e);
         parts = same_total (λ (u : V). u.parts) s.views id v w at refl ∙ k.parts;
@@ -298,7 +298,7 @@ module _ {S E : Type 0} (entries : S → List E) (mark : List E → ℕ) (origin
       wide = k.wide;
       front = k.front;
       small = k.small;
-      seen = each_snoc (λ _ (u : V). StartsWith h u.seen × StartsWith h u.told) vs n (λ _. ((k.seen id v at).0, starts_empty h)) (each_set (λ _ (u : V). StartsWith h u.seen × StartsWith h u.told) s.views id l (k.seen id v at) (λ j u _ e. k.seen j u e));
+      seen = each_snoc (λ _ (u : V). StartsWith h u.seen × StartsWith h u.reported) vs n (λ _. ((k.seen id v at).0, starts_empty h)) (each_set (λ _ (u : V). StartsWith h u.seen × StartsWith h u.reported) s.views id l (k.seen id v at) (λ j u _ e. k.seen j u e));
       own = λ x. let a = total-snoc (λ (u : V). times x u.own) vs n in let b = same_total (λ (u : V). times x u.own) s.views id v l at refl in let o = k.own x in omega (arith, a, b, o);
       stand = each_snoc (λ _ (u : V). Stands h u.own × Ascends 0 u.own) vs n (λ _. (tt, tt)) (each_set (λ _ (u : V). Stands h u.own × Ascends 0 u.own) s.views id l (k.stand id v at) (λ j u _ e. k.stand j u e));
       parts = let a = total-snoc (λ (u : V). u.parts) vs n in let b = total-set (λ (u : V). u.parts) s.views id v l at in let p = k.parts in omega (arith, a, b, p);
@@ -317,7 +317,7 @@ module _ {S E : Type 0} (entries : S → List E) (mark : List E → ℕ) (origin
           wide = k.wide;
           front = k.front;
           small = k.small;
-          seen = every (λ _ u. StartsWith h u.seen × StartsWith h u.told) ((k.seen id v at).0, (k.seen other w was).0) (starts_empty h, starts_empty h) k.seen;
+          seen = every (λ _ u. StartsWith h u.seen × StartsWith h u.reported) ((k.seen id v at).0, (k.seen other w was).0) (starts_empty h, starts_empty h) k.seen;
           own = λ x. let p = total-set (λ (u : V). times x u.own) s.views id v b at in let q = total-set (λ (u : V). times x u.own) vs other w spent at' in let m = times-merged x v.own w.own in let o = k.own x in omega (arith, p, q, m, o);
           stand = every (λ _ u. Stands h u.own × Ascends 0 u.own) (stands-merged h v.own w.own (k.stand id v at).0 (k.stand other w was).0, ascends-merged v.own w.own (k.stand id v at).1 (k.stand other w was).1) (tt, tt) k.stand;
           parts = let p = total-set (λ (u : V). u.parts) s.views id v b at in let q = total-set (λ (u : V). u.parts) vs other w spent at' in let o = k.parts in omega (arith, p, q, o);
@@ -335,7 +335,7 @@ module _ {S E : Type 0} (entries : S → List E) (mark : List E → ℕ) (origin
       wide = refl;
       front = is;
       small = small;
-      seen = only_one (λ (u : V). StartsWith l u.seen × StartsWith l u.told) v (starts_self l, starts_empty l);
+      seen = only_one (λ (u : V). StartsWith l u.seen × StartsWith l u.reported) v (starts_self l, starts_empty l);
       own = λ x. let p = times-places x 0 l in let z : once_below x 0 ≡ 0 = grind (arith, nat_tests) in let e : 0 + length l ≡ length l = omega arith in let m = ap (once_below x) e in omega (arith, p, z, m);
       stand = only_one (λ (u : V). Stands l u.own × Ascends 0 u.own) v (stands-places [] l l refl, ascends-places 0 0 l (le_refl 0));
       parts = refl;

@@ -1,5 +1,5 @@
--- The rule over the table of a lock, which holds between any two steps, and what each kind of step tells.
--- Word 0 is the front, eight times the length of the published history and its mark. Word 1 is the number of the handle
+-- The rule over the table of a lock, which holds between any two steps, and what each kind of step reports.
+-- Word 0 is the prefix, eight times the length of the published history and its mark. Word 1 is the number of the handle
 -- that has the turn, or 0. Word 2 is the next number. The one slot has the state.
 use Rattle.std.specs.Prelude.{◌≡◌, ◌≢◌, ◌⊎◌, ℕ, ◌+◌, ◌-◌, ◌*◌, ◌<◌, ◌==◌, true, false, if◌then◌else◌, MatchBool, List, [], ◌∷◌, ◌++◌, length, drop, slice_index, Option, Some}
 use mathlib.Core.Option.{Option as Place, some}
@@ -39,7 +39,7 @@ pub record Kept {S E : Type 0} (entries : S → List E) (mark : List E → ℕ) 
   pub wide : length s.words ≡ 3
   pub front : slice_index s.words 0 ≡ 8 * length history + mark history
   pub small : mark history < 8
-  pub seen : (i : ℕ) (v : View E) → get_elem? s.views i ≡ some v → StartsWith history v.seen × StartsWith history v.told
+  pub seen : (i : ℕ) (v : View E) → get_elem? s.views i ≡ some v → StartsWith history v.seen × StartsWith history v.reported
   -- each entry is in the own entries of one view, once
   pub own : (x : ℕ) → total (λ (v : View E). times x v.own) s.views ≡ once_below x (length history)
   pub stand : (i : ℕ) (v : View E) → get_elem? s.views i ≡ some v → Stands history v.own × Ascends 0 v.own
@@ -54,7 +54,7 @@ Holds {S} {E} entries mark origin root s = (history : List E) × Kept entries ma
 
 module _ {E : Type 0} where
   abbrev pub view_of : List ℕ → List E → List E → List (ℕ × E) → ℕ → ℕ → View E
-  view_of origin seen told own parts number = record { seen = seen; told = told; own = own; parts = parts; number = number; turn = false; found = []; origin = origin }
+  view_of origin seen reported own parts number = record { seen = seen; reported = reported; own = own; parts = parts; number = number; turn = false; found = []; origin = origin }
 
   -- the first handle has every part and all entries that the state has
   abbrev pub first_view : List ℕ → List E → View E
@@ -69,7 +69,7 @@ module _ {E : Type 0} where
 
   -- one handle takes in another, and remembers what the other had seen until its next look
   abbrev pub joined : View E → View E → View E
-  joined v w = record v { told = w.seen; own = merged v.own w.own; parts = v.parts + w.parts }
+  joined v w = record v { reported = w.seen; own = merged v.own w.own; parts = v.parts + w.parts }
 
   abbrev pub spent : View E
   spent = view_of [] [] [] [] 0 0
@@ -83,11 +83,11 @@ module _ {S E : Type 0} where
   abbrev pub numbered : Step (Option S) → Hand S E → ℕ → Hand S E → Type 0
   numbered st m found m' = m' ≡ (record m.0 { number = if found == 0 then 1 else found }, m.1)
 
-  -- the front is read: the handle has then seen all of the published history
+  -- the prefix is read: the handle has then seen all of the published history
   abbrev pub looked : (List E → ℕ) → Step (Option S) → Hand S E → ℕ → Hand S E → Type 0
   looked mark st m found m' =
-      (history : List E) × StartsWith history m.0.seen × StartsWith history m.0.told × (found ≡ 8 * length history + mark history) × (mark history < 8)
-      × Owns m.0.parts m.0.own history × (m' ≡ (record m.0 { seen = history; told = [] }, m.1))
+      (history : List E) × StartsWith history m.0.seen × StartsWith history m.0.reported × (found ≡ 8 * length history + mark history) × (mark history < 8)
+      × Owns m.0.parts m.0.own history × (m' ≡ (record m.0 { seen = history; reported = [] }, m.1))
 
   -- the turn is won, and with it the state, whose list is the published history, and whose origin is the handle's
   abbrev pub Won : (S → List E) → (S → List ℕ) → Hand S E → Hand S E → Type 0

@@ -9,7 +9,7 @@ use std::snapshot::Snapshot;
 pub struct View<E> {
     pub seen: LinkedList<E>,
     // What a handle that was joined had seen, until the next look.
-    pub told: LinkedList<E>,
+    pub reported: LinkedList<E>,
     pub own: LinkedList<(u64, E)>,
     pub parts: u64,
     pub number: u64,

@@ -25,5 +25,5 @@ impl<S: Chronicle> Model for Seat<S> {
       found = s.inner.me.0.found;
     } };
 
-    ghost invariant = { λ s. (s.inner.me.1 ≡ []) × (s.inner.me.0.turn ≡ false) × (s.inner.me.0.told ≡ []) × (s.inner.me.0.number ≡ s.number) × (0 < s.number) × (0 < s.inner.me.0.parts) };
+    ghost invariant = { λ s. (s.inner.me.1 ≡ []) × (s.inner.me.0.turn ≡ false) × (s.inner.me.0.reported ≡ []) × (s.inner.me.0.number ≡ s.number) × (0 < s.number) × (0 < s.inner.me.0.parts) };
 }

@@ -3,7 +3,7 @@ use h2_frame::{FrameStep, fault_place, kinds, next_frame, next_setting};
 use std::alloc::Global;
 use table_rows::{Said, Wrong, bytes_of_hex};
 
-/// What the first bytes of a text are: less than a frame, a frame of so many bytes, whose payload stands behind its header or not, or a
+/// What the first bytes of a text are: less than a frame, a frame of so many bytes, whose payload stands after its header or not, or a
 /// fault that the byte at a place shows.
 #[derive(Clone, Copy, PartialEq, Eq)]
 enum Seen {

@@ -71,7 +71,7 @@ fn size_of(fields: &[Field]) -> u64 {
     size
 }
 
-/// Appends the size of the dynamic table behind some blocks and one more, where it has so many entries.
+/// Appends the size of the dynamic table after some blocks and one more, where it has so many entries.
 fn append_table(
     alloc: Global,
     blocks: &[Vec<u8>],
@@ -118,7 +118,7 @@ fn append_said(decoder: &mut Decoder, block: &[u8], out: &mut Said) {
     }
 }
 
-/// What a block says behind those before it, and the size of the dynamic table then, where a row says how many entries that has.
+/// What a block says after those before it, and the size of the dynamic table then, where a row says how many entries that has.
 pub fn block(alloc: Global, wire: &mut Wire, input: &str, out: &mut Said) -> Result<(), Wrong> {
     let (text, entries) = input.split_once(' ').ok_or(Wrong::Form)?;
     let bytes = bytes_of_hex(alloc, text)?;

@@ -43,7 +43,7 @@ fn append_cut(alloc: Global, text: &Octets, cut: usize, out: &mut Said) -> Resul
     Ok(())
 }
 
-/// What a text of messages says that is cut in two at each place, with a line feed behind each.
+/// What a text of messages says that is cut in two at each place, with a line feed after each.
 pub fn messages(alloc: Global, input: &str, out: &mut Said) -> Result<(), Wrong> {
     let text = Octets::of_vec(bytes_of_hex(alloc, input)?)?;
     for cut in 0..text.len() + 1 {

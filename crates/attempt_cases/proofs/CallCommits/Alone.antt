@@ -22,9 +22,9 @@ use Rattle.call_actions.specs.CallsApart.Laws.{tokens_in_run}
 use Rattle.channel_actions.specs.Configs.{SeesBuckets, bucket_in, runs_in_turn}
 use Rattle.channel_core.specs.States.{StateSeen}
 use Rattle.call_cases.proofs.EndsFollow.Stays.{IsBase}
-use Rattle.call_cases.specs.EndsFollow.Cuts.{AreReset, cut_off}
+use Rattle.call_cases.specs.EndsFollow.Cuts.{StreamsAreReset, cut_off}
 use Rattle.channel_actions.specs.KeptSessions.Kept.{IsKept}
-use Rattle.call_cases.specs.OtherCalls.Others.{AreOfCall, GoesApart, IsBooked, IsOfCall}
+use Rattle.call_cases.specs.OtherCalls.Others.{ActionsAreOfCall, GoesApart, IsBooked, IsOfCall}
 use Rattle.session_actions.specs.Actions.{after, after_if}
 use Rattle.session_actions.specs.AttemptEnds.{cut_end, end_of, stream_reset_of}
 use Rattle.session_actions.specs.Commitments.{call_committed}
@@ -41,7 +41,7 @@ use Rattle.session_actions.specs.declared.config.ThrottleRun.{ThrottleRun}
 use Rattle.session_actions.specs.declared.entry.OpenEntry.{OpenEntry}
 use Rattle.session_actions.specs.declared.seen.Seen.{Seen}
 use Rattle.session_order.specs.declared.line.Line.{Line}
-use Rattle.call_actions.specs.TakeActions.Cuts.{AreCut}
+use Rattle.call_actions.specs.TakeActions.Cuts.{AttemptsAreCut}
 
 -- an action is of the call, and no bucket counts it
 record IsOurs (n : ℕ) (a : Action) (v : Seen) : Type 0 where
@@ -57,7 +57,7 @@ ours_on : (n : ℕ) (xs ys : List Action) (s t : Seen) → AreOurs n xs s → Do
 ours_on n [] ys s t are does rest = subst (AreOurs n ys) does rest
 ours_on n (x ∷ xs) ys s t are does rest = (are.0, ours_on n xs ys (after x s) t are.1 does.1 rest)
 
-of_ours : (n : ℕ) (acts : List Action) (s : Seen) → AreOurs n acts s → AreOfCall n acts s
+of_ours : (n : ℕ) (acts : List Action) (s : Seen) → AreOurs n acts s → ActionsAreOfCall n acts s
 of_ours n [] s are = tt
 of_ours n (a ∷ acts) s are = (are.0.of, of_ours n acts (after a s) are.1)
 
@@ -96,16 +96,16 @@ module _ (waits : Line → Bool) (n : ℕ) (k : Attempt) (o : OpenEntry) (b v : 
   }
 
 module _ (waits : Line → Bool) (n : ℕ) (k : Attempt) (o : OpenEntry) (b : Seen) (base : IsBase n b) (goes : k.row.ended ≡ None) where
-  our_cuts : (cuts : List Action) (v t : Seen) → IsMid waits n k o b v → AreCut n cuts v t → AreOurs n cuts v
+  our_cuts : (cuts : List Action) (v t : Seen) → IsMid waits n k o b v → AttemptsAreCut n cuts v t → AreOurs n cuts v
   our_cuts [] v t is are = tt
   our_cuts (act ∷ cuts) v t is are =
       let one : IsOneCut n k.row.number v act o = one_cut n k v act o is.left.done is.book.places is.current are.0 in (
         our_cut waits n k o b v base goes act one,
         subst (AreOurs n cuts) (sym one.does)
-            (our_cuts cuts (cut_off one.attempt v) t (mid_cut waits n k o b v base goes is act one) (subst (λ (z : Seen). AreCut n cuts z t) one.does are.1)),
+            (our_cuts cuts (cut_off one.attempt v) t (mid_cut waits n k o b v base goes is act one) (subst (λ (z : Seen). AttemptsAreCut n cuts z t) one.does are.1)),
       )
 
-  our_resets : (acts : List Action) (v u : Seen) → IsReset waits n k o b v → AreReset acts v u → AreOurs n acts v
+  our_resets : (acts : List Action) (v u : Seen) → IsReset waits n k o b v → StreamsAreReset acts v u → AreOurs n acts v
   our_resets [] v u is are = tt
   our_resets (act ∷ acts) v u is are =
       let one : IsOneReset n v act = one_reset waits n k o b v is act are.0 in
@@ -114,14 +114,14 @@ module _ (waits : Line → Bool) (n : ℕ) (k : Attempt) (o : OpenEntry) (b : Se
 
   -- what each cut keeps, all of them do; and each reset
   pub cuts_carry : (P : Seen → Type 0) → ((v : Seen) (act : Action) (one : IsOneCut n k.row.number v act o) → P v → P (cut_off one.attempt v))
-      → (cuts : List Action) (v t : Seen) → IsMid waits n k o b v → AreCut n cuts v t → P v → P t
+      → (cuts : List Action) (v t : Seen) → IsMid waits n k o b v → AttemptsAreCut n cuts v t → P v → P t
   cuts_carry P keeps [] v t is are h = subst P (sym are.1) h
   cuts_carry P keeps (act ∷ cuts) v t is are h =
       let one : IsOneCut n k.row.number v act o = one_cut n k v act o is.left.done is.book.places is.current are.0 in
-      cuts_carry P keeps cuts (cut_off one.attempt v) t (mid_cut waits n k o b v base goes is act one) (subst (λ (z : Seen). AreCut n cuts z t) one.does are.1) (keeps v act one h)
+      cuts_carry P keeps cuts (cut_off one.attempt v) t (mid_cut waits n k o b v base goes is act one) (subst (λ (z : Seen). AttemptsAreCut n cuts z t) one.does are.1) (keeps v act one h)
 
   pub resets_carry : (P : Seen → Type 0) → ((v : Seen) (a : Attempt) (number : ℕ) → P v → P (stream_reset_of number v a))
-      → (acts : List Action) (v u : Seen) → IsReset waits n k o b v → AreReset acts v u → P v → P u
+      → (acts : List Action) (v u : Seen) → IsReset waits n k o b v → StreamsAreReset acts v u → P v → P u
   resets_carry P keeps [] v u is are h = subst P (sym are.1) h
   resets_carry P keeps (act ∷ acts) v u is are h =
       let one : IsOneReset n v act = one_reset waits n k o b v is act are.0 in
@@ -175,8 +175,8 @@ module _ (waits : Line → Bool) (n : ℕ) (why : CommitCause) (inbox : Inbox) (
   pub is_b : b1 ≡ b2
   is_b = follow.committed_is waits n why o s to
 
-  pub are_cut_b : AreCut n cuts b2 mid_seen
-  are_cut_b = subst (λ (z : Seen). AreCut n cuts z mid_seen) is_b (are_cut waits n why inbox x o s is)
+  pub are_cut_b : AttemptsAreCut n cuts b2 mid_seen
+  are_cut_b = subst (λ (z : Seen). AttemptsAreCut n cuts z mid_seen) is_b (are_cut waits n why inbox x o s is)
 
   pub has_cut : HasCut waits is.late n kept_one o b2 (follow.base waits n why o s to) (follow.goes waits n why o s to) b2 mid_seen cuts
   has_cut = cut_all waits n why o s to mid_seen u cuts (resets waits n why inbox x o s is).actions (are_cut waits n why inbox x o s is) (resets waits n why inbox x o s is).resets

@@ -5,7 +5,7 @@ use Rattle.std.specs.Option.{option_map}
 use Rattle.call_actions.proofs.TakeActions.CutAttempts.{ended_mark}
 use Rattle.call_actions.proofs.TakeActions.CutOne.{marked_also}
 use Rattle.call_core.specs.declared.inbox.Inbox.{Inbox}
-use Rattle.call_cases.proofs.CallPosts.Told.{map_changed}
+use Rattle.call_cases.proofs.CallPosts.Report.{map_changed}
 use Rattle.call_cases.specs.EndsFollow.Cuts.{cut_off}
 use Rattle.attempt_cases.proofs.CallCommits.Alone.{are_cut_b, b2, cuts_carry, has_cut, kept_one, resets_carry, to}
 use Rattle.attempt_cases.proofs.CallCommits.On as on_

@@ -92,17 +92,17 @@ module _ (f : Stepped → Stepped) (n : ℕ) (x : StateSeen) (slot : CallSlot) (
 
   -- the channel, by its parts
   abbrev pub shaped : List CallSlot → List LinkSlot → List ℕ → List (ℕ × ℕ) → List (ℕ × ℕ) → List (ℕ × ℕ) → List (ℕ × ℕ) → List (ℕ × ℕ) → List LinkSeen → StateSeen
-  shaped calls links resets outstanding queue patient bare impatient stamps = record x {
+  shaped calls links resets outstanding queue ready_waiters awaiting_config fail_fast stamps = record x {
     book = record x.book { ledger = record a.ledger { links = stamps }; calls = calls };
     links = links;
     resets = resets;
     outstanding = outstanding;
     queue = queue;
-    patient = patient;
+    ready_waiters = ready_waiters;
     dues = timer_moved n slot.due (due_at (Some v)) x.dues;
     deadlines = timer_moved n slot.deadline (deadline_of (Some v)) x.deadlines;
-    bare = bare;
-    impatient = impatient;
+    awaiting_config = awaiting_config;
+    fail_fast = fail_fast;
   }
 
   abbrev stamps : List LinkSeen
@@ -113,17 +113,17 @@ module _ (f : Stepped → Stepped) (n : ℕ) (x : StateSeen) (slot : CallSlot) (
       changed_slot_is (with_timers (due_at (Some v)) (deadline_of (Some v))) (slice_set x.book.calls (n - 1) v) n v (put_here x.book.calls n slot v there)
       ∙ set_twice x.book.calls (n - 1) v slot_after
 
-  moved_is : timers_moved_to n (Some v) y ≡ shaped slots y.links y.resets y.outstanding y.queue y.patient y.bare y.impatient stamps
+  moved_is : timers_moved_to n (Some v) y ≡ shaped slots y.links y.resets y.outstanding y.queue y.ready_waiters y.awaiting_config y.fail_fast stamps
   moved_is =
       ap (timers_moved_to n (Some v)) form
-      ∙ ap (λ (cs : List CallSlot). shaped cs y.links y.resets y.outstanding y.queue y.patient y.bare y.impatient stamps) timed
+      ∙ ap (λ (cs : List CallSlot). shaped cs y.links y.resets y.outstanding y.queue y.ready_waiters y.awaiting_config y.fail_fast stamps) timed
 
   -- what is sealed
   resets_are : y.resets ≡ links_of rows
   resets_are = done.resets ∙ ap (λ (ls : List ℕ). ls ++ links_of rows) resets
 
   abbrev unsealed : List LinkSlot → List ℕ → StateSeen
-  unsealed links left = shaped slots links left y.outstanding y.queue y.patient y.bare y.impatient stamps
+  unsealed links left = shaped slots links left y.outstanding y.queue y.ready_waiters y.awaiting_config y.fail_fast stamps
 
   sealed_so : sealed (call_asked f n x) ≡ unsealed (seal_all (links_of rows) y.links) []
   sealed_so =
@@ -135,7 +135,7 @@ module _ (f : Stepped → Stepped) (n : ℕ) (x : StateSeen) (slot : CallSlot) (
 
   abbrev pub after_acts : List LinkSeen → StateSeen
   after_acts stamped =
-      shaped slots ls x.resets (all_out_gone rows x.outstanding) (all_queue_gone n rows x.queue) (all_queue_gone n rows x.patient) x.bare x.impatient stamped
+      shaped slots ls x.resets (all_out_gone rows x.outstanding) (all_queue_gone n rows x.queue) (all_queue_gone n rows x.ready_waiters) x.awaiting_config x.fail_fast stamped
 
   links_are : seal_all (links_of rows) y.links ≡ ls
   links_are = seal_rows rows y.links ∙ ap (all_closed rows) done.links
@@ -145,13 +145,13 @@ module _ (f : Stepped → Stepped) (n : ℕ) (x : StateSeen) (slot : CallSlot) (
       sealed_so
       ∙ ap (λ (zs : List LinkSlot). unsealed zs []) links_are
       ∙ ap (λ (zs : List ℕ). unsealed ls zs) (sym resets)
-      ∙ ap (λ (ps : List (ℕ × ℕ)). shaped slots ls x.resets ps y.queue y.patient y.bare y.impatient stamps) done.outstanding
-      ∙ ap (λ (ps : List (ℕ × ℕ)). shaped slots ls x.resets (all_out_gone rows x.outstanding) ps y.patient y.bare y.impatient stamps) done.queue
-      ∙ ap (λ (ps : List (ℕ × ℕ)). shaped slots ls x.resets (all_out_gone rows x.outstanding) (all_queue_gone n rows x.queue) ps y.bare y.impatient stamps) done.patient
-      ∙ ap (λ (ps : List (ℕ × ℕ)). shaped slots ls x.resets (all_out_gone rows x.outstanding) (all_queue_gone n rows x.queue) (all_queue_gone n rows x.patient) ps y.impatient stamps)
-      done.bare
-      ∙ ap (λ (ps : List (ℕ × ℕ)). shaped slots ls x.resets (all_out_gone rows x.outstanding) (all_queue_gone n rows x.queue) (all_queue_gone n rows x.patient) x.bare ps stamps)
-      done.impatient
+      ∙ ap (λ (ps : List (ℕ × ℕ)). shaped slots ls x.resets ps y.queue y.ready_waiters y.awaiting_config y.fail_fast stamps) done.outstanding
+      ∙ ap (λ (ps : List (ℕ × ℕ)). shaped slots ls x.resets (all_out_gone rows x.outstanding) ps y.ready_waiters y.awaiting_config y.fail_fast stamps) done.queue
+      ∙ ap (λ (ps : List (ℕ × ℕ)). shaped slots ls x.resets (all_out_gone rows x.outstanding) (all_queue_gone n rows x.queue) ps y.awaiting_config y.fail_fast stamps) done.ready_waiters
+      ∙ ap (λ (ps : List (ℕ × ℕ)). shaped slots ls x.resets (all_out_gone rows x.outstanding) (all_queue_gone n rows x.queue) (all_queue_gone n rows x.ready_waiters) ps y.fail_fast stamps)
+      done.awaiting_config
+      ∙ ap (λ (ps : List (ℕ × ℕ)). shaped slots ls x.resets (all_out_gone rows x.outstanding) (all_queue_gone n rows x.queue) (all_queue_gone n rows x.ready_waiters) x.awaiting_config ps stamps)
+      done.fail_fast
 
   pub acts_followed : sealed (call_asked f n x) ≡ after_acts (acts_done n (map given rows) x1).book.ledger.links
   acts_followed = parts_are

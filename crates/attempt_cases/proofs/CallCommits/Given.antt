@@ -9,7 +9,7 @@ use Rattle.attempt_ledger.specs.declared.row.Placed.{Placed}
 use Rattle.call_actions.specs.Sees.{is_live, live_row}
 use Rattle.call_actions.specs.TakeActions.Cuts.{CanCommit, is_twin}
 use Rattle.call_core.specs.Parts.{names}
-use Rattle.call_core.specs.Steps.{cut_all, cut_row, given_up_act, told_all}
+use Rattle.call_core.specs.Steps.{cut_all, cut_row, given_up_act, reported_all}
 use Rattle.call_core.specs.declared.act.CallAct.{CallAct}
 use Rattle.call_core.specs.declared.live.LiveRow.{LiveRow}
 use Rattle.channel_actions.proofs.ActsFollowed.Acts.{given}
@@ -19,7 +19,7 @@ use Rattle.call_cases.specs.LinkEnds.Cuts.{links_closed, links_cut}
 use Rattle.call_cases.specs.CommitsFollow.Laws.{is_other_out}
 use Rattle.channel_core.specs.Tables.{reset_in, sealed_in}
 use Rattle.channel_core.specs.declared.state.links.LinkSlot.{LinkSlot}
-use Rattle.call_actions.specs.Order.{AreNumbered}
+use Rattle.call_actions.specs.Order.{AttemptsAreNumbered}
 use Rattle.session_actions.specs.Attempts.{is_of, is_outstanding, is_over, is_queued}
 use Rattle.session_actions.specs.Links.{link_number}
 use Rattle.session_actions.specs.Words.{numbered}
@@ -35,15 +35,15 @@ is_else place r = not (place == r.place)
 abbrev pub elses : ℕ → List LiveRow → List LiveRow
 elses place live = filter (is_else place) live
 
-told_by : (place : ℕ) (r : LiveRow) (live : List LiveRow) (acts : List CallAct) (b : Bool)
-    → ((more : List CallAct) → told_all (Some place) live more ≡ more ++ map given (elses place live))
-    → told_all (Some place) live (if b then acts else acts ++ given_up_act r.place r.link ∷ []) ≡ acts ++ map given (cond (not b) (r ∷ elses place live) (elses place live))
-told_by place r live acts true rest = rest acts
-told_by place r live acts false rest = rest (acts ++ given r ∷ []) ∙ append_assoc acts (given r ∷ []) (map given (elses place live))
+reported_by : (place : ℕ) (r : LiveRow) (live : List LiveRow) (acts : List CallAct) (b : Bool)
+    → ((more : List CallAct) → reported_all (Some place) live more ≡ more ++ map given (elses place live))
+    → reported_all (Some place) live (if b then acts else acts ++ given_up_act r.place r.link ∷ []) ≡ acts ++ map given (cond (not b) (r ∷ elses place live) (elses place live))
+reported_by place r live acts true rest = rest acts
+reported_by place r live acts false rest = rest (acts ++ given r ∷ []) ∙ append_assoc acts (given r ∷ []) (map given (elses place live))
 
-pub told_is : (place : ℕ) (live : List LiveRow) (acts : List CallAct) → told_all (Some place) live acts ≡ acts ++ map given (elses place live)
-told_is place [] acts = sym (append-nil acts)
-told_is place (r ∷ live) acts = told_by place r live acts (place == r.place) (told_is place live)
+pub reported_is : (place : ℕ) (live : List LiveRow) (acts : List CallAct) → reported_all (Some place) live acts ≡ acts ++ map given (elses place live)
+reported_is place [] acts = sym (append-nil acts)
+reported_is place (r ∷ live) acts = reported_by place r live acts (place == r.place) (reported_is place live)
 
 cut_by : (place moment : ℕ) (tokens : Option ℕ) (r : LiveRow) (live : List LiveRow) (ledger : Ledger) (b : Bool)
     → ((next : Ledger) → cut_all (Some place) moment tokens live next ≡ cut_all None moment tokens (elses place live) next)
@@ -154,7 +154,7 @@ not_on : (a : Bool) → not a ≡ true → a ≡ false
 not_on false e = refl
 not_on true e = absurd (cc)
 
-module _ (s : Seen) (c : Call) (k : Attempt) (n : ℕ) (own : c.number ≡ n) (can : CanCommit s c k) (places : AreNumbered 1 s.attempts) where
+module _ (s : Seen) (c : Call) (k : Attempt) (n : ℕ) (own : c.number ≡ n) (can : CanCommit s c k) (places : AttemptsAreNumbered 1 s.attempts) where
   abbrev pub goes_out : Attempt → Bool
   goes_out a = is_live s c a && not (k.place == a.place)
 

@@ -34,7 +34,7 @@ use Rattle.channel_core.specs.declared.state.slots.CallSlot.{CallSlot}
 use Rattle.channel_net.specs.Lists.{state_at}
 use Rattle.session_actions.specs.declared.action.CommitCause.{CommitCause}
 use Rattle.call_core.specs.declared.inbox.Inbox.{Inbox}
-use Rattle.picker_gate.specs.Pairs.{next_behind}
+use Rattle.picker_gate.specs.Pairs.{next_after}
 use Rattle.session_actions.specs.Closing.{noted_gone}
 use Rattle.session_actions.specs.Entries.{entry}
 use Rattle.session_actions.specs.Links.{is_retiring}
@@ -138,8 +138,8 @@ module _ (waits : Line → Bool) (n : ℕ) (why : CommitCause) (inbox : Inbox) (
 
     out_now : has_outstanding k last ≡ list_any (is_outstanding_on m) u.attempts
     out_now =
-        ap (λ (pairs : List (ℕ × ℕ)). is_on k (next_behind pairs (k, 0))) out_is
-        ∙ subst (λ (j : ℕ). is_on j (next_behind (w waits n why inbox x o s is).outstanding (j, 0)) ≡ list_any (is_outstanding_on m) u.attempts) own_number
+        ap (λ (pairs : List (ℕ × ℕ)). is_on k (next_after pairs (k, 0))) out_is
+        ∙ subst (λ (j : ℕ). is_on j (next_after (w waits n why inbox x o s is).outstanding (j, 0)) ≡ list_any (is_outstanding_on m) u.attempts) own_number
         (outstanding_same u m (w waits n why inbox x o s is).outstanding (outstanding_on waits n why inbox x o s is))
 
     gone_now : gone_by x k (has_outstanding k last) ≡ is_gone m u

@@ -9,8 +9,8 @@ use Rattle.call_actions.proofs.TakeActions.Commits.{commit_walked, point, put}
 use Rattle.call_actions.proofs.TakeActions.CutAttempts.{end_by_cut, ended_mark, gone_by, is_cut_off, made_still, stamp_of}
 use Rattle.call_actions.proofs.TakeActions.CutSees.{cut_call, cut_seen, due_now, final_at, serves_cut, tokens_now}
 use Rattle.call_actions.proofs.TakeActions.Maps.{any_map, numbered_each}
-use Rattle.call_actions.specs.Order.{AreNumbered, IsInOrder, is_beyond, is_own_mark}
-use Rattle.call_actions.specs.TakeActions.Cuts.{AreCut, CanCommit}
+use Rattle.call_actions.specs.Order.{AttemptsAreNumbered, IsInOrder, is_beyond, is_own_mark}
+use Rattle.call_actions.specs.TakeActions.Cuts.{AttemptsAreCut, CanCommit}
 use Rattle.call_actions.specs.TakeActions.Laws.{IsCommitted}
 use Rattle.call_actions.specs.TakeActions.Serves.{Serves}
 use Rattle.call_core.specs.Laws as channel
@@ -84,7 +84,7 @@ module _ (s : Seen) (c : Call) (x : Stepped) (k : Attempt) (h : Serves s c x) (c
   abbrev is_off : Attempt → Bool
   is_off a = is_cut_off c.number (gone_by k) a
 
-  placed : (n : ℕ) (xs : List Attempt) → AreNumbered n xs → AreNumbered n (map f xs)
+  placed : (n : ℕ) (xs : List Attempt) → AttemptsAreNumbered n xs → AttemptsAreNumbered n (map f xs)
   placed n [] p = tt
   placed n (a ∷ xs) p = (p.0, placed (suc n) xs p.1)
 
@@ -175,7 +175,7 @@ module _ (s : Seen) (c : Call) (x : Stepped) (k : Attempt) (h : Serves s c x) (c
         committed = record {
           cuts = w.actions;
           seen = last;
-          cut = subst (AreCut c.number w.actions (call_committed k.place s)) same w.cuts;
+          cut = subst (AttemptsAreCut c.number w.actions (call_committed k.place s)) same w.cuts;
           agrees = record {
             call = cut_call s c x k h can (Some w.entry_now) still;
             number_is = refl;

@@ -22,7 +22,7 @@ use Rattle.call_cases.specs.LinkEnds.Cuts.{links_closed, links_cut}
 use Rattle.call_cases.specs.LinkEnds.Laws.{with_cuts}
 use Rattle.channel_actions.specs.Links.{HasLink, SeesLinks}
 use Rattle.attempt_cases.proofs.CallCommits.Followed.{acts_followed, after_acts, slot_after, x1}
-use Rattle.attempt_cases.proofs.CallCommits.Given.{IsPlain, all_plain, closed_same, cut_is, cut_out, elses, given_same, goes_out, rows_are, told_is}
+use Rattle.attempt_cases.proofs.CallCommits.Given.{IsPlain, all_plain, closed_same, cut_is, cut_out, elses, given_same, goes_out, rows_are, reported_is}
 use Rattle.attempt_cases.proofs.CallCommits.On as on_
 use Rattle.attempt_cases.proofs.CallCommits.On.{has, on, out, own, resets}
 use Rattle.call_cases.proofs.CallEnds.Linked.{entry_stays, links_stay}
@@ -107,7 +107,7 @@ module _ (waits : Line → Bool) (n : ℕ) (why : CommitCause) (inbox : Inbox) (
       cut_is k.place x.book.moment tokens live stamped ∙ ap (λ (rs : List LiveRow). cut_all None x.book.moment tokens rs stamped) else_rows
 
   pub acts_are : (f (call_lent x slot)).acts ≡ map given rows
-  acts_are = told_is k.place live [] ∙ ap (map given) else_rows
+  acts_are = reported_is k.place live [] ∙ ap (map given) else_rows
 
   link_same : (m : ℕ) → link_of (numbered (f (call_lent x slot)).ledger.rows m) ≡ link_of (numbered x.book.ledger.rows m)
   link_same m =

@@ -3,7 +3,7 @@ use Rattle.std.proofs.Common.{◌≡◌, ◌&&◌, ◌==◌, ◌∷◌, ◌++◌
 use Rattle.std.proofs.lemmas.Bool.{both_ways}
 use Rattle.std.specs.List.{list_all, list_any}
 use Rattle.call_actions.proofs.CallsApart.Moves.{all_changed}
-use Rattle.call_actions.specs.TakeActions.Cuts.{AreCut}
+use Rattle.call_actions.specs.TakeActions.Cuts.{AttemptsAreCut}
 use Rattle.call_core.specs.Steps.{Stepped}
 use Rattle.channel_actions.proofs.Does.{none_on}
 use Rattle.call_cases.proofs.EndsFollow.Steps.{call_number}
@@ -12,11 +12,11 @@ use Rattle.call_cases.proofs.LinkEnds.Ends.{cuts_are_reset}
 use Rattle.channel_actions.proofs.Links.Frames.Frame.{links_stay}
 use Rattle.channel_actions.proofs.Links.Frames.Untold.{actions_are_untold}
 use Rattle.channel_actions.specs.Calls.{HasSlot, lent_to}
-use Rattle.call_cases.specs.EndsFollow.Cuts.{AreReset, AreUnreset, is_unreset}
+use Rattle.call_cases.specs.EndsFollow.Cuts.{StreamsAreReset, NoStreamIsToReset, is_unreset}
 use Rattle.call_cases.specs.EndsFollow.Laws.{IsSameRest, is_late}
 use Rattle.channel_actions.specs.KeptSessions.Kept.{IsKept}
-use Rattle.call_cases.specs.LinkEnds.Laws.{AreResetToo, with_cuts}
-use Rattle.channel_actions.specs.LinkFrames.Alike.{CannotTell}
+use Rattle.call_cases.specs.LinkEnds.Laws.{StreamsAreResetToo, with_cuts}
+use Rattle.channel_actions.specs.LinkFrames.Alike.{CannotDistinguish}
 use Rattle.channel_actions.specs.Links.{SeesLinks}
 use Rattle.attempt_cases.proofs.CallCommits.InOrder.{CommitsInOrder, commits_in_order}
 use Rattle.call_cases.proofs.CallEnds.On.{cuts_unposted, resets_unposted}
@@ -107,8 +107,8 @@ module _ (waits : Line → Bool) (n : ℕ) (why : CommitCause) (inbox : Inbox) (
   abbrev pub their : List Action
   their = done.committed.cuts
 
-  pub are_cut : AreCut n their b t
-  are_cut = subst (λ (m : ℕ). AreCut m their b t) own done.committed.cut
+  pub are_cut : AttemptsAreCut n their b t
+  are_cut = subst (λ (m : ℕ). AttemptsAreCut m their b t) own done.committed.cut
 
   after_commit : after (action.CallCommitted k.place why) s ≡ b
   after_commit = ap (λ (q : Option OpenEntry). after_if q (action.CallCommitted k.place why) s) is.current
@@ -117,8 +117,8 @@ module _ (waits : Line → Bool) (n : ℕ) (why : CommitCause) (inbox : Inbox) (
   kept_b = subst IsKept after_commit (kept_stays s (action.CallCommitted k.place why) kept is.next)
 
   -- a commitment bears on no link
-  untold : CannotTell (λ link. false) s b
-  untold = subst (CannotTell (λ link. false) s) after_commit (actions_are_untold (action.CallCommitted k.place why) s kept tt)
+  untold : CannotDistinguish (λ link. false) s b
+  untold = subst (CannotDistinguish (λ link. false) s) after_commit (actions_are_untold (action.CallCommitted k.place why) s kept tt)
 
   abbrev b2 : Seen
   b2 = committed_seen waits n why o s next
@@ -131,9 +131,9 @@ module _ (waits : Line → Bool) (n : ℕ) (why : CommitCause) (inbox : Inbox) (
       links_stay (λ link. false) x x s b is.agrees.links kept kept_b (λ link off. refl) untold
       (ap (λ (z : Seen). length z.links) b_is ∙ is.agrees.links.count) (λ link l on at. absurd (let bad : false ≡ true = on in (cc)))
 
-  unreset_b : AreUnreset b
+  unreset_b : NoStreamIsToReset b
   unreset_b =
-      subst AreUnreset (sym b_is)
+      subst NoStreamIsToReset (sym b_is)
       (all_changed is_unreset (with_commitment (entry s)) (λ a h. h) k.place s.attempts is.unreset)
 
   quiet : list_any (λ (a : Attempt). is_some (reset_code_of b a)) b.attempts ≡ false
@@ -145,7 +145,7 @@ module _ (waits : Line → Bool) (n : ℕ) (why : CommitCause) (inbox : Inbox) (
   pub out : OthersAreOut n k s t
   out = others_are_cut_off waits n why o s t their next are_cut
 
-  pub resets : AreResetToo (with_cuts out.attempts x) t
+  pub resets : StreamsAreResetToo (with_cuts out.attempts x) t
   resets = cuts_are_reset x b t out.attempts opened_b kept_b links_b unreset_b quiet out.off
 
   pub on : CommitFollowsOn waits k.place why o s (their ++ resets.actions) resets.seen

@@ -15,7 +15,7 @@ use Rattle.call_cases.proofs.OtherCalls.Sets.{sets_stay}
 use Rattle.channel_actions.proofs.Links.Settings.Pairs.{exactly_by}
 use Rattle.call_cases.specs.OtherCalls.Laws.{SetsApart}
 use Rattle.call_cases.specs.OtherCalls.Others.{is_of_number}
-use Rattle.channel_actions.specs.Sets.{AreExactly, is_in_outstanding, is_in_patient, is_in_queue, is_patient, is_waiting}
+use Rattle.channel_actions.specs.Sets.{PairsAreExactly, is_in_outstanding, is_in_ready_waiters, is_in_queue, is_ready_waiter, is_waiting}
 use Rattle.attempt_cases.proofs.CallCommits.Alone.{goes_apart, has_cut, kept_one, to}
 use Rattle.attempt_cases.proofs.CallCommits.Along.{same}
 use Rattle.attempt_cases.proofs.CallCommits.Linked.{live, live_is, outs, rows, w}
@@ -233,18 +233,18 @@ module _ (waits : Line → Bool) (n : ℕ) (why : CommitCause) (inbox : Inbox) (
     pair_same : (m row : ℕ) → all_queue_left n gone test m row ≡ later m row
     pair_same m row = pair_by m row (m == n) refl
 
-  pub queue_on : AreExactly (w waits n why inbox x o s is).queue (is_in_queue u)
+  pub queue_on : PairsAreExactly (w waits n why inbox x o s is).queue (is_in_queue u)
   queue_on =
       exactly_by (w waits n why inbox x o s is).queue (all_queue_left n gone (is_in_queue s)) (is_in_queue u) (queue_exactly n gone x.queue (is_in_queue s) is.agrees.sets.queue)
-      (pair_same (is_in_queue s) (is_in_queue u) (λ row e. (and_parts (is_waiting s n row) (not (is_patient s n)) e).0)
-      (λ row. ap (λ (b : Bool). b && not (is_patient u n)) (unqueued row (numbered u.attempts row) refl)) (λ m row e. others.queue m row e))
+      (pair_same (is_in_queue s) (is_in_queue u) (λ row e. (and_parts (is_waiting s n row) (not (is_ready_waiter s n)) e).0)
+      (λ row. ap (λ (b : Bool). b && not (is_ready_waiter u n)) (unqueued row (numbered u.attempts row) refl)) (λ m row e. others.queue m row e))
 
-  pub patient_on : AreExactly (w waits n why inbox x o s is).patient (is_in_patient u)
-  patient_on =
-      exactly_by (w waits n why inbox x o s is).patient (all_queue_left n gone (is_in_patient s)) (is_in_patient u)
-      (queue_exactly n gone x.patient (is_in_patient s) is.agrees.sets.patient)
-      (pair_same (is_in_patient s) (is_in_patient u) (λ row e. (and_parts (is_waiting s n row) (is_patient s n) e).0)
-      (λ row. ap (λ (b : Bool). b && is_patient u n) (unqueued row (numbered u.attempts row) refl)) (λ m row e. others.patient m row e))
+  pub wait_for_ready_on : PairsAreExactly (w waits n why inbox x o s is).ready_waiters (is_in_ready_waiters u)
+  wait_for_ready_on =
+      exactly_by (w waits n why inbox x o s is).ready_waiters (all_queue_left n gone (is_in_ready_waiters s)) (is_in_ready_waiters u)
+      (queue_exactly n gone x.ready_waiters (is_in_ready_waiters s) is.agrees.sets.ready_waiters)
+      (pair_same (is_in_ready_waiters s) (is_in_ready_waiters u) (λ row e. (and_parts (is_waiting s n row) (is_ready_waiter s n) e).0)
+      (λ row. ap (λ (b : Bool). b && is_ready_waiter u n) (unqueued row (numbered u.attempts row) refl)) (λ m row e. others.ready_waiters m row e))
 
   -- those that are outstanding
   owned_alike : (row : ℕ) → is_of_number n (numbered u.attempts row) ≡ is_of_number n (numbered s.attempts row)
@@ -333,7 +333,7 @@ module _ (waits : Line → Bool) (n : ℕ) (why : CommitCause) (inbox : Inbox) (
       out_rest n goes row s.attempts (is_in_outstanding s) link (λ i a at passes. other_row row i a (a.place == row) refl at passes (sym (owned_alike row) ∙ e))
       ∙ sym (others.outstanding link row e)
 
-  pub outstanding_on : AreExactly (w waits n why inbox x o s is).outstanding (is_in_outstanding u)
+  pub outstanding_on : PairsAreExactly (w waits n why inbox x o s is).outstanding (is_in_outstanding u)
   outstanding_on =
       exactly_by (w waits n why inbox x o s is).outstanding (all_out_left gone (is_in_outstanding s)) (is_in_outstanding u)
       (out_exactly gone x.outstanding (is_in_outstanding s) is.agrees.sets.outstanding) (λ link row. out_pair link row (is_of_number n (numbered u.attempts row)) refl)

@@ -10,13 +10,13 @@ use Rattle.call_cases.proofs.EndsFollow.Steps.{call_number}
 use Rattle.channel_actions.proofs.Links.Settings.Slots.{asked_is}
 use Rattle.channel_actions.specs.Agrees.{Agrees}
 use Rattle.channel_actions.specs.Calls.{HasSlot}
-use Rattle.call_cases.specs.EndsFollow.Cuts.{AreUnreset, is_unreset}
-use Rattle.channel_actions.specs.Calm.{IsCalm as Calm}
+use Rattle.call_cases.specs.EndsFollow.Cuts.{NoStreamIsToReset, is_unreset}
+use Rattle.channel_actions.specs.Quiescent.{IsQuiescent as Quiescent}
 use Rattle.attempt_cases.proofs.CallCommits.Accepting.{no_overflow}
-use Rattle.attempt_cases.proofs.CallCommits.Calm.{committed_still, no_head, no_large}
+use Rattle.attempt_cases.proofs.CallCommits.Quiescent.{committed_still, no_head, no_large}
 use Rattle.attempt_cases.proofs.CallCommits.Whole.{one_call_commits}
 use Rattle.call_cases.proofs.CommitsFollow.Begun.{IsToCommit}
-use Rattle.call_cases.proofs.FullSends.Bare.{no_items}
+use Rattle.call_cases.proofs.FullSends.Headless.{no_items}
 use Rattle.attempt_cases.specs.CallCommits.Commits.{CommitsNext, HasCommitted, commits_with}
 use Rattle.attempt_cases.specs.CallCommits.Laws.{SendsCommit}
 use Rattle.call_cases.specs.CallSends.Laws.{CommitsAlike}
@@ -39,9 +39,9 @@ use Rattle.session_actions.specs.declared.attempt.Attempt.{Attempt}
 use Rattle.session_actions.specs.declared.call.Call.{Call}
 use Rattle.session_actions.specs.declared.entry.OpenEntry.{OpenEntry}
 use Rattle.session_actions.specs.declared.seen.Seen.{Seen}
-use Rattle.session_order.proofs.Calms.{calm_is_exact}
+use Rattle.session_order.proofs.Quiescence.{quiescence_is_exact}
 use Rattle.session_order.proofs.Changed.{changed_away, passes_not}
-use Rattle.session_order.specs.Calm.{IsStill, is_overflowing}
+use Rattle.session_order.specs.Quiescent.{IsStill, is_overflowing}
 use Rattle.session_order.specs.declared.line.Line.{Line}
 use Rattle.session_order.specs.declared.line.Line.TheVariants as line
 
@@ -55,13 +55,13 @@ entry_by s call None e next = absurd (let bad : None ≡ Some (action.MessageAcc
 entry_by s call (Some o) e next = record { entry = o; is = e }
 
 -- nothing came
-nothing_left : {X : Type 0} (front left : List X) → [] ≡ front ++ left → left ≡ []
+nothing_left : {X : Type 0} (prefix left : List X) → [] ≡ prefix ++ left → left ≡ []
 nothing_left [] left e = sym e
-nothing_left (x ∷ front) left e = absurd (cc)
+nothing_left (x ∷ prefix) left e = absurd (cc)
 
--- calm in the words of the definition
-to_calm : (o : OpenEntry) (s : Seen) → ((l : Line) → IsStill l o s) → Calm o s
-to_calm o s still = let parts = (calm_is_exact o s).1 still in record { calls = parts.0; links = parts.1; policies = parts.2 }
+-- quiescent in the words of the definition
+to_quiescent : (o : OpenEntry) (s : Seen) → ((l : Line) → IsStill l o s) → Quiescent o s
+to_quiescent o s still = let parts = (quiescence_is_exact o s).1 still in record { calls = parts.0; links = parts.1; policies = parts.2 }
 
 -- the channel's own call has the inbox
 asked_same : (row n : ℕ) (z : StateSeen) (slot : CallSlot) → slot_at z.book n ≡ Some slot
@@ -70,7 +70,7 @@ asked_same row n z slot there =
     ap (λ (b : BookActs). sealed (with_book b n z))
     (asked_is (commits_with row slot.call.inbox z.book.moment) n z.book slot there ∙ sym (asked_is (commits row z.book.moment) n z.book slot there))
 
-module _ (n : ℕ) (why : CommitCause) (x y : StateSeen) (r : Reply) (o : OpenEntry) (s : Seen) (unreset : AreUnreset s) (led : LeadsToCommit n why x y r o s) where
+module _ (n : ℕ) (why : CommitCause) (x y : StateSeen) (r : Reply) (o : OpenEntry) (s : Seen) (unreset : NoStreamIsToReset s) (led : LeadsToCommit n why x y r o s) where
   abbrev t : Seen
   t = led.seen
 
@@ -113,7 +113,7 @@ module _ (n : ℕ) (why : CommitCause) (x y : StateSeen) (r : Reply) (o : OpenEn
       && list_any (λ (a : Attempt). is_of d a && is_outstanding a) xs) attempts_are
       ∙ passes_not (is_overflowing s) s.calls j d (no_overflow has_entry.entry s n has_entry.is accepts) before
 
-  unreset_t : AreUnreset t
+  unreset_t : NoStreamIsToReset t
   unreset_t = ap (list_all is_unreset) attempts_are ∙ unreset
 
   abbrev has : HasSlot z t c n
@@ -148,7 +148,7 @@ module _ (n : ℕ) (why : CommitCause) (x y : StateSeen) (r : Reply) (o : OpenEn
   none_came = ap (λ (q : Option Attempt). option_map_or (λ (a : Attempt). response_items (response a t)) q []) led.can.free
 
   items : response_items (response k t) ≡ call_laws.head_items inbox.head ++ call_laws.message_items inbox.messages
-  items = no_items k t headless ∙ sym (nothing_left left.front (call_laws.came has.slot.call) (sym none_came ∙ left.joined))
+  items = no_items k t headless ∙ sym (nothing_left left.prefix (call_laws.came has.slot.call) (sym none_came ∙ left.joined))
 
   abbrev never : Line → Bool
   never l = false
@@ -187,7 +187,7 @@ module _ (n : ℕ) (why : CommitCause) (x y : StateSeen) (r : Reply) (o : OpenEn
     entries = done.entries;
     setup = done.setup;
     current = done.current;
-    calm = to_calm p done.seen (λ l. done.still l refl);
+    quiescent = to_quiescent p done.seen (λ l. done.still l refl);
     agrees = subst (λ (w : StateSeen). Agrees w done.seen) (asked_same k.place n z has.slot has.there) done.agrees;
   }
 

@@ -8,7 +8,7 @@ use Rattle.channel_actions.proofs.Links.Settings.Pairs.{exactly_by}
 use Rattle.channel_actions.proofs.Links.Settings.Timers.{by_number, timers_exactly}
 use Rattle.channel_actions.specs.Calls.{HasSlot, deadline_of, due_of}
 use Rattle.call_cases.specs.OtherCalls.Laws.{SetsApart}
-use Rattle.channel_actions.specs.Sets.{AreExactly, is_in_bare, is_in_deadlines, is_in_dues, is_in_impatient, is_patient}
+use Rattle.channel_actions.specs.Sets.{PairsAreExactly, is_awaiting_config, is_in_deadlines, is_in_dues, is_in_fail_fast, is_ready_waiter}
 use Rattle.attempt_cases.proofs.CallCommits.Alone.{goes_apart}
 use Rattle.attempt_cases.proofs.CallCommits.Linked.{w}
 use Rattle.attempt_cases.proofs.CallCommits.On as on_
@@ -53,8 +53,8 @@ module _ (waits : Line → Bool) (n : ℕ) (why : CommitCause) (inbox : Inbox) (
   open_is : is_open_call now_call ≡ is_open_call is.call
   open_is = open_same waits n why inbox x o s is ∙ sym (none_cause is.call.end was.slot.call.ended was.sees.serves.sees.ended)
 
-  bare_is : (m : ℕ) → is_in_bare u m n ≡ is_in_bare s m n
-  bare_is m =
+  unconfigured_is : (m : ℕ) → is_awaiting_config u m n ≡ is_awaiting_config s m n
+  unconfigured_is m =
       ap (λ (q : Option Call). (m == 0) && holds (λ (c : Call). is_open_call c && is_none c.config) q) (there waits n why inbox x o s is)
       ∙ ap (λ (b : Bool). (m == 0) && (b && is_none now_call.config)) open_is
       ∙ ap (λ (q : Option ℕ). (m == 0) && (is_open_call is.call && is_none q)) (config_same waits n why inbox x o s is)
@@ -66,20 +66,20 @@ module _ (waits : Line → Bool) (n : ℕ) (why : CommitCause) (inbox : Inbox) (
   abbrev ready : RequestSeen → Option HeldConfig → Bool
   ready r held = unwrap_or (option_or r.wait (option_map_or (λ (h : HeldConfig). chosen_for h.config r.path) held no_choice).wait) false
 
-  patient_is : is_patient u n ≡ is_patient s n
-  patient_is =
+  wait_for_ready_is : is_ready_waiter u n ≡ is_ready_waiter s n
+  wait_for_ready_is =
       ap (holds (λ (c : Call). waits_for_ready c u)) (there waits n why inbox x o s is)
       ∙ ap (λ (hs : List HeldConfig). ready now_call.request (option_and_then (numbered hs) now_call.config)) (on waits n why inbox x o s is).rest.configs
       ∙ ap (λ (q : Option ℕ). ready now_call.request (option_and_then (numbered s.configs) q)) (config_same waits n why inbox x o s is)
       ∙ ap (λ (r : RequestSeen). ready r (option_and_then (numbered s.configs) is.call.config)) request_is
       ∙ sym (ap (holds (λ (c : Call). waits_for_ready c s)) is.there)
 
-  impatient_is : (m : ℕ) → is_in_impatient u m n ≡ is_in_impatient s m n
-  impatient_is m =
-      ap (λ (b : Bool). b && not (is_patient u n)) (bare_is m) ∙ ap (λ (b : Bool). is_in_bare s m n && not b) patient_is
+  fail_fast_is : (m : ℕ) → is_in_fail_fast u m n ≡ is_in_fail_fast s m n
+  fail_fast_is m =
+      ap (λ (b : Bool). b && not (is_ready_waiter u n)) (unconfigured_is m) ∙ ap (λ (b : Bool). is_awaiting_config s m n && not b) wait_for_ready_is
 
-  as_before : (test other : ℕ → ℕ → Bool) (pairs : List (ℕ × ℕ)) → AreExactly pairs test → ((m k : ℕ) → (k == n) ≡ false → other m k ≡ test m k) → ((m : ℕ) → other m n ≡ test m n)
-      → AreExactly pairs other
+  as_before : (test other : ℕ → ℕ → Bool) (pairs : List (ℕ × ℕ)) → PairsAreExactly pairs test → ((m k : ℕ) → (k == n) ≡ false → other m k ≡ test m k) → ((m : ℕ) → other m n ≡ test m n)
+      → PairsAreExactly pairs other
   as_before test other pairs h away own_ =
       exactly_by pairs test other h (λ a b. by_number n test other (λ i j e. sym (away i j e)) (λ i. sym (own_ i)) a b (b == n) refl)
 
@@ -91,6 +91,6 @@ module _ (waits : Line → Bool) (n : ℕ) (why : CommitCause) (inbox : Inbox) (
     deadlines = timers_exactly n x.deadlines (is_in_deadlines s) was.slot.deadline (slot_now waits n why inbox x o s is).deadline is.agrees.sets.deadlines
         (λ m. ap (holds (λ (c : Call). is_number m (deadline_of s c))) is.there ∙ ap (is_number m) was.sees.deadline_is)
         (is_in_deadlines u) (λ m k e. apart.deadlines m k e) deadline_now;
-    bare = as_before (is_in_bare s) (is_in_bare u) x.bare is.agrees.sets.bare (λ m k e. apart.bare m k e) bare_is;
-    impatient = as_before (is_in_impatient s) (is_in_impatient u) x.impatient is.agrees.sets.impatient (λ m k e. apart.impatient m k e) impatient_is;
+    awaiting_config = as_before (is_awaiting_config s) (is_awaiting_config u) x.awaiting_config is.agrees.sets.awaiting_config (λ m k e. apart.awaiting_config m k e) unconfigured_is;
+    fail_fast = as_before (is_in_fail_fast s) (is_in_fail_fast u) x.fail_fast is.agrees.sets.fail_fast (λ m k e. apart.fail_fast m k e) fail_fast_is;
   }

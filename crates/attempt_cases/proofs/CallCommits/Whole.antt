@@ -17,7 +17,7 @@ use Rattle.attempt_cases.proofs.CallCommits.Linked.{clock_on, configs_on, links_
 use Rattle.attempt_cases.proofs.CallCommits.On as on_
 use Rattle.attempt_cases.proofs.CallCommits.On.{kept_on, net_on, on, posts, resets, their}
 use Rattle.attempt_cases.proofs.CallCommits.Own.{calls_are, columns_on, others_slots, own_slot, slot_now}
-use Rattle.attempt_cases.proofs.CallCommits.Rows.{outstanding_on, patient_on, queue_on}
+use Rattle.attempt_cases.proofs.CallCommits.Rows.{outstanding_on, wait_for_ready_on, queue_on}
 use Rattle.attempt_cases.proofs.CallCommits.Timers.{timers_on}
 use Rattle.attempt_cases.specs.CallCommits.Commits.{CommitsNext, HasCommitted, committed_state}
 use Rattle.attempt_cases.specs.CallCommits.Laws.{OneCallCommits}
@@ -60,11 +60,11 @@ module _ (waits : Line → Bool) (n : ℕ) (why : CommitCause) (inbox : Inbox) (
   sets : SeesSets now u
   sets = record {
     queue = queue_on waits n why inbox x o s is;
-    patient = patient_on waits n why inbox x o s is;
+    ready_waiters = wait_for_ready_on waits n why inbox x o s is;
     dues = (timers_on waits n why inbox x o s is).dues;
     deadlines = (timers_on waits n why inbox x o s is).deadlines;
-    bare = (timers_on waits n why inbox x o s is).bare;
-    impatient = (timers_on waits n why inbox x o s is).impatient;
+    awaiting_config = (timers_on waits n why inbox x o s is).awaiting_config;
+    fail_fast = (timers_on waits n why inbox x o s is).fail_fast;
     outstanding = outstanding_on waits n why inbox x o s is;
     resets = is.agrees.sets.resets;
   }

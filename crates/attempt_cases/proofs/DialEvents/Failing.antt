@@ -3,9 +3,9 @@ use Rattle.std.proofs.Common.{◌≡◌, ◌&&◌, ◌∷◌, ap, refl, subst, s
 use Rattle.std.specs.Option.{option_map}
 use Rattle.channel_actions.proofs.Answering.{event_next}
 use Rattle.channel_actions.proofs.Dialling.{applied_next, dial_same, open_in, unshut_by}
-use Rattle.channel_actions.proofs.BoardActions.Calm.{to_order}
+use Rattle.channel_actions.proofs.BoardActions.Quiescent.{to_order}
 use Rattle.channel_actions.specs.Agrees.{Agrees}
-use Rattle.channel_actions.specs.Calm.{IsAt}
+use Rattle.channel_actions.specs.Quiescent.{IsAt}
 use Rattle.channel_actions.specs.Clock.{DrawsAlike}
 use Rattle.channel_actions.specs.Columns.{links_noted}
 use Rattle.channel_actions.specs.Stages.{IsAnswered}
@@ -50,7 +50,7 @@ use Rattle.session_actions.specs.declared.policy.PolicyUse.{PolicyUse}
 use Rattle.session_actions.specs.declared.seen.Seen.{Seen}
 use Rattle.session_actions.specs.declared.subchannel.Subchannel.{Subchannel}
 use Rattle.session_order.proofs.Boards.{connecting_live, with_sub_current}
-use Rattle.session_order.specs.Laws.{BoardsStir, CalmIsExact}
+use Rattle.session_order.specs.Laws.{BoardsStir, QuiescenceIsExact}
 use Rattle.subchannel.specs.Boards as boards
 
 -- one whose dial is under way
@@ -82,7 +82,7 @@ pub open_kept : (x : StateSeen) (s : Seen) (e v : Event) → Agrees x s → (cha
 open_kept x s e v h is same kept =
     h.configs.shut ∙ (unshut_by x.shut (channel.open_refusal v x) (sym is ∙ subst (λ (w : Event). channel.refusal_of w x ≡ None) same kept)).0
 
-module _ (exact : CalmIsExact) (stir : BoardsStir) (fail : DialsFail) (calls_stay : AllCallsStay) (sets_stay : SetsStay) (kept_along : KeptAlong) (links_stay : LinksStay)
+module _ (exact : QuiescenceIsExact) (stir : BoardsStir) (fail : DialsFail) (calls_stay : AllCallsStay) (sets_stay : SetsStay) (kept_along : KeptAlong) (links_stay : LinksStay)
     (x : StateSeen) (o : OpenEntry) (s : Seen) (h : Agrees x s) (at : IsAt stage.Event o s) (fresh : o.turn ≡ None) (timely : next_deadline s ≡ None)
     (sub : ℕ) (brings : o.event ≡ event.DialFailed sub) (kept : channel.refusal_of o.event x ≡ None) (dial : net.dial_refusal (boards.numbered x.net.board sub) ≡ None) where
   abbrev t : Seen
@@ -145,9 +145,9 @@ module _ (exact : CalmIsExact) (stir : BoardsStir) (fail : DialsFail) (calls_sta
   failed_answered =
       answered_by_one exact y reply.Done o s at fresh timely (action.DialFails sub) t o.drawn (event.DialFailed sub)
       (record { cancels_none = λ n. refl; sends_none = λ c z. refl; no_result = refl; no_frame = λ q z. refl }) brings next (λ e. e) refl does boarded on
-      (λ l. stir.failed sub o s at.current (brings, way.one, way.there, way.dials) l p on refl (to_order exact o s at.calm l)) agrees
+      (λ l. stir.failed sub o s at.current (brings, way.one, way.there, way.dials) l p on refl (to_order exact o s at.quiescent l)) agrees
 
-pub failed_dials_are_answered : CalmIsExact → BoardsStir → DialsFail → AllCallsStay → SetsStay → KeptAlong → LinksStay → FailedDialsAreAnswered
+pub failed_dials_are_answered : QuiescenceIsExact → BoardsStir → DialsFail → AllCallsStay → SetsStay → KeptAlong → LinksStay → FailedDialsAreAnswered
 failed_dials_are_answered exact stir fail calls_stay sets_stay kept_along links_stay x y r o s h at fresh timely case answers =
     let given : AnswersBy None (event.DialFailed case.sub) x y r
     = subst (λ (e : Event). AnswersBy None e x y r) case.event_is (subst (λ (z : Option Refusal). AnswersBy z o.event x y r) case.kept answers) in

@@ -13,7 +13,7 @@ use Rattle.channel_actions.proofs.Dialling.{applied_next, dial_same, open_in}
 use Rattle.channel_actions.proofs.Gone.{all_numbered}
 use Rattle.channel_actions.proofs.Stamps.{map_same}
 use Rattle.channel_actions.specs.Agrees.{Agrees}
-use Rattle.channel_actions.specs.Calm.{IsAt}
+use Rattle.channel_actions.specs.Quiescent.{IsAt}
 use Rattle.channel_actions.specs.Clock.{DrawsAlike}
 use Rattle.channel_actions.specs.Columns.{links_noted}
 use Rattle.channel_actions.specs.Links.{HasLink, IsGoing, SeesLinks, lines_in}
@@ -35,17 +35,17 @@ use Rattle.grpc_base.specs.declared.event.Event.TheVariants as event
 use Rattle.grpc_base.specs.declared.event.Refusal.{Refusal}
 use Rattle.grpc_base.specs.declared.event.Reply.{Reply}
 use Rattle.grpc_base.specs.declared.event.Reply.TheVariants as reply
-use Rattle.channel_actions.specs.KeptSessions.Kept.{AreCounted, IsKept, came_up, is_on_link, is_sound_sub}
+use Rattle.channel_actions.specs.KeptSessions.Kept.{NumbersCountUp, IsKept, came_up, is_on_link, is_sound_sub}
 use Rattle.channel_actions.specs.KeptSessions.Laws.{KeptAlong}
 use Rattle.lb_policy.specs.Table.{is_ready}
 use Rattle.ledger_stamps.specs.Steps as stamps
-use Rattle.link_actions.specs.Sees.{ArePlaced}
-use Rattle.channel_actions.specs.LinkFrames.Alike.{CannotTell}
+use Rattle.link_actions.specs.Sees.{AttemptsStandInPlace}
+use Rattle.channel_actions.specs.LinkFrames.Alike.{CannotDistinguish}
 use Rattle.channel_actions.specs.LinkFrames.Laws.{LinksStay}
 use Rattle.net_actions.specs.Laws.{DialsAreLinks}
-use Rattle.attempt_cases.proofs.NetSteps.Alike.{links_cannot_tell, still}
+use Rattle.attempt_cases.proofs.NetSteps.Alike.{links_cannot_distinguish, still}
 use Rattle.channel_actions.proofs.BoardActions.Boards.{one_boarded}
-use Rattle.channel_actions.proofs.BoardActions.Calm.{to_order}
+use Rattle.channel_actions.proofs.BoardActions.Quiescent.{to_order}
 use Rattle.attempt_cases.proofs.NetSteps.Clocks.{clock_goes_on, entry_goes_on}
 use Rattle.attempt_cases.proofs.NetSteps.Passing.{off_placed}
 use Rattle.attempt_cases.proofs.NetSteps.Stepped.{net_steps_keep}
@@ -74,12 +74,12 @@ use Rattle.session_actions.specs.declared.policy.PolicyUse.{PolicyUse}
 use Rattle.session_actions.specs.declared.seen.Seen.{Seen}
 use Rattle.session_actions.specs.declared.subchannel.Subchannel.{Subchannel}
 use Rattle.session_order.proofs.Boards.{with_sub_current}
-use Rattle.session_order.specs.Laws.{BoardsStir, CalmIsExact}
+use Rattle.session_order.specs.Laws.{BoardsStir, QuiescenceIsExact}
 use Rattle.session_order.specs.Stirs.{HaveLinks}
 use Rattle.link_actions.specs.StreamActions.Laws.{NewLinksAgree}
 use Rattle.subchannel.specs.Boards as boards
 
--- one thing more stands behind the others
+-- one thing more stands after the others
 pub but_last : {X : Type 0} (xs : List X) (z : X) (n : ℕ) → (n ≡ suc (length xs) → ⊥) → numbered (xs ++ z ∷ []) n ≡ numbered xs n
 but_last [] z zero off = refl
 but_last [] z (suc zero) off = absurd (off refl)
@@ -115,10 +115,10 @@ have_links s k = record {
   subs = λ n b link there is. up_of s b.link (not (is_ready b.state)) link is (all_numbered (is_sound_sub s) s.subs n b there k.boards);
 }
 
-counted_placed : (n : ℕ) (xs : List Attempt) → AreCounted n (map (λ (a : Attempt). a.place) xs) → ArePlaced n xs
+counted_placed : (n : ℕ) (xs : List Attempt) → NumbersCountUp n (map (λ (a : Attempt). a.place) xs) → AttemptsStandInPlace n xs
 counted_placed n [] h = tt
 counted_placed n (a ∷ xs) h =
-    (h.0, counted_placed (n + 1) xs (subst (λ (m : ℕ). AreCounted m (map (λ (a : Attempt). a.place) xs)) (let e : suc n ≡ n + 1 = omega arith in e) h.1))
+    (h.0, counted_placed (n + 1) xs (subst (λ (m : ℕ). NumbersCountUp m (map (λ (a : Attempt). a.place) xs)) (let e : suc n ≡ n + 1 = omega arith in e) h.1))
 
 and_off : (a b : Bool) → b ≡ false → (a && b) ≡ false
 and_off true b e = e
@@ -150,7 +150,7 @@ reader_none : (s : Seen) (o : Option Attempt) → o ≡ None → IsReaderOf s o 
 reader_none s None e = tt
 reader_none s (Some a) e = absurd (cc)
 
-module _ (exact : CalmIsExact) (stir : BoardsStir) (links_are : DialsAreLinks) (new_ones : NewLinksAgree) (calls_stay : AllCallsStay) (sets_stay : SetsStay)
+module _ (exact : QuiescenceIsExact) (stir : BoardsStir) (links_are : DialsAreLinks) (new_ones : NewLinksAgree) (calls_stay : AllCallsStay) (sets_stay : SetsStay)
     (kept_along : KeptAlong) (links_stay : LinksStay)
     (x : StateSeen) (o : OpenEntry) (s : Seen) (h : Agrees x s) (at : IsAt stage.Event o s) (fresh : o.turn ≡ None) (timely : next_deadline s ≡ None)
     (sub : ℕ) (brings : o.event ≡ event.LinkUp sub) (kept : channel.refusal_of o.event x ≡ None) (dial : net.dial_refusal (boards.numbered x.net.board sub) ≡ None) where
@@ -236,9 +236,9 @@ module _ (exact : CalmIsExact) (stir : BoardsStir) (links_are : DialsAreLinks) (
   abbrev touched : ℕ → Bool
   touched n = k == n
 
-  cannot_tell : CannotTell touched s t
-  cannot_tell =
-      links_cannot_tell touched s t boarded
+  cannot_distinguish : CannotDistinguish touched s t
+  cannot_distinguish =
+      links_cannot_distinguish touched s t boarded
       (λ n m off there. (m, sym (but_last s.links l n (off_of n (length s.links) (length s.links) refl off)) ∙ sym (ap (λ (ls : List Link). numbered ls n) all_links) ∙ there, still m))
 
   rows : t.attempts ≡ s.attempts
@@ -285,7 +285,7 @@ module _ (exact : CalmIsExact) (stir : BoardsStir) (links_are : DialsAreLinks) (
   sees_links : SeesLinks y t
   sees_links =
       links_stay touched x y s t h.links h.kept later
-      (λ n off. but_last x.links (new_slot fresh_link) n (off_of n (length s.links) (length x.links) (sym h.links.count) off)) cannot_tell long has_by
+      (λ n off. but_last x.links (new_slot fresh_link) n (off_of n (length s.links) (length x.links) (sym h.links.count) off)) cannot_distinguish long has_by
 
   agrees : Agrees y t
   agrees = net_steps_keep calls_stay sets_stay kept_along x y s t h (record {
@@ -306,9 +306,9 @@ module _ (exact : CalmIsExact) (stir : BoardsStir) (links_are : DialsAreLinks) (
   joined_answered =
       answered_by_one exact y r o s at fresh timely a t o.drawn (event.LinkUp sub)
       (record { cancels_none = λ n. refl; sends_none = λ c z. refl; no_result = refl; no_frame = λ q z. refl }) brings next (λ v. v) refl does boarded on
-      (λ line. stir.up sub o s at.current (brings, have_links s h.kept) line p on refl (to_order exact o s at.calm line)) agrees
+      (λ line. stir.up sub o s at.current (brings, have_links s h.kept) line p on refl (to_order exact o s at.quiescent line)) agrees
 
-pub links_up_are_answered : CalmIsExact → BoardsStir → DialsAreLinks → NewLinksAgree → AllCallsStay → SetsStay → KeptAlong → LinksStay → LinksUpAreAnswered
+pub links_up_are_answered : QuiescenceIsExact → BoardsStir → DialsAreLinks → NewLinksAgree → AllCallsStay → SetsStay → KeptAlong → LinksStay → LinksUpAreAnswered
 links_up_are_answered exact stir links_are new_ones calls_stay sets_stay kept_along links_stay x y r o s h at fresh timely case answers =
     let given : AnswersBy None (event.LinkUp case.sub) x y r
     = subst (λ (e : Event). AnswersBy None e x y r) case.event_is (subst (λ (z : Option Refusal). AnswersBy z o.event x y r) case.kept answers) in

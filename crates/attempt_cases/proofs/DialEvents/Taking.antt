@@ -6,7 +6,7 @@ use Rattle.std.specs.Option.{option_map, option_map_or}
 use Rattle.channel_actions.proofs.Answering.{event_next}
 use Rattle.channel_actions.proofs.Dialling.{applied_next, open_in}
 use Rattle.channel_actions.specs.Agrees.{Agrees}
-use Rattle.channel_actions.specs.Calm.{IsAt}
+use Rattle.channel_actions.specs.Quiescent.{IsAt}
 use Rattle.channel_actions.specs.Clock.{DrawsAlike}
 use Rattle.channel_actions.specs.Columns.{links_noted}
 use Rattle.channel_actions.specs.Stages.{IsAnswered}
@@ -39,11 +39,11 @@ use Rattle.net_actions.proofs.Dialling.{connecting_same, none_of}
 use Rattle.net_actions.proofs.Noting.{found_passes}
 use Rattle.net_actions.proofs.Subs.{SaysSame, found_same}
 use Rattle.net_actions.proofs.Views.{Found, found_in}
-use Rattle.net_actions.specs.Laws.{AreFewDials, DialsAreTaken, IsTaken}
+use Rattle.net_actions.specs.Laws.{DialCountsFit, DialsAreTaken, IsTaken}
 use Rattle.net_actions.specs.Sees.{IsSub, Sees}
 use Rattle.attempt_cases.proofs.NetSteps.Alike.{untold_links_agree}
 use Rattle.channel_actions.proofs.BoardActions.Boards.{one_boarded}
-use Rattle.channel_actions.proofs.BoardActions.Calm.{to_order}
+use Rattle.channel_actions.proofs.BoardActions.Quiescent.{to_order}
 use Rattle.attempt_cases.proofs.NetSteps.Clocks.{clock_goes_on, entry_goes_on}
 use Rattle.attempt_cases.proofs.NetSteps.Stepped.{net_steps_keep}
 use Rattle.attempt_cases.proofs.NetSteps.Subbed.{current_stays, noted_same, subbed_generations, subbed_links, subbed_shut}
@@ -64,8 +64,8 @@ use Rattle.session_actions.specs.declared.policy.PolicyUse.{PolicyUse}
 use Rattle.session_actions.specs.declared.seen.Seen.{Seen}
 use Rattle.session_actions.specs.declared.subchannel.Subchannel.{Subchannel}
 use Rattle.session_order.proofs.Boards.{with_sub_current}
-use Rattle.session_order.specs.Calm as order
-use Rattle.session_order.specs.Laws.{BoardsStir, CalmIsExact}
+use Rattle.session_order.specs.Quiescent as order
+use Rattle.session_order.specs.Laws.{BoardsStir, QuiescenceIsExact}
 use Rattle.subchannel.specs.Boards.{first_number}
 use Rattle.subchannel.specs.Records.{SubRecord, is_connecting, is_dialable, next_dials, until_after}
 
@@ -139,7 +139,7 @@ until_same : (s : Seen) (b : Subchannel) (r : SubRecord) → b.dials ≡ r.dials
 until_same s b r e few =
     ap (λ (w : ℕ). now s + max w connect_least) (wait_same s b r e few) ∙ later (now s) (connect_wait (next_dials r) (next_word s))
 
-few_of : (subs : List Subchannel) (place : ℕ) (b : Subchannel) → AreFewDials subs → slice_get subs place ≡ Some b → b.dials < 4294967295
+few_of : (subs : List Subchannel) (place : ℕ) (b : Subchannel) → DialCountsFit subs → slice_get subs place ≡ Some b → b.dials < 4294967295
 few_of [] place b few e = absurd (cc)
 few_of (c ∷ subs) zero b few e = let one : c ≡ b = (cc) in subst (λ (x : Subchannel). x.dials < 4294967295) one few.0
 few_of (c ∷ subs) (suc place) b few e = few_of subs place b few.1 e
@@ -152,10 +152,10 @@ if_dialing : (b : Bool) (d : Dialing) → b ≡ true → (if b then Some d else 
 if_dialing true d e = refl
 if_dialing false d e = absurd (cc)
 
-module _ (exact : CalmIsExact) (stir : BoardsStir) (take : DialsAreTaken) (calls_stay : AllCallsStay) (sets_stay : SetsStay) (kept_along : KeptAlong) (links_stay : LinksStay)
+module _ (exact : QuiescenceIsExact) (stir : BoardsStir) (take : DialsAreTaken) (calls_stay : AllCallsStay) (sets_stay : SetsStay) (kept_along : KeptAlong) (links_stay : LinksStay)
     (x : StateSeen) (o : OpenEntry) (s : Seen) (h : Agrees x s) (at : IsAt stage.Event o s) (fresh : o.turn ≡ None) (timely : next_deadline s ≡ None)
     (place : ℕ) (brings : o.event ≡ event.TakeDial) (kept : channel.refusal_of o.event x ≡ None) (first : first_number is_dialable x.net.board ≡ Some (suc place))
-    (few : AreFewDials s.subs) (f : IsFirstDial s x.net place) where
+    (few : DialCountsFit s.subs) (f : IsFirstDial s x.net place) where
   abbrev b : Subchannel
   b = f.one
 
@@ -267,17 +267,17 @@ module _ (exact : CalmIsExact) (stir : BoardsStir) (take : DialsAreTaken) (calls
     orderly = one_call_more (Dial x.book.moment w) x.net h.orderly;
   })
 
-  still : order.IsCalm p t
+  still : order.IsQuiescent p t
   still l =
       subst (order.IsStill l p) taken_is
-      (stir.dialled (suc place) taken.again taken.until o s at.current (brings, b, f.there, f.is.number_is) l p (ap (λ (v : Seen). v.current) taken_is ∙ on) refl (to_order exact o s at.calm l))
+      (stir.dialled (suc place) taken.again taken.until o s at.current (brings, b, f.there, f.is.number_is) l p (ap (λ (v : Seen). v.current) taken_is ∙ on) refl (to_order exact o s at.quiescent l))
 
   pub taken_answered : IsAnswered y e o s
   taken_answered =
       answered_by_one exact y e o s at fresh timely a t drew event.TakeDial
       (record { cancels_none = λ n. refl; sends_none = λ c z. refl; no_result = refl; no_frame = λ q z. refl }) brings next (λ v. v) refl does boarded on still agrees
 
-pub taken_dials_are_answered : CalmIsExact → BoardsStir → DialsAreTaken → AllCallsStay → SetsStay → KeptAlong → LinksStay → TakenDialsAreAnswered
+pub taken_dials_are_answered : QuiescenceIsExact → BoardsStir → DialsAreTaken → AllCallsStay → SetsStay → KeptAlong → LinksStay → TakenDialsAreAnswered
 taken_dials_are_answered exact stir take calls_stay sets_stay kept_along links_stay x y r o s h at fresh timely case answers =
     let f = first_dial s x.net case.sub h.net case.first in
     let first : first_number is_dialable x.net.board ≡ Some (suc f.place) = case.first ∙ ap (λ (n : ℕ). Some n) f.number_is in

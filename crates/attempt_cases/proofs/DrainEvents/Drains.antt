@@ -3,15 +3,15 @@ use Rattle.std.proofs.Common.{◌≡◌, ◌<◌, ◌^◌, ◌%◌, ◌&&◌, �
 use Rattle.std.proofs.lemmas.Bool.{eqb-false, eqb-true}
 use Rattle.std.specs.Option.{option_map}
 use Rattle.call_actions.proofs.Lists.{changed_here}
-use Rattle.call_actions.specs.Order.{AreNumbered}
+use Rattle.call_actions.specs.Order.{AttemptsAreNumbered}
 use Rattle.channel_actions.proofs.Answering.{event_next, replied_entry, replied_is}
 use Rattle.channel_actions.proofs.Dialling.{applied_next, open_in, unshut_by}
 use Rattle.channel_actions.proofs.Refusing.{room_same}
-use Rattle.channel_actions.proofs.Settles.{IsQuiet, calm_stays, is_with_open, reopened, with_open}
+use Rattle.channel_actions.proofs.Settles.{IsQuiet, quiescent_stays, is_with_open, reopened, with_open}
 use Rattle.channel_actions.proofs.Stamps.{counted_at}
 use Rattle.channel_actions.specs.Agrees.{Agrees}
-use Rattle.channel_actions.specs.Calm as calm
-use Rattle.channel_actions.specs.Calm.{IsAt}
+use Rattle.channel_actions.specs.Quiescent as quiescent
+use Rattle.channel_actions.specs.Quiescent.{IsAt}
 use Rattle.channel_actions.specs.Clock.{SeesClock}
 use Rattle.channel_actions.specs.Columns.{SeesColumns}
 use Rattle.channel_actions.specs.Configs.{SeesBuckets, SeesConfigs}
@@ -31,12 +31,12 @@ use Rattle.channel_core.specs.declared.state.book.Book.{Book}
 use Rattle.channel_core.specs.declared.state.links.LinkSlot.{LinkSlot}
 use Rattle.channel_actions.proofs.Drains.Books.Columns.{link_columns_stay}
 use Rattle.channel_actions.proofs.Drains.Books.Sets.{buckets_stay, call_columns_stay, sets_stay}
-use Rattle.channel_actions.specs.DrainBooks.Laws.{AreSameSets}
+use Rattle.channel_actions.specs.DrainBooks.Laws.{SetsAreSame}
 use Rattle.channel_actions.specs.DrainCalls.Laws.{IsOnlyStreamed}
 use Rattle.attempt_cases.proofs.DrainEvents.Links.{all_kept, all_orderly, drained_slot, none_borne, read_so, sends_fresh}
 use Rattle.attempt_cases.specs.DrainEvents.Laws.{DrainsAreAnswered, HasRun}
 use Rattle.channel_actions.proofs.Drains.Lends.Lends.{lines_are_lent}
-use Rattle.channel_actions.specs.DrainLends.Laws.{AreNear}
+use Rattle.channel_actions.specs.DrainLends.Laws.{DeadlinesAreClose}
 use Rattle.channel_actions.proofs.Drains.Writes.Runs.{drains_are_actions}
 use Rattle.channel_actions.specs.DrainWrites.Laws.{IsDrainRun, IsDraining, with_all_sent, writing}
 use Rattle.grpc_base.specs.declared.event.Event.{Event}
@@ -52,9 +52,9 @@ use Rattle.channel_actions.proofs.KeptSessions.Along.{kept_along}
 use Rattle.channel_actions.specs.Calls.{SeesCalls}
 use Rattle.channel_actions.specs.KeptSessions.Kept.{IsKept}
 use Rattle.channel_actions.proofs.Links.Frames.Frame.{links_stay}
-use Rattle.channel_actions.proofs.Links.Frames.Tellings.{fewer_tell}
+use Rattle.channel_actions.proofs.Links.Frames.Distinguishing.{fewer_distinguish}
 use Rattle.channel_actions.proofs.Links.Frames.Untold.{lists_are_untold}
-use Rattle.channel_actions.specs.LinkFrames.Alike.{CannotTell, Numbers}
+use Rattle.channel_actions.specs.LinkFrames.Alike.{CannotDistinguish, Numbers}
 use Rattle.channel_actions.specs.LinkFrames.Bears.{bear_on}
 use Rattle.net_actions.specs.Runs.{IsOfCalls}
 use Rattle.net_actions.specs.Sees.{Sees}
@@ -73,15 +73,15 @@ use Rattle.session_actions.specs.declared.entry.Stage.TheVariants as stage
 use Rattle.session_actions.specs.declared.link.Link.{Link}
 use Rattle.session_actions.specs.declared.policy.PolicyUse.{PolicyUse}
 use Rattle.session_actions.specs.declared.seen.Seen.{Seen}
-use Rattle.session_order.proofs.Calms.{calm_is_exact}
-use Rattle.session_order.specs.Calm as order
+use Rattle.session_order.proofs.Quiescence.{quiescence_is_exact}
+use Rattle.session_order.specs.Quiescent as order
 use Rattle.session_order.specs.declared.line.Line.TheVariants as line
 use Rattle.link_actions.specs.StreamActions.Sees.{SeesStreams}
 use Rattle.attempt_cases.proofs.DrainEvents.Rows.{rows_given}
 use Rattle.attempt_cases.proofs.DrainEvents.Rooms.{IsThere, and_no, fed_form, if_none, length_changed, may_drain, none_posted, one_some, there_by}
 
 module _ (x y : StateSeen) (r : Reply) (o : OpenEntry) (s : Seen) (h : Agrees x s) (at : IsAt stage.Event o s) (fresh : o.turn ≡ None)
-    (timely : next_deadline s ≡ None) (link room : ℕ) (is : o.event ≡ event.Drain link room) (kept : channel.refusal_of o.event x ≡ None) (near : AreNear s)
+    (timely : next_deadline s ≡ None) (link room : ℕ) (is : o.event ≡ event.Drain link room) (kept : channel.refusal_of o.event x ≡ None) (near : DeadlinesAreClose s)
     (leaves : DrainLeaves link (min room drained_limit) x r y)
     (few : (slot : LinkSlot) → numbered y.links link ≡ Some slot → slot.link.link.wire.opened < 2 ^ 30)
     -- what is left of the calls, once the event is answered
@@ -128,11 +128,11 @@ module _ (x y : StateSeen) (r : Reply) (o : OpenEntry) (s : Seen) (h : Agrees x 
     result = if_none (is_after_event p) (addresses_in o.event) (ap addresses_in is);
   }
 
-  calm_there : calm.IsCalm p s1
-  calm_there = calm_stays stage.Replied (Some (reply.Octets [])) o s quiet (subst (calm.IsCalm o) (is_with_open o s at.current) at.calm)
+  quiescent_there : quiescent.IsQuiescent p s1
+  quiescent_there = quiescent_stays stage.Replied (Some (reply.Octets [])) o s quiet (subst (quiescent.IsQuiescent o) (is_with_open o s at.current) at.quiescent)
 
-  calm_so : order.IsCalm p s1
-  calm_so = (calm_is_exact p s1).0 (calm_there.calls, calm_there.links, calm_there.policies)
+  quiescent_so : order.IsQuiescent p s1
+  quiescent_so = (quiescence_is_exact p s1).0 (quiescent_there.calls, quiescent_there.links, quiescent_there.policies)
 
   -- channel and session agree there, and the link is fed with what the book lends
   h1 : Agrees x s1
@@ -141,8 +141,8 @@ module _ (x y : StateSeen) (r : Reply) (o : OpenEntry) (s : Seen) (h : Agrees x 
   timely1 : next_deadline s1 ≡ None
   timely1 = subst (λ (z : Seen). next_deadline z ≡ None) (is_with_open o s at.current) timely
 
-  near1 : AreNear s1
-  near1 = subst AreNear (is_with_open o s at.current) near
+  near1 : DeadlinesAreClose s1
+  near1 = subst DeadlinesAreClose (is_with_open o s at.current) near
 
   has : HasLink x s1 l link
   has = h1.links.each link l there.here
@@ -154,7 +154,7 @@ module _ (x y : StateSeen) (r : Reply) (o : OpenEntry) (s : Seen) (h : Agrees x 
   going = has.sees.going there.over
 
   lent : SeesStreams l s1 slot0.link.link.wire (lines_of x.book)
-  lent = lines_are_lent x s1 l slot0.link.link.wire (lines_in l s1) h1 (calm_so line.Cut) timely1 near1 going.streams
+  lent = lines_are_lent x s1 l slot0.link.link.wire (lines_in l s1) h1 (quiescent_so line.Cut) timely1 near1 going.streams
 
   draining : IsDraining p s1 l.number room []
   draining = record {
@@ -162,7 +162,7 @@ module _ (x y : StateSeen) (r : Reply) (o : OpenEntry) (s : Seen) (h : Agrees x 
     event_is = is ∙ ap (λ (n : ℕ). event.Drain n room) (sym own);
     stage_is = refl;
     reply_is = refl;
-    calm = calm_so;
+    quiescent = quiescent_so;
   }
 
   drains_it : drains_at (min room drained_limit) (Some slot0) ≡ true
@@ -209,9 +209,9 @@ module _ (x y : StateSeen) (r : Reply) (o : OpenEntry) (s : Seen) (h : Agrees x 
     abbrev touched : Numbers
     touched k = l.number == k
 
-    cannot : CannotTell touched s1 t
+    cannot : CannotDistinguish touched s1 t
     cannot =
-        fewer_tell (bear_on actions s1) touched s1 t (λ k e. none_borne l.number k run.sent s1 e)
+        fewer_distinguish (bear_on actions s1) touched s1 t (λ k e. none_borne l.number k run.sent s1 e)
         (lists_are_untold actions s1 t (all_kept actions s1 t h1.kept run.does) (all_orderly l.number run.sent s1) run.does)
 
     slots : (k : ℕ) → touched k ≡ false → numbered y.links k ≡ numbered x.links k
@@ -308,7 +308,7 @@ module _ (x y : StateSeen) (r : Reply) (o : OpenEntry) (s : Seen) (h : Agrees x 
     orderly_t = subst (λ (z : StateSeen). IsOfCalls z.net) (sym y_is) h1.orderly
 
     -- what it leaves of the books
-    places : AreNumbered 1 s1.attempts
+    places : AttemptsAreNumbered 1 s1.attempts
     places = h1.kept.book.places
 
     current_t : t.current ≡ Some run.entry
@@ -321,14 +321,14 @@ module _ (x y : StateSeen) (r : Reply) (o : OpenEntry) (s : Seen) (h : Agrees x 
       rows = run.rows;
     }
 
-    same_sets : AreSameSets x y
+    same_sets : SetsAreSame x y
     same_sets = record {
       queue = ap (λ (z : StateSeen). z.queue) y_is;
-      patient = ap (λ (z : StateSeen). z.patient) y_is;
+      ready_waiters = ap (λ (z : StateSeen). z.ready_waiters) y_is;
       dues = ap (λ (z : StateSeen). z.dues) y_is;
       deadlines = ap (λ (z : StateSeen). z.deadlines) y_is;
-      bare = ap (λ (z : StateSeen). z.bare) y_is;
-      impatient = ap (λ (z : StateSeen). z.impatient) y_is;
+      awaiting_config = ap (λ (z : StateSeen). z.awaiting_config) y_is;
+      fail_fast = ap (λ (z : StateSeen). z.fail_fast) y_is;
       outstanding = ap (λ (z : StateSeen). z.outstanding) y_is;
       resets = ap (λ (z : StateSeen). z.resets) y_is;
     }
@@ -385,8 +385,8 @@ module _ (x y : StateSeen) (r : Reply) (o : OpenEntry) (s : Seen) (h : Agrees x 
       kept = kept_t;
     }
 
-    calm_t : calm.IsCalm run.entry t
-    calm_t = let three = (calm_is_exact run.entry t).1 run.calm in record { calls = three.0; links = three.1; policies = three.2 }
+    quiescent_t : quiescent.IsQuiescent run.entry t
+    quiescent_t = let three = (quiescence_is_exact run.entry t).1 run.quiescent in record { calls = three.0; links = three.1; policies = three.2 }
 
     drain_answered : IsAnswered y r o s
     drain_answered = record {
@@ -403,7 +403,7 @@ module _ (x y : StateSeen) (r : Reply) (o : OpenEntry) (s : Seen) (h : Agrees x 
           entries = ap (λ (z : Seen). z.entries) run.is;
           setup = ap (λ (z : Seen). z.setup) run.is;
         };
-        at = record { current = ap (λ (z : Seen). z.current) run.is; stage_is = ap (λ (q : OpenEntry). q.stage) run.entry_is; calm = calm_t };
+        at = record { current = ap (λ (z : Seen). z.current) run.is; stage_is = ap (λ (q : OpenEntry). q.stage) run.entry_is; quiescent = quiescent_t };
         agrees = agrees_t;
       };
       reply = ap (λ (q : OpenEntry). q.reply) run.entry_is

@@ -1,4 +1,4 @@
--- The links after a drain: the one that was drained agrees, with its readers and the lines of the session; and the others cannot tell.
+-- The links after a drain: the one that was drained agrees, with its readers and the lines of the session; and the others cannot distinguish.
 use Rattle.std.proofs.Common.{◌≡◌, ◌-◌, ◌∷◌, ◌==◌, ◌||◌, ap, refl, sym, ◌∙◌, Bool, false, List, [], Option, None, Some, ℕ, drop, is_some, length, map, min, slice_get}
 use Rattle.std.proofs.Math.Nat.{zero-min}
 use Rattle.std.specs.Option.{option_map_or}
@@ -20,10 +20,10 @@ use Rattle.channel_actions.proofs.KeptSessions.Along.{kept_stays}
 use Rattle.channel_actions.specs.KeptSessions.Kept.{IsKept}
 use Rattle.link_actions.proofs.DataSent.{IsShare, share_found}
 use Rattle.channel_actions.proofs.Links.Frames.Streams.{streams_still}
-use Rattle.channel_actions.proofs.Links.Frames.Tellings.{untold}
+use Rattle.channel_actions.proofs.Links.Frames.Distinguishing.{untold}
 use Rattle.channel_actions.specs.LinkFrames.Alike.{Numbers}
-use Rattle.channel_actions.specs.LinkFrames.Bears.{AreOrderly, bear_on}
-use Rattle.channel_actions.specs.LinkFrames.Laws.{AreKept}
+use Rattle.channel_actions.specs.LinkFrames.Bears.{ActionsAreOrderly, bear_on}
+use Rattle.channel_actions.specs.LinkFrames.Laws.{SessionsAreKept}
 use Rattle.link_actions.specs.ResponseActions.Readers as responses
 use Rattle.session_actions.specs.Actions.{after}
 use Rattle.session_actions.specs.Links.{is_retiring, read_bytes}
@@ -123,12 +123,12 @@ drained_slot l s t before slot sent g kept goes sees is streams reads fresh =
       };
     }
 
--- what is written is told by the other links neither
-pub all_kept : (actions : List Action) (s t : Seen) → IsKept s → Does actions s t → AreKept actions s
+-- what is written is reported by the other links neither
+pub all_kept : (actions : List Action) (s t : Seen) → IsKept s → Does actions s t → SessionsAreKept actions s
 all_kept [] s t kept does = kept
 all_kept (a ∷ actions) s t kept does = (kept, all_kept actions (after a s) t (kept_stays s a kept does.0) does.1)
 
-pub all_orderly : (n : ℕ) (sent : List Sent) (s : Seen) → AreOrderly (map (writing n) sent) s
+pub all_orderly : (n : ℕ) (sent : List Sent) (s : Seen) → ActionsAreOrderly (map (writing n) sent) s
 all_orderly n [] s = tt
 all_orderly n (x ∷ sent) s = (tt, all_orderly n sent (after (writing n x) s))
 

@@ -5,7 +5,7 @@ use Rattle.std.proofs.lemmas.Option.{slice_get-map, slice_get_within}
 use Rattle.std.specs.Option.{option_map, option_map_or}
 use Rattle.attempt_ledger.specs.declared.row.Row.{Row}
 use Rattle.channel_core.specs.Draining.{streams_given}
-use Rattle.channel_actions.specs.DrainWrites.Laws.{AreWaiting, given_in}
+use Rattle.channel_actions.specs.DrainWrites.Laws.{OpenedRowsWait, given_in}
 use Rattle.ledger_stamps.specs.Steps as ledger
 use Rattle.ledger_stamps.specs.Steps.{changed_at, stamped, streamed_row}
 use Rattle.session_actions.specs.Words.{changed, changed_if, numbered}
@@ -53,7 +53,7 @@ row_given : (stream place : ℕ) (xs : List Attempt) → ((b : Attempt) → numb
 row_given stream zero xs fresh = refl
 row_given stream (suc i) xs fresh = row_if stream xs i (slice_get xs i) refl fresh
 
-pub rows_given : (opened : List (ℕ × ℕ)) (as_ : List Attempt) → AreWaiting opened as_ → rows_of (given_in opened as_) ≡ streams_given opened (rows_of as_)
+pub rows_given : (opened : List (ℕ × ℕ)) (as_ : List Attempt) → OpenedRowsWait opened as_ → rows_of (given_in opened as_) ≡ streams_given opened (rows_of as_)
 rows_given [] as_ fresh = refl
 rows_given (o ∷ opened) as_ fresh =
     rows_given opened (changed (with_stream o.1) o.0 as_) fresh.1 ∙ ap (streams_given opened) (row_given o.1 o.0 as_ fresh.0)

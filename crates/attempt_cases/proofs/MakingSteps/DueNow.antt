@@ -11,10 +11,10 @@ use Rattle.channel_actions.proofs.Links.Settings.Slots.{put_away}
 use Rattle.channel_actions.proofs.Links.Settings.Timers.{timers_exactly}
 use Rattle.channel_actions.specs.Agrees.{Agrees}
 use Rattle.channel_actions.specs.Calls.{HasSlot, due_of}
-use Rattle.channel_actions.specs.Calm.{IsAt}
+use Rattle.channel_actions.specs.Quiescent.{IsAt}
 use Rattle.channel_actions.specs.Clock.{DrawsAlike}
 use Rattle.channel_actions.specs.KeptCalls.Laws.{EarlyAlong}
-use Rattle.channel_actions.specs.Sets.{AreExactly, is_in_dues}
+use Rattle.channel_actions.specs.Sets.{PairsAreExactly, is_in_dues}
 use Rattle.call_cases.proofs.ConfiguredCalls.Lists.{equal_numbers, same_numbered, same_words}
 use Rattle.attempt_cases.proofs.MakingSteps.Keys.{AreAscending, is_key, self_equal}
 use Rattle.attempt_cases.proofs.MakingSteps.Strips.{made_calls, made_dues, made_moment, made_too, slot_after, with_dues}
@@ -147,7 +147,7 @@ pub record Loop (keys : List ℕ) (dues : List (ℕ × ℕ)) (calls : List CallS
   pub tended : IsTended o s
   pub ascending : AreAscending keys
   pub slots : (k : ℕ) → numbered calls k ≡ option_map (stripped (is_key keys k)) (numbered y.book.calls k)
-  pub timers : AreExactly dues (λ m k. is_in_dues s m k && not (is_key keys k))
+  pub timers : PairsAreExactly dues (λ m k. is_in_dues s m k && not (is_key keys k))
   pub late : (m k : ℕ) → has dues (m, k) ≡ true → nat_le m y.book.moment ≡ false
   pub due : (k : ℕ) → is_key keys k ≡ true → IsDueBy s y.book.moment k
 
@@ -161,7 +161,7 @@ module _ (dues : List (ℕ × ℕ)) (calls : List CallSlot) (y : StateSeen) (o :
   calls_same =
       same_numbered calls y.book.calls (λ k. sym (same_words calls k) ∙ l.slots k ∙ same_slot (numbered y.book.calls k) ∙ same_words y.book.calls k)
 
-  timers_same : AreExactly dues (is_in_dues s)
+  timers_same : PairsAreExactly dues (is_in_dues s)
   timers_same = record { rising = l.timers.rising; exact = λ m k. l.timers.exact m k ∙ and_all (is_in_dues s m k) }
 
   agrees_so : Agrees (record y { dues = dues }) s
@@ -185,11 +185,11 @@ module _ (dues : List (ℕ × ℕ)) (calls : List CallSlot) (y : StateSeen) (o :
         orderly = h.orderly;
         sets = record {
           queue = h.sets.queue;
-          patient = h.sets.patient;
+          ready_waiters = h.sets.ready_waiters;
           dues = timers_same;
           deadlines = h.sets.deadlines;
-          bare = h.sets.bare;
-          impatient = h.sets.impatient;
+          awaiting_config = h.sets.awaiting_config;
+          fail_fast = h.sets.fail_fast;
           outstanding = h.sets.outstanding;
           resets = h.sets.resets;
         };
@@ -301,9 +301,9 @@ module _ (one : OneMakes) (laws : CallLaws) (along : EarlyAlong) (n : ℕ) (rest
   was_own : (m : ℕ) → is_in_dues s m n ≡ is_number m own.slot.due
   was_own m = ap (holds (λ (c : Call). is_number m (due_of s c))) d.there ∙ ap (is_number m) own.sees.due
 
-  timers_y1 : AreExactly (made_one n y).dues test1
+  timers_y1 : PairsAreExactly (made_one n y).dues test1
   timers_y1 =
-      subst (λ (t : List (ℕ × ℕ)). AreExactly t test1) (sym (made_dues n own.slot y own.there))
+      subst (λ (t : List (ℕ × ℕ)). PairsAreExactly t test1) (sym (made_dues n own.slot y own.there))
       (timers_exactly n y.dues (is_in_dues s) own.slot.due after.due l.agrees.sets.dues was_own test1
       (λ m k e. ap (λ (z : Bool). if z then is_number m after.due else is_in_dues s m k) e)
       (λ m. ap (λ (z : Bool). if z then is_number m after.due else is_in_dues s m n) (self_equal n)))
@@ -320,7 +320,7 @@ module _ (one : OneMakes) (laws : CallLaws) (along : EarlyAlong) (n : ℕ) (rest
   abbrev test2 : ℕ → ℕ → Bool
   test2 m k = is_in_dues s1 m k && not (is_key rest k)
 
-  timers_now : AreExactly dues1 test2
+  timers_now : PairsAreExactly dues1 test2
   timers_now =
       timers_exactly n dues (λ m k. is_in_dues s m k && not (is_key (n ∷ rest) k)) None after.due l.timers
       (λ m. ap (λ (z : Bool). is_in_dues s m n && not z) is_first ∙ and_none (is_in_dues s m n)) test2

@@ -5,9 +5,9 @@ use Rattle.std.proofs.lemmas.Bool.Decides.{nat_tests}
 use Rattle.std.specs.BTreeSet.{insert_key}
 use Rattle.std.specs.List.{list_all, list_any}
 use Rattle.channel_actions.proofs.Links.Settings.Pairs.{has_insert, rising_insert, same_is, self_same}
-use Rattle.channel_actions.specs.Sets.{AreRising}
+use Rattle.channel_actions.specs.Sets.{PairsAreRising}
 use Rattle.channel_core.specs.Timing.{due_keys, later, sorted_into}
-use Rattle.picker_gate.specs.Pairs.{has, is_behind, is_same, pair_cmp}
+use Rattle.picker_gate.specs.Pairs.{has, comes_after, is_same, pair_cmp}
 
 abbrev pub is_key : List ℕ → ℕ → Bool
 is_key keys key = list_any (λ (j : ℕ). j == key) keys
@@ -47,7 +47,7 @@ sorted_has sorted (n ∷ keys) p =
     ∙ or_swap ((p.0 == 0) && (n == p.1)) (has sorted p) ((p.0 == 0) && is_key keys p.1)
     ∙ ap (λ (b : Bool). has sorted p || b) (and_or (p.0 == 0) (n == p.1) (is_key keys p.1))
 
-pub sorted_rising : (sorted : List (ℕ × ℕ)) (keys : List ℕ) → AreRising sorted → AreRising (sorted_into sorted keys)
+pub sorted_rising : (sorted : List (ℕ × ℕ)) (keys : List ℕ) → PairsAreRising sorted → PairsAreRising (sorted_into sorted keys)
 sorted_rising sorted [] h = h
 sorted_rising sorted (n ∷ keys) h = sorted_rising (insert_key pair_cmp sorted (0, n)) keys (rising_insert sorted (0, n) h)
 
@@ -78,34 +78,34 @@ plain_keys (p ∷ pairs) plain k =
     ap (λ (b : Bool). is_key (if b then p.1 ∷ due_keys 0 pairs else []) k) (zero_le p.0 zero_)
     ∙ ap (λ (b : Bool). (p.1 == k) || b) (plain_keys pairs (plain_rest p pairs plain) k) ∙ ap (λ (b : Bool). b || has pairs (0, k)) (sym (same_key k p zero_))
 
-behind_less : (p q : ℕ × ℕ) → p.0 ≡ 0 → is_behind p q ≡ true → q.0 ≡ 0 → p.1 < q.1
-behind_less p q e f g = grind (arith, nat_tests)
+after_less : (p q : ℕ × ℕ) → p.0 ≡ 0 → comes_after p q ≡ true → q.0 ≡ 0 → p.1 < q.1
+after_less p q e f g = grind (arith, nat_tests)
 
-all_has : (p q : ℕ × ℕ) (pairs : List (ℕ × ℕ)) → list_all (is_behind p) pairs ≡ true → has pairs q ≡ true → is_behind p q ≡ true
+all_has : (p q : ℕ × ℕ) (pairs : List (ℕ × ℕ)) → list_all (comes_after p) pairs ≡ true → has pairs q ≡ true → comes_after p q ≡ true
 all_has p q [] all e = absurd (let bad : false ≡ true = e in (cc))
 all_has p q (r ∷ pairs) all e =
-    let both = and_parts (is_behind p r) (list_all (is_behind p) pairs) all in by_same (is_same q r) refl e both.0 (all_has p q pairs both.1)
+    let both = and_parts (comes_after p r) (list_all (comes_after p) pairs) all in by_same (is_same q r) refl e both.0 (all_has p q pairs both.1)
   where
-    by_same : (b : Bool) → is_same q r ≡ b → (b || has pairs q) ≡ true → is_behind p r ≡ true → (has pairs q ≡ true → is_behind p q ≡ true) → is_behind p q ≡ true
-    by_same true is e first rest = ap (is_behind p) (same_is q r is) ∙ first
+    by_same : (b : Bool) → is_same q r ≡ b → (b || has pairs q) ≡ true → comes_after p r ≡ true → (has pairs q ≡ true → comes_after p q ≡ true) → comes_after p q ≡ true
+    by_same true is e first rest = ap (comes_after p) (same_is q r is) ∙ first
     by_same false is e first rest = rest e
 
-pub plain_ascending : (pairs : List (ℕ × ℕ)) → ArePlain pairs → AreRising pairs → AreAscending (due_keys 0 pairs)
+pub plain_ascending : (pairs : List (ℕ × ℕ)) → ArePlain pairs → PairsAreRising pairs → AreAscending (due_keys 0 pairs)
 plain_ascending [] plain h = tt
 plain_ascending (p ∷ pairs) plain h =
     let zero_ : p.0 ≡ 0 = plain p (head_in p pairs) in
     let rest : ArePlain pairs = plain_rest p pairs plain in
     subst (λ (b : Bool). AreAscending (if b then p.1 ∷ due_keys 0 pairs else [])) (sym (zero_le p.0 zero_))
-    (λ k e. behind_less p (0, k) zero_ (all_has p (0, k) pairs h.0 (sym (plain_keys pairs rest k) ∙ e)) refl, plain_ascending pairs rest h.1)
+    (λ k e. after_less p (0, k) zero_ (all_has p (0, k) pairs h.0 (sym (plain_keys pairs rest k) ∙ e)) refl, plain_ascending pairs rest h.1)
 
 -- of all timers: the calls whose moment has come, and the other timers
-stays_behind : (p q : ℕ × ℕ) (moment : ℕ) → is_behind p q ≡ true → nat_le p.0 moment ≡ false → nat_le q.0 moment ≡ false
-stays_behind p q moment e f = grind (arith, nat_tests)
+stays_after : (p q : ℕ × ℕ) (moment : ℕ) → comes_after p q ≡ true → nat_le p.0 moment ≡ false → nat_le q.0 moment ≡ false
+stays_after p q moment e f = grind (arith, nat_tests)
 
 pub self_equal : (n : ℕ) → (n == n) ≡ true
 self_equal n = grind (arith, nat_tests)
 
-pub key_of : (moment : ℕ) (timers : List (ℕ × ℕ)) (p : ℕ × ℕ) → AreRising timers → has timers p ≡ true → nat_le p.0 moment ≡ true → is_key (due_keys moment timers) p.1 ≡ true
+pub key_of : (moment : ℕ) (timers : List (ℕ × ℕ)) (p : ℕ × ℕ) → PairsAreRising timers → has timers p ≡ true → nat_le p.0 moment ≡ true → is_key (due_keys moment timers) p.1 ≡ true
 key_of moment [] p h e past = absurd (let bad : false ≡ true = e in (cc))
 key_of moment (t ∷ ts) p h e past = by_past (nat_le t.0 moment) refl (is_same p t) refl e (λ f. key_of moment ts p h.1 f past)
   where
@@ -115,7 +115,7 @@ key_of moment (t ∷ ts) p h e past = by_past (nat_le t.0 moment) refl (is_same 
 
     not_past : (c : Bool) → is_same p t ≡ c → (c || has ts p) ≡ true → nat_le t.0 moment ≡ false → nat_le p.0 moment ≡ false
     not_past true is e late = ap (λ (q : ℕ × ℕ). nat_le q.0 moment) (same_is p t is) ∙ late
-    not_past false is e late = stays_behind t p moment (all_has t p ts h.0 e) late
+    not_past false is e late = stays_after t p moment (all_has t p ts h.0 e) late
 
     by_past : (b : Bool) → nat_le t.0 moment ≡ b → (c : Bool) → is_same p t ≡ c → (c || has ts p) ≡ true → (has ts p ≡ true → is_key (due_keys moment ts) p.1 ≡ true)
         → is_key (if b then t.1 ∷ due_keys moment ts else []) p.1 ≡ true
@@ -130,11 +130,11 @@ later_all test moment (t ∷ ts) e = by_past (nat_le t.0 moment) (later_all test
     by_past true rest = rest
     by_past false rest = e
 
-pub later_rising : (moment : ℕ) (timers : List (ℕ × ℕ)) → AreRising timers → AreRising (later moment timers)
+pub later_rising : (moment : ℕ) (timers : List (ℕ × ℕ)) → PairsAreRising timers → PairsAreRising (later moment timers)
 later_rising moment [] h = tt
 later_rising moment (t ∷ ts) h = by_past (nat_le t.0 moment) (later_rising moment ts h.1)
   where
-    by_past : (b : Bool) → AreRising (later moment ts) → AreRising (if b then later moment ts else t ∷ ts)
+    by_past : (b : Bool) → PairsAreRising (later moment ts) → PairsAreRising (if b then later moment ts else t ∷ ts)
     by_past true rest = rest
     by_past false rest = h
 
@@ -146,14 +146,14 @@ and_all : (a : Bool) → (a && true) ≡ a
 and_all true = refl
 and_all false = refl
 
-pub later_has : (moment : ℕ) (timers : List (ℕ × ℕ)) (p : ℕ × ℕ) → AreRising timers → has (later moment timers) p ≡ (has timers p && not (nat_le p.0 moment))
+pub later_has : (moment : ℕ) (timers : List (ℕ × ℕ)) (p : ℕ × ℕ) → PairsAreRising timers → has (later moment timers) p ≡ (has timers p && not (nat_le p.0 moment))
 later_has moment [] p h = refl
 later_has moment (t ∷ ts) p h = by_past (nat_le t.0 moment) refl (is_same p t) refl (later_has moment ts p h.1)
   where
     late : (c : Bool) → is_same p t ≡ c → (b : Bool) → has ts p ≡ b → nat_le t.0 moment ≡ false → (c || b) ≡ ((c || b) && not (nat_le p.0 moment))
     late true is b e off =
         sym (ap (λ (z : Bool). true && not z) (ap (λ (q : ℕ × ℕ). nat_le q.0 moment) (same_is p t is) ∙ off))
-    late false is true e off = sym (ap (λ (z : Bool). true && not z) (stays_behind t p moment (all_has t p ts h.0 e) off))
+    late false is true e off = sym (ap (λ (z : Bool). true && not z) (stays_after t p moment (all_has t p ts h.0 e) off))
     late false is false e off = refl
 
     past : (c : Bool) → is_same p t ≡ c → nat_le t.0 moment ≡ true → (has ts p && not (nat_le p.0 moment)) ≡ ((c || has ts p) && not (nat_le p.0 moment))

@@ -24,7 +24,7 @@ use Rattle.call_actions.specs.CallsInTurn.Turns.{IsSteady, StaysSteady}
 use Rattle.call_actions.specs.Laws.{AttemptsAreDue}
 use Rattle.call_actions.specs.Order.{IsInOrder, IsInTurn, Keeps}
 use Rattle.call_actions.specs.Sees.{Sees, bucket_of}
-use Rattle.call_actions.specs.TakeActions.Serves.{AreFed, Holds, IsAt, IsFed, IsLeft, Serves, came, drained_so_far, is_ended_at, passed}
+use Rattle.call_actions.specs.TakeActions.Serves.{AttemptsAreFed, Holds, IsAt, IsFed, IsLeft, Serves, came, drained_so_far, is_ended_at, passed}
 use Rattle.call_core.specs.Laws.{came as channel_came}
 use Rattle.call_core.specs.Steps as steps
 use Rattle.call_core.specs.Steps.{Stepped, deadline_at, next_due, waits}
@@ -39,12 +39,12 @@ use Rattle.channel_actions.specs.Calls.{HasSlot, SeesCall, deadline_of, due_of, 
 use Rattle.channel_actions.specs.Columns.{SeesColumns}
 use Rattle.channel_actions.specs.Configs.{SeesBuckets, bucket_in, runs_in_turn}
 use Rattle.channel_actions.specs.KeptSessions.Kept.{IsKept}
-use Rattle.channel_actions.specs.LinkFrames.Alike.{CannotTell}
+use Rattle.channel_actions.specs.LinkFrames.Alike.{CannotDistinguish}
 use Rattle.channel_actions.specs.LinkFrames.Bears.{bears_on}
 use Rattle.channel_actions.specs.Links.{SeesLinks}
 use Rattle.call_cases.specs.OtherCalls.Laws.{SetsApart}
 use Rattle.call_cases.specs.OtherCalls.Others.{BooksApart, GoesApart, IsBooked}
-use Rattle.channel_actions.specs.Sets.{AreExactly, SeesSets, is_in_bare, is_in_deadlines, is_in_dues, is_in_impatient, is_in_outstanding, is_in_patient, is_in_queue, is_patient, is_waiting}
+use Rattle.channel_actions.specs.Sets.{PairsAreExactly, SeesSets, is_awaiting_config, is_in_deadlines, is_in_dues, is_in_fail_fast, is_in_outstanding, is_in_ready_waiters, is_in_queue, is_ready_waiter, is_waiting}
 use Rattle.call_cases.proofs.ConfiguredCalls.Lists.{changed_length, equal_numbers, other_numbers, same_number, same_numbered, same_words}
 use Rattle.attempt_cases.proofs.MakingSteps.Lists.{all_last, holds_alike, holds_changed, in_out, in_with, more_away, none_next, or_alike, pair_away, pair_first, pair_here}
 use Rattle.call_cases.specs.ConfiguredCalls.Laws.{Frames}
@@ -90,7 +90,7 @@ use Rattle.session_actions.specs.declared.entry.OpenEntry.{OpenEntry}
 use Rattle.session_actions.specs.declared.link.Link.{Link}
 use Rattle.session_actions.specs.declared.seen.Seen.{Seen}
 use Rattle.session_order.proofs.Limits.{response_same}
-use Rattle.attempt_cases.proofs.MakingSteps.MadeKinds.{due_kind, due_open, free_by, patient_of, none_held, none_of, and_second, any_none, unmapped, any_less, placed_so}
+use Rattle.attempt_cases.proofs.MakingSteps.MadeKinds.{due_kind, due_open, free_by, wait_for_ready_of, none_held, none_of, and_second, any_none, unmapped, any_less, placed_so}
 
 module _ (frames : Frames) (tokens_stay : TokensStay) (fair : LinesAreFair) (turns : MakingKeeps) (dues : AttemptsAreDue) (x : StateSeen) (o : OpenEntry) (s0 : Seen) where
   abbrev s : Seen
@@ -100,7 +100,7 @@ module _ (frames : Frames) (tokens_stay : TokensStay) (fair : LinesAreFair) (tur
       (gives : due_action s c ≡ Some (action.AttemptMade c.number (attempts_made c s + 1) (kind_of_next c s) due))
       (next : following s ≡ Some (action.AttemptMade c.number (attempts_made c s + 1) (kind_of_next c s) due)) (slot : CallSlot)
       (slot_there : slot_at x.book c.number ≡ Some slot) (sees : SeesCall x s c slot) (sound : IsSoundSlot (length x.book.ledger.rows) slot)
-      (calm : next_transparent s ≡ None) where
+      (quiescent : next_transparent s ≡ None) where
     abbrev nth : ℕ
     nth = attempts_made c s + 1
 
@@ -195,9 +195,9 @@ module _ (frames : Frames) (tokens_stay : TokensStay) (fair : LinesAreFair) (tur
     steady : IsSteady s c
     steady = record {
       turn = sees.turn;
-      calm =
+      quiescent =
           any_less (is_of c) (λ (a : Attempt). wants_follower a s) s.attempts
-          (any_none (λ (a : Attempt). wants_follower a s) s.attempts (unmapped (transparent_retry s) (find (λ (a : Attempt). wants_follower a s) s.attempts) calm));
+          (any_none (λ (a : Attempt). wants_follower a s) s.attempts (unmapped (transparent_retry s) (find (λ (a : Attempt). wants_follower a s) s.attempts) quiescent));
     }
 
     turned : StaysSteady t c.number
@@ -223,13 +223,13 @@ module _ (frames : Frames) (tokens_stay : TokensStay) (fair : LinesAreFair) (tur
     limits : (a : Attempt) → limit_of_attempt a (record s { calls = t.calls }) ≡ limit_of_attempt a s
     limits a = read_same noted c.number s.calls (λ (k : Call). (chosen_of k s).response) message_limit (λ k. refl) a.row.call
 
-    heard_same : (a : Attempt) → response a t ≡ response a s
-    heard_same a = response_same s t.calls limits a
+    received_same : (a : Attempt) → response a t ≡ response a s
+    received_same a = response_same s t.calls limits a
 
     came_same : came c1 t ≡ came c s
     came_same =
         ap (λ (q : Option Attempt). option_map_or (λ (k : Attempt). response_items (response k t)) q []) (committed_same c)
-        ∙ or_alike (λ (k : Attempt). response_items (response k t)) (λ (k : Attempt). response_items (response k s)) [] (λ k. ap response_items (heard_same k)) (commitment c s)
+        ∙ or_alike (λ (k : Attempt). response_items (response k t)) (λ (k : Attempt). response_items (response k s)) [] (λ k. ap response_items (received_same k)) (commitment c s)
 
     drained_same : drained_so_far c1 t ≡ drained_so_far c s
     drained_same = ap (λ (q : Option Attempt). option_map_or (λ (k : Attempt). drained k s) q 0) (committed_same c)
@@ -259,7 +259,7 @@ module _ (frames : Frames) (tokens_stay : TokensStay) (fair : LinesAreFair) (tur
     holds_still : Holds t c1 slot2.call.buffer
     holds_still = record {
       fed =
-          subst (λ (l : List Attempt). AreFed t c1 slot.call.buffer l) (sym own_attempts)
+          subst (λ (l : List Attempt). AttemptsAreFed t c1 slot.call.buffer l) (sym own_attempts)
           (all_last (λ (a : Attempt). IsFed (taken_by a.place slot.call.buffer) (text_of slot.call.buffer) (is_outstanding a) (drained a t) (framed_all c.messages))
           (filter (is_of c) s.attempts) new was_held.fed fed_new);
       held = subst (λ (n : ℕ). IsAt (passed slot.call.buffer) (text_of slot.call.buffer) n (framed_all c.messages)) (sym drained_same) was_held.held;
@@ -404,8 +404,8 @@ module _ (frames : Frames) (tokens_stay : TokensStay) (fair : LinesAreFair) (tur
     count = changed_length noted c.number s.calls ∙ h.calls.count ∙ sym (set_length x.book.calls (c.number - 1) slot2)
 
     -- the links
-    cannot : CannotTell (bears_on does_it s) s t
-    cannot = subst (CannotTell (bears_on does_it s) s) made_is (frames.untold does_it s h.kept tt)
+    cannot : CannotDistinguish (bears_on does_it s) s t
+    cannot = subst (CannotDistinguish (bears_on does_it s) s) made_is (frames.untold does_it s h.kept tt)
 
     links : SeesLinks y t
     links = frames.links (bears_on does_it s) x y s t h.links h.kept kept (λ link e. refl) cannot h.links.count (λ link l e f. absurd (let bad : false ≡ true = e in (cc)))
@@ -455,46 +455,46 @@ module _ (frames : Frames) (tokens_stay : TokensStay) (fair : LinesAreFair) (tur
     waiting_more : (k row : ℕ) → is_waiting t k row ≡ (is_same (k, row) (c.number, place) || is_waiting s k row)
     waiting_more k row = waiting_by k row (row == place) refl
 
-    patient_same : (k : ℕ) → is_patient t k ≡ is_patient s k
-    patient_same k = holds_changed noted c.number s.calls (λ (d : Call). waits_for_ready d s) (λ d. refl) k
+    wait_for_ready_same : (k : ℕ) → is_ready_waiter t k ≡ is_ready_waiter s k
+    wait_for_ready_same k = holds_changed noted c.number s.calls (λ (d : Call). waits_for_ready d s) (λ d. refl) k
 
-    patient_is : is_patient s c.number ≡ waits slot.call
-    patient_is = patient_of s c x0 sees.serves.sees
+    wait_for_ready_is : is_ready_waiter s c.number ≡ waits slot.call
+    wait_for_ready_is = wait_for_ready_of s c x0 sees.serves.sees
 
-    here_patient : (b : Bool) → waits slot.call ≡ b → (k row : ℕ) → is_same (k, row) (c.number, place) ≡ true → is_patient t k ≡ b
-    here_patient b w k row e = patient_same k ∙ ap (is_patient s) (pair_first k c.number row place e) ∙ patient_is ∙ w
+    here_wait_for_ready : (b : Bool) → waits slot.call ≡ b → (k row : ℕ) → is_same (k, row) (c.number, place) ≡ true → is_ready_waiter t k ≡ b
+    here_wait_for_ready b w k row e = wait_for_ready_same k ∙ ap (is_ready_waiter s) (pair_first k c.number row place e) ∙ wait_for_ready_is ∙ w
 
-    in_queue : (k row : ℕ) → is_in_queue t k row ≡ ((is_same (k, row) (c.number, place) || is_waiting s k row) && not (is_patient s k))
+    in_queue : (k row : ℕ) → is_in_queue t k row ≡ ((is_same (k, row) (c.number, place) || is_waiting s k row) && not (is_ready_waiter s k))
     in_queue k row =
-        ap (λ (b : Bool). b && not (is_patient t k)) (waiting_more k row)
-        ∙ ap (λ (b : Bool). (is_same (k, row) (c.number, place) || is_waiting s k row) && not b) (patient_same k)
+        ap (λ (b : Bool). b && not (is_ready_waiter t k)) (waiting_more k row)
+        ∙ ap (λ (b : Bool). (is_same (k, row) (c.number, place) || is_waiting s k row) && not b) (wait_for_ready_same k)
 
-    in_patient : (k row : ℕ) → is_in_patient t k row ≡ ((is_same (k, row) (c.number, place) || is_waiting s k row) && is_patient s k)
-    in_patient k row =
-        ap (λ (b : Bool). b && is_patient t k) (waiting_more k row)
-        ∙ ap (λ (b : Bool). (is_same (k, row) (c.number, place) || is_waiting s k row) && b) (patient_same k)
+    in_ready_waiters : (k row : ℕ) → is_in_ready_waiters t k row ≡ ((is_same (k, row) (c.number, place) || is_waiting s k row) && is_ready_waiter s k)
+    in_ready_waiters k row =
+        ap (λ (b : Bool). b && is_ready_waiter t k) (waiting_more k row)
+        ∙ ap (λ (b : Bool). (is_same (k, row) (c.number, place) || is_waiting s k row) && b) (wait_for_ready_same k)
 
-    queue_by : (b : Bool) → waits slot.call ≡ b → AreExactly (if b then x.queue else insert_key pair_cmp x.queue (c.number, place)) (is_in_queue t)
+    queue_by : (b : Bool) → waits slot.call ≡ b → PairsAreExactly (if b then x.queue else insert_key pair_cmp x.queue (c.number, place)) (is_in_queue t)
     queue_by true w =
         exactly_by x.queue (is_in_queue s) (is_in_queue t) h.sets.queue
-        (λ k row. in_out (is_same (k, row) (c.number, place)) (is_waiting s k row) (not (is_patient s k))
-        (λ e. ap not (sym (patient_same k) ∙ here_patient true w k row e)) ∙ sym (in_queue k row))
+        (λ k row. in_out (is_same (k, row) (c.number, place)) (is_waiting s k row) (not (is_ready_waiter s k))
+        (λ e. ap not (sym (wait_for_ready_same k) ∙ here_wait_for_ready true w k row e)) ∙ sym (in_queue k row))
     queue_by false w =
         exactly_by (insert_key pair_cmp x.queue (c.number, place)) (λ k row. is_same (k, row) (c.number, place) || is_in_queue s k row) (is_in_queue t)
         (exactly_insert x.queue (is_in_queue s) (c.number, place) h.sets.queue)
-        (λ k row. in_with (is_same (k, row) (c.number, place)) (is_waiting s k row) (not (is_patient s k))
-        (λ e. ap not (sym (patient_same k) ∙ here_patient false w k row e)) ∙ sym (in_queue k row))
+        (λ k row. in_with (is_same (k, row) (c.number, place)) (is_waiting s k row) (not (is_ready_waiter s k))
+        (λ e. ap not (sym (wait_for_ready_same k) ∙ here_wait_for_ready false w k row e)) ∙ sym (in_queue k row))
 
-    patient_by : (b : Bool) → waits slot.call ≡ b → AreExactly (if b then insert_key pair_cmp x.patient (c.number, place) else x.patient) (is_in_patient t)
-    patient_by true w =
-        exactly_by (insert_key pair_cmp x.patient (c.number, place)) (λ k row. is_same (k, row) (c.number, place) || is_in_patient s k row) (is_in_patient t)
-        (exactly_insert x.patient (is_in_patient s) (c.number, place) h.sets.patient)
-        (λ k row. in_with (is_same (k, row) (c.number, place)) (is_waiting s k row) (is_patient s k)
-        (λ e. sym (patient_same k) ∙ here_patient true w k row e) ∙ sym (in_patient k row))
-    patient_by false w =
-        exactly_by x.patient (is_in_patient s) (is_in_patient t) h.sets.patient
-        (λ k row. in_out (is_same (k, row) (c.number, place)) (is_waiting s k row) (is_patient s k)
-        (λ e. sym (patient_same k) ∙ here_patient false w k row e) ∙ sym (in_patient k row))
+    wait_for_ready_by : (b : Bool) → waits slot.call ≡ b → PairsAreExactly (if b then insert_key pair_cmp x.ready_waiters (c.number, place) else x.ready_waiters) (is_in_ready_waiters t)
+    wait_for_ready_by true w =
+        exactly_by (insert_key pair_cmp x.ready_waiters (c.number, place)) (λ k row. is_same (k, row) (c.number, place) || is_in_ready_waiters s k row) (is_in_ready_waiters t)
+        (exactly_insert x.ready_waiters (is_in_ready_waiters s) (c.number, place) h.sets.ready_waiters)
+        (λ k row. in_with (is_same (k, row) (c.number, place)) (is_waiting s k row) (is_ready_waiter s k)
+        (λ e. sym (wait_for_ready_same k) ∙ here_wait_for_ready true w k row e) ∙ sym (in_ready_waiters k row))
+    wait_for_ready_by false w =
+        exactly_by x.ready_waiters (is_in_ready_waiters s) (is_in_ready_waiters t) h.sets.ready_waiters
+        (λ k row. in_out (is_same (k, row) (c.number, place)) (is_waiting s k row) (is_ready_waiter s k)
+        (λ e. sym (wait_for_ready_same k) ∙ here_wait_for_ready false w k row e) ∙ sym (in_ready_waiters k row))
 
     -- by the place that the channel gives the row
     place_is : place ≡ steps.next_place x.book.ledger
@@ -514,30 +514,30 @@ module _ (frames : Frames) (tokens_stay : TokensStay) (fair : LinesAreFair) (tur
     own_deadlines : (u : Seen) (d : Call) (at : Option ℕ) → numbered u.calls c.number ≡ Some d → deadline_of u d ≡ at → (m : ℕ) → is_in_deadlines u m c.number ≡ is_number m at
     own_deadlines u d at e f m = ap (holds (λ (k : Call). is_number m (deadline_of u k))) e ∙ ap (is_number m) f
 
-    bare_same : (z k : ℕ) → is_in_bare s z k ≡ is_in_bare t z k
-    bare_same z k =
+    unconfigured_same : (z k : ℕ) → is_awaiting_config s z k ≡ is_awaiting_config t z k
+    unconfigured_same z k =
         sym (ap (λ (b : Bool). (z == 0) && b) (holds_changed noted c.number s.calls (λ (d : Call). is_open_call d && is_none d.config) (λ d. refl) k))
 
-    impatient_same : (z k : ℕ) → is_in_impatient s z k ≡ is_in_impatient t z k
-    impatient_same z k =
-        ap (λ (b : Bool). b && not (is_patient s k)) (bare_same z k) ∙ sym (ap (λ (b : Bool). is_in_bare t z k && not b) (patient_same k))
+    fail_fast_same : (z k : ℕ) → is_in_fail_fast s z k ≡ is_in_fail_fast t z k
+    fail_fast_same z k =
+        ap (λ (b : Bool). b && not (is_ready_waiter s k)) (unconfigured_same z k) ∙ sym (ap (λ (b : Bool). is_awaiting_config t z k && not b) (wait_for_ready_same k))
 
     sets : SeesSets y t
     sets = record {
       queue =
-          subst (λ (n : ℕ). AreExactly (if waits slot.call then x.queue else insert_key pair_cmp x.queue (c.number, n)) (is_in_queue t)) place_is
+          subst (λ (n : ℕ). PairsAreExactly (if waits slot.call then x.queue else insert_key pair_cmp x.queue (c.number, n)) (is_in_queue t)) place_is
           (queue_by (waits slot.call) refl);
-      patient =
-          subst (λ (n : ℕ). AreExactly (if waits slot.call then insert_key pair_cmp x.patient (c.number, n) else x.patient) (is_in_patient t)) place_is
-          (patient_by (waits slot.call) refl);
+      ready_waiters =
+          subst (λ (n : ℕ). PairsAreExactly (if waits slot.call then insert_key pair_cmp x.ready_waiters (c.number, n) else x.ready_waiters) (is_in_ready_waiters t)) place_is
+          (wait_for_ready_by (waits slot.call) refl);
       dues =
           timers_exactly c.number x.dues (is_in_dues s) slot.due slot2.due h.sets.dues (own_dues s c slot.due there sees.due) (is_in_dues t)
           (λ m k e. others.dues m k e) (own_dues t c1 slot2.due own_now own_due);
       deadlines =
           timers_exactly c.number x.deadlines (is_in_deadlines s) slot.deadline slot2.deadline h.sets.deadlines (own_deadlines s c slot.deadline there sees.deadline_is)
           (is_in_deadlines t) (λ m k e. others.deadlines m k e) (own_deadlines t c1 slot2.deadline own_now own_deadline);
-      bare = exactly_by x.bare (is_in_bare s) (is_in_bare t) h.sets.bare bare_same;
-      impatient = exactly_by x.impatient (is_in_impatient s) (is_in_impatient t) h.sets.impatient impatient_same;
+      awaiting_config = exactly_by x.awaiting_config (is_awaiting_config s) (is_awaiting_config t) h.sets.awaiting_config unconfigured_same;
+      fail_fast = exactly_by x.fail_fast (is_in_fail_fast s) (is_in_fail_fast t) h.sets.fail_fast fail_fast_same;
       outstanding = exactly_by x.outstanding (is_in_outstanding s) (is_in_outstanding t) h.sets.outstanding (λ link row. outstanding_by link row (row == place) refl);
       resets = h.sets.resets;
     }

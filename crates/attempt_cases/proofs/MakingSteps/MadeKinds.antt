@@ -8,12 +8,12 @@ use Rattle.std.specs.Prelude.{unwrap_or}
 use Rattle.attempt_buffer.specs.Buffers.{Cursor}
 use Rattle.attempt_ledger.specs.Numbering.{is_transparent, later_kind, most_attempts}
 use Rattle.attempt_ledger.specs.declared.row.RowKind.TheVariants as kind
-use Rattle.call_actions.specs.Order.{AreNumbered}
+use Rattle.call_actions.specs.Order.{AttemptsAreNumbered}
 use Rattle.call_actions.specs.Sees.{Sees}
-use Rattle.call_actions.specs.TakeActions.Serves.{ArePlaced}
+use Rattle.call_actions.specs.TakeActions.Serves.{AttemptsStandInPlace}
 use Rattle.call_core.specs.Parts as parts
 use Rattle.call_core.specs.Steps.{Stepped, waits}
-use Rattle.channel_actions.specs.Sets.{is_patient}
+use Rattle.channel_actions.specs.Sets.{is_ready_waiter}
 use Rattle.grpc_base.specs.declared.plan.CallPlan.{CallPlan}
 use Rattle.grpc_base.specs.declared.plan.CallPlan.TheVariants as plan
 use Rattle.grpc_base.specs.declared.plan.Chosen.{Chosen}
@@ -65,8 +65,8 @@ config_wait : (c : Call) (q : Option HeldConfig)
 config_wait c None = refl
 config_wait c (Some g) = refl
 
-pub patient_of : (s : Seen) (c : Call) (x : Stepped) → Sees s c x → is_patient s c.number ≡ waits x.call
-patient_of s c x sees =
+pub wait_for_ready_of : (s : Seen) (c : Call) (x : Stepped) → Sees s c x → is_ready_waiter s c.number ≡ waits x.call
+wait_for_ready_of s c x sees =
     ap (holds (λ (d : Call). waits_for_ready d s)) sees.own ∙ wait_by (chosen_of c s) c.request.wait (chosen_of c s).wait
     ∙ ap (parts.or_else c.request.wait) (config_wait c (config_of_call c s))
     ∙ ap (λ (q : Option Chosen). parts.waits_for c.request q) sees.chosen
@@ -109,6 +109,6 @@ pub any_less : (p q : Attempt → Bool) (xs : List Attempt) → list_any q xs �
 any_less p q [] e = refl
 any_less p q (a ∷ xs) e = less_by p q a xs (q a) refl (any_less p q xs) e
 
-pub placed_so : (n : ℕ) (xs : List Attempt) → AreNumbered n xs → ArePlaced n xs
+pub placed_so : (n : ℕ) (xs : List Attempt) → AttemptsAreNumbered n xs → AttemptsStandInPlace n xs
 placed_so n [] p = tt
 placed_so n (x ∷ xs) p = (p.0, placed_so _ xs p.1)

@@ -105,13 +105,13 @@ module _ (frames : Frames) (tokens_stay : TokensStay) (fair : LinesAreFair) (tur
       → Agrees (with_attempt k.due c.number own.slot x) (attempt_made c.number (attempts_made c u + 1) (kind_of_next c u) k.due u) in
       let Q : ℕ → ℕ → RowKind → Type 0 = λ n m w. Agrees (with_attempt k.due n own.slot x) (attempt_made n m w k.due s) in
       let here : slot_at x.book c.number ≡ Some own.slot = ap (slot_at x.book) is ∙ own.there in
-      let whole : P (with_open o s) = λ h there next gives follows sees calm. agrees_after frames tokens_stay fair turns dues x o s h c there now_due.is_open k.due next gives follows
-      own.slot here sees (k.sound.calls.slots c.number own.slot here) calm in
+      let whole : P (with_open o s) = λ h there next gives follows sees quiescent. agrees_after frames tokens_stay fair turns dues x o s h c there now_due.is_open k.due next gives follows
+      own.slot here sees (k.sound.calls.slots c.number own.slot here) quiescent in
       let act : (n m : ℕ) (w : RowKind) → Option Action = λ n m w. Some (action.AttemptMade n m w k.due) in
       let given : act number k.nth k.why ≡ act c.number (attempts_made c s + 1) (kind_of_next c s)
       = ap (λ (n : ℕ). act n k.nth k.why) (sym is) ∙ ap (λ (m : ℕ). act c.number m k.why) now_due.nth_is ∙ ap (act c.number (attempts_made c s + 1)) now_due.why_is in
       let result : Q c.number (attempts_made c s + 1) (kind_of_next c s)
-      = subst P (sym (is_with_open o s k.current)) whole k.agrees (ap (numbered s.calls) is ∙ k.there) now_due.next (k.gives ∙ given) (k.next ∙ given) own.sees k.calm in
+      = subst P (sym (is_with_open o s k.current)) whole k.agrees (ap (numbered s.calls) is ∙ k.there) now_due.next (k.gives ∙ given) (k.next ∙ given) own.sees k.quiescent in
       subst (λ (n : ℕ). Q n k.nth k.why) is
       (subst (λ (m : ℕ). Q c.number m k.why) (sym now_due.nth_is) (subst (Q c.number (attempts_made c s + 1)) (sym now_due.why_is) result))
 
@@ -152,13 +152,13 @@ module _ (n due : ℕ) (slot : CallSlot) (x : StateSeen) (there : slot_at x.book
   abbrev in_queue : StateSeen
   in_queue = record booked {
     queue = if waits slot.call then x.queue else insert_key pair_cmp x.queue (n, next_place x.book.ledger);
-    patient = if waits slot.call then insert_key pair_cmp x.patient (n, next_place x.book.ledger) else x.patient;
+    ready_waiters = if waits slot.call then insert_key pair_cmp x.ready_waiters (n, next_place x.book.ledger) else x.ready_waiters;
   }
 
   queued_is : queued n (next_place x.book.ledger) booked ≡ in_queue
   queued_is =
       ap (λ (q : Option CallSlot). record booked {
-        patient = if waits_at q then insert_key pair_cmp x.patient (n, next_place x.book.ledger) else x.patient;
+        ready_waiters = if waits_at q then insert_key pair_cmp x.ready_waiters (n, next_place x.book.ledger) else x.ready_waiters;
         queue = if waits_at q then x.queue else insert_key pair_cmp x.queue (n, next_place x.book.ledger);
       }) there1
 

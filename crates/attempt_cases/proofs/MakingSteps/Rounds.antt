@@ -6,9 +6,9 @@ use Rattle.call_actions.proofs.Places.{places_below}
 use Rattle.channel_actions.proofs.Calls.Going.Arms.{CallLaws}
 use Rattle.channel_actions.proofs.Links.Settings.Slots.{changed_slot_is, put_away}
 use Rattle.channel_actions.specs.Agrees.{Agrees}
-use Rattle.channel_actions.specs.Calm.{IsAt}
+use Rattle.channel_actions.specs.Quiescent.{IsAt}
 use Rattle.channel_actions.specs.KeptCalls.Laws.{EarlyAlong}
-use Rattle.channel_actions.specs.Sets.{AreExactly, is_in_dues}
+use Rattle.channel_actions.specs.Sets.{PairsAreExactly, is_in_dues}
 use Rattle.call_cases.proofs.ConfiguredCalls.Lists.{equal_numbers}
 use Rattle.attempt_cases.proofs.MakingSteps.Keys.{ArePlain, is_key, key_of, later_has, later_rising, plain_ascending, plain_keys, self_equal, sorted_has, sorted_rising}
 use Rattle.attempt_cases.proofs.MakingSteps.Strips.{with_dues}
@@ -173,7 +173,7 @@ module _ (one : OneMakes) (laws : CallLaws) (along : EarlyAlong) (x : StateSeen)
           absurd (let bad : true ≡ false = sym (key_of x.book.moment x.dues (m, k) h.sets.dues.rising (h.sets.dues.exact m k ∙ e) past) ∙ f in (cc))
       by_past false past = refl
 
-  rest_timers : AreExactly rest_dues (λ m k. is_in_dues s m k && not (is_key all_keys k))
+  rest_timers : PairsAreExactly rest_dues (λ m k. is_in_dues s m k && not (is_key all_keys k))
   rest_timers = record {
     rising = later_rising x.book.moment x.dues h.sets.dues.rising;
     exact =

@@ -16,9 +16,9 @@ use Rattle.channel_actions.proofs.Links.Settings.Firsts.{none_numbered}
 use Rattle.channel_actions.proofs.Stamps.{counted_at}
 use Rattle.channel_actions.specs.Agrees.{Agrees}
 use Rattle.channel_actions.specs.Calls.{HasSlot, lent_to}
-use Rattle.channel_actions.specs.Calm.{IsAt}
+use Rattle.channel_actions.specs.Quiescent.{IsAt}
 use Rattle.call_cases.proofs.ConfigActions.NetLines.{clock_stays, over_stays, wish_stays}
-use Rattle.attempt_cases.proofs.MakingSteps.Calm.{final_still, fits, inherited_still}
+use Rattle.attempt_cases.proofs.MakingSteps.Quiescent.{final_still, fits, inherited_still}
 use Rattle.attempt_cases.proofs.MakingSteps.MadeKinds.{due_kind}
 use Rattle.attempt_cases.proofs.MakingSteps.Making.{IsDueNow, due_now, made_is as channel_made}
 use Rattle.call_cases.specs.ConfiguredCalls.Laws.{Frames}
@@ -56,9 +56,9 @@ use Rattle.session_actions.specs.declared.call.MarkKind.TheVariants as mark
 use Rattle.session_actions.specs.declared.entry.OpenEntry.{OpenEntry}
 use Rattle.session_actions.specs.declared.entry.Stage.TheVariants as stage
 use Rattle.session_actions.specs.declared.seen.Seen.{Seen}
-use Rattle.session_order.specs.Calm as order
-use Rattle.session_order.specs.Calm.{IsStill}
-use Rattle.session_order.specs.Laws.{AttemptsStir, CalmIsExact}
+use Rattle.session_order.specs.Quiescent as order
+use Rattle.session_order.specs.Quiescent.{IsStill}
+use Rattle.session_order.specs.Laws.{AttemptsStir, QuiescenceIsExact}
 use Rattle.session_order.specs.Lines.{is_line}
 use Rattle.session_order.specs.Stirs.{stirs}
 use Rattle.session_order.specs.declared.line.Line.{Line}
@@ -126,7 +126,7 @@ stop_by : (b c : Bool) (f : Option ℕ) (due : ℕ) → (if b || c then None els
 stop_by true c f due e = absurd (let bad : None ≡ Some due = e in (cc))
 stop_by false c f due e = refl
 
-module _ (exact : CalmIsExact) (stir : AttemptsStir) (clocks : ClockChanges) (rests : ClockRests) (overs : TakeOversAreSame) (wishes : WishesConnect) (nones : NoneConnects)
+module _ (exact : QuiescenceIsExact) (stir : AttemptsStir) (clocks : ClockChanges) (rests : ClockRests) (overs : TakeOversAreSame) (wishes : WishesConnect) (nones : NoneConnects)
     (frames : Frames) (rows : AttemptsGetRows) (dues : AttemptsAreDue) (tested : HedgesAreTested) (x : StateSeen) (o : OpenEntry) (s0 : Seen) where
   abbrev s : Seen
   s = with_open o s0
@@ -151,17 +151,17 @@ module _ (exact : CalmIsExact) (stir : AttemptsStir) (clocks : ClockChanges) (re
         (Some action.EntryCloses) does_it tended.clock tended.take_over tended.connected tended.configs tended.pass first
 
     follows : following s ≡ Some does_it
-    follows = follows_by (of_calls o s) (of_links o s) (of_policies o s) (of_stage o s o.stage) does_it at.calm.calls at.calm.links at.calm.policies stage_gives
+    follows = follows_by (of_calls o s) (of_links o s) (of_policies o s) (of_stage o s o.stage) does_it at.quiescent.calls at.quiescent.links at.quiescent.policies stage_gives
 
     unretried : next_transparent s ≡ None
-    unretried = (or_parts_none (next_transparent s) _ (or_parts_none _ _ at.calm.calls).1).0
+    unretried = (or_parts_none (next_transparent s) _ (or_parts_none _ _ at.quiescent.calls).1).0
 
     make : MakeNext c.number x o s
     make = record {
       current = refl;
       agrees = h;
       sound = sound;
-      calm = unretried;
+      quiescent = unretried;
       call = c;
       there = there;
       nth = nth;
@@ -211,17 +211,17 @@ module _ (exact : CalmIsExact) (stir : AttemptsStir) (clocks : ClockChanges) (re
     free = free_by (commitment c s) (is_some c.end) (λ e. sym (own.sees.order.stops e) ∙ unstopped)
 
     -- nothing follows at once
-    calm : order.IsCalm o s
-    calm = (exact o s).0 (at.calm.calls, at.calm.links, at.calm.policies)
+    quiescent : order.IsQuiescent o s
+    quiescent = (exact o s).0 (at.quiescent.calls, at.quiescent.links, at.quiescent.policies)
 
     leaves : (l : Line) → is_line l line.Final ≡ false → stirs does_it l ≡ false → IsStill l p t
     leaves l unfinal unstirred =
         subst (λ (u : Seen). IsStill l p u) made_is
-        (stir.made c.number nth why due o s refl (fits o s0 c there due own.sees.order free h.kept) l p (ap (λ (u : Seen). u.current) made_is) unfinal unstirred (calm l))
+        (stir.made c.number nth why due o s refl (fits o s0 c there due own.sees.order free h.kept) l p (ap (λ (u : Seen). u.current) made_is) unfinal unstirred (quiescent l))
 
     still : (l : Line) → IsStill l p t
-    still line.Inherited = inherited_still o s0 c there due own.sees.order free h.kept (calm line.Inherited)
-    still line.Final = final_still o s0 c there due own.sees.order free h.kept dues x own.slot own.there h agrees (calm line.Final)
+    still line.Inherited = inherited_still o s0 c there due own.sees.order free h.kept (quiescent line.Inherited)
+    still line.Final = final_still o s0 c there due own.sees.order free h.kept dues x own.slot own.there h agrees (quiescent line.Final)
     still line.Cut = leaves line.Cut refl refl
     still line.Transparent = leaves line.Transparent refl refl
     still line.Row = leaves line.Row refl refl
@@ -245,7 +245,7 @@ module _ (exact : CalmIsExact) (stir : AttemptsStir) (clocks : ClockChanges) (re
     at_now = record {
       current = refl;
       stage_is = at.stage_is;
-      calm = (let back = (exact p t).1 still in record { calls = back.0; links = back.1; policies = back.2 });
+      quiescent = (let back = (exact p t).1 still in record { calls = back.0; links = back.1; policies = back.2 });
     }
 
     -- no config is due
@@ -330,7 +330,7 @@ module _ (exact : CalmIsExact) (stir : AttemptsStir) (clocks : ClockChanges) (re
       subst (λ (n : ℕ). Leads (made_one n x) o s (IsDueDone n)) own
       (leads h sound at tended c (ap (numbered s.calls) own ∙ k.there) due due_is (k.gives ∙ given) (k.first ∙ given))
 
-pub one_is_made : CalmIsExact → AttemptsStir → ClockChanges → ClockRests → TakeOversAreSame → WishesConnect → NoneConnects → Frames → AttemptsGetRows → AttemptsAreDue
+pub one_is_made : QuiescenceIsExact → AttemptsStir → ClockChanges → ClockRests → TakeOversAreSame → WishesConnect → NoneConnects → Frames → AttemptsGetRows → AttemptsAreDue
     → HedgesAreTested → OneIsMade
 one_is_made exact stir clocks rests overs wishes nones frames rows dues tested number nth due why x o s h sound at tended k is =
     let P : Seen → Type 0 = λ u. Agrees x u → IsSound x u → IsAt stage.Settling o u → IsTended o u → (k : DueNext number u) → k.does ≡ action.AttemptMade number nth why due

@@ -38,11 +38,11 @@ module _ (n : ℕ) (dues : List (ℕ × ℕ)) (calls : List CallSlot) where
   act_strip (act.Cut row) v waits =
       let link : ℕ = link_of (row_at v.book row) in
       let w : StateSeen = reset_on link row v in
-      gone_strip link (step.left_behind link row w)
+      gone_strip link (step.left_after link row w)
   act_strip (act.Drop row) v waits = refl
   act_strip (act.Queue row) v waits =
       ap (λ (b : Bool). record (with_dues dues calls v) {
-        patient = if b then insert_key pair_cmp v.patient (n, row) else v.patient;
+        ready_waiters = if b then insert_key pair_cmp v.ready_waiters (n, row) else v.ready_waiters;
         queue = if b then v.queue else insert_key pair_cmp v.queue (n, row);
       }) waits
   act_strip (act.End why) v waits = refl
@@ -68,7 +68,7 @@ pub record Leaves (v w : StateSeen) : Type 0 where
 act_leaves : (n : ℕ) (a : CallAct) (v : StateSeen) → Leaves v (act_done n a v)
 act_leaves n (act.Cut row) v =
     let link : ℕ = link_of (row_at v.book row) in
-    let w : StateSeen = step.left_behind link row (reset_on link row v) in
+    let w : StateSeen = step.left_after link row (reset_on link row v) in
     let l : List LinkSeen = changed_at (gone_link w.book.ledger.entry) w.book.ledger.links link in
     record { calls = gone_calls (is_gone link w) l w; dues = gone_dues (is_gone link w) l w; moment = gone_moment (is_gone link w) l w }
 act_leaves n (act.Drop row) v = record { calls = refl; dues = refl; moment = refl }

@@ -33,7 +33,7 @@ use Rattle.channel_actions.specs.LinkFrames.Bears.{bears_on}
 use Rattle.channel_actions.specs.Links.{SeesLinks}
 use Rattle.call_cases.specs.OtherCalls.Laws.{SetsApart}
 use Rattle.call_cases.specs.OtherCalls.Others.{BooksApart, GoesApart, IsBooked}
-use Rattle.channel_actions.specs.Sets.{SeesSets, is_in_bare, is_in_deadlines, is_in_dues, is_in_impatient, is_in_patient, is_in_queue, is_patient, is_waiting}
+use Rattle.channel_actions.specs.Sets.{SeesSets, is_awaiting_config, is_in_deadlines, is_in_dues, is_in_fail_fast, is_in_ready_waiters, is_in_queue, is_ready_waiter, is_waiting}
 use Rattle.call_cases.proofs.ConfiguredCalls.Lists.{changed_length, equal_numbers, same_number, same_numbered}
 use Rattle.attempt_cases.proofs.MakingSteps.Lists.{holds_alike, holds_changed, or_alike}
 use Rattle.call_cases.specs.ConfiguredCalls.Laws.{Frames}
@@ -108,7 +108,7 @@ module _ (frames : Frames) (tokens_stay : TokensStay) (fair : LinesAreFair) (wit
 
   module _ (h : Agrees x s) (c : Call) (there : numbered s.calls c.number ≡ Some c) (is_open : c.end ≡ None) (next : following s ≡ Some (action.HedgeWithheld c.number))
       (slot : CallSlot) (slot_there : slot_at x.book c.number ≡ Some slot) (sees : SeesCall x s c slot) (live : parts.has_none slot.call.live ≡ false)
-      (calm : next_transparent s ≡ None) where
+      (quiescent : next_transparent s ≡ None) where
     abbrev does_it : Action
     does_it = action.HedgeWithheld c.number
 
@@ -178,9 +178,9 @@ module _ (frames : Frames) (tokens_stay : TokensStay) (fair : LinesAreFair) (wit
     steady : IsSteady s c
     steady = record {
       turn = sees.turn;
-      calm =
+      quiescent =
           any_less (is_of c) (λ (a : Attempt). wants_follower a s) s.attempts
-          (any_none (λ (a : Attempt). wants_follower a s) s.attempts (unmapped (transparent_retry s) (find (λ (a : Attempt). wants_follower a s) s.attempts) calm));
+          (any_none (λ (a : Attempt). wants_follower a s) s.attempts (unmapped (transparent_retry s) (find (λ (a : Attempt). wants_follower a s) s.attempts) quiescent));
     }
 
     turned : StaysInOrder t c.number
@@ -198,12 +198,12 @@ module _ (frames : Frames) (tokens_stay : TokensStay) (fair : LinesAreFair) (wit
     limits : (a : Attempt) → limit_of_attempt a (record s { calls = t.calls }) ≡ limit_of_attempt a s
     limits a = read_same noted c.number s.calls (λ (k : Call). (chosen_of k s).response) message_limit (λ k. refl) a.row.call
 
-    heard_same : (a : Attempt) → response a t ≡ response a s
-    heard_same a = response_same s t.calls limits a
+    received_same : (a : Attempt) → response a t ≡ response a s
+    received_same a = response_same s t.calls limits a
 
     came_same : came c1 t ≡ came c s
     came_same =
-        or_alike (λ (k : Attempt). response_items (response k t)) (λ (k : Attempt). response_items (response k s)) [] (λ k. ap response_items (heard_same k)) (commitment c s)
+        or_alike (λ (k : Attempt). response_items (response k t)) (λ (k : Attempt). response_items (response k s)) [] (λ k. ap response_items (received_same k)) (commitment c s)
 
     holds_still : Holds t c1 slot2.call.buffer
     holds_still = (let was : Holds s c slot.call.buffer = sees.serves.holds is_open in record { fed = was.fed; held = was.held; committed = was.committed })
@@ -332,14 +332,14 @@ module _ (frames : Frames) (tokens_stay : TokensStay) (fair : LinesAreFair) (wit
         holds_alike (λ (a : Attempt). (a.row.call == k) && is_queued a t) (λ (a : Attempt). (a.row.call == k) && is_queued a s)
         (λ a. ap (λ (b : Bool). (a.row.call == k) && (is_none a.row.placed && is_none a.row.ended && not b)) (over_same a)) (numbered s.attempts row)
 
-    patient_same : (k : ℕ) → is_patient t k ≡ is_patient s k
-    patient_same k = holds_changed noted c.number s.calls (λ (d : Call). waits_for_ready d s) (λ d. refl) k
+    wait_for_ready_same : (k : ℕ) → is_ready_waiter t k ≡ is_ready_waiter s k
+    wait_for_ready_same k = holds_changed noted c.number s.calls (λ (d : Call). waits_for_ready d s) (λ d. refl) k
 
     queue_same : (k row : ℕ) → is_in_queue s k row ≡ is_in_queue t k row
-    queue_same k row = sym (ap (λ (b : Bool). b && not (is_patient t k)) (waiting_same k row) ∙ ap (λ (b : Bool). is_waiting s k row && not b) (patient_same k))
+    queue_same k row = sym (ap (λ (b : Bool). b && not (is_ready_waiter t k)) (waiting_same k row) ∙ ap (λ (b : Bool). is_waiting s k row && not b) (wait_for_ready_same k))
 
-    in_patient_same : (k row : ℕ) → is_in_patient s k row ≡ is_in_patient t k row
-    in_patient_same k row = sym (ap (λ (b : Bool). b && is_patient t k) (waiting_same k row) ∙ ap (λ (b : Bool). is_waiting s k row && b) (patient_same k))
+    in_ready_waiters_same : (k row : ℕ) → is_in_ready_waiters s k row ≡ is_in_ready_waiters t k row
+    in_ready_waiters_same k row = sym (ap (λ (b : Bool). b && is_ready_waiter t k) (waiting_same k row) ∙ ap (λ (b : Bool). is_waiting s k row && b) (wait_for_ready_same k))
 
     own_dues : (u : Seen) (d : Call) (at : Option ℕ) → numbered u.calls c.number ≡ Some d → due_of u d ≡ at → (m : ℕ) → is_in_dues u m c.number ≡ is_number m at
     own_dues u d at e f m = ap (holds (λ (k : Call). is_number m (due_of u k))) e ∙ ap (is_number m) f
@@ -347,26 +347,26 @@ module _ (frames : Frames) (tokens_stay : TokensStay) (fair : LinesAreFair) (wit
     own_deadlines : (u : Seen) (d : Call) (at : Option ℕ) → numbered u.calls c.number ≡ Some d → deadline_of u d ≡ at → (m : ℕ) → is_in_deadlines u m c.number ≡ is_number m at
     own_deadlines u d at e f m = ap (holds (λ (k : Call). is_number m (deadline_of u k))) e ∙ ap (is_number m) f
 
-    bare_same : (z k : ℕ) → is_in_bare s z k ≡ is_in_bare t z k
-    bare_same z k =
+    unconfigured_same : (z k : ℕ) → is_awaiting_config s z k ≡ is_awaiting_config t z k
+    unconfigured_same z k =
         sym (ap (λ (b : Bool). (z == 0) && b) (holds_changed noted c.number s.calls (λ (d : Call). is_open_call d && is_none d.config) (λ d. refl) k))
 
-    impatient_same : (z k : ℕ) → is_in_impatient s z k ≡ is_in_impatient t z k
-    impatient_same z k =
-        ap (λ (b : Bool). b && not (is_patient s k)) (bare_same z k) ∙ sym (ap (λ (b : Bool). is_in_bare t z k && not b) (patient_same k))
+    fail_fast_same : (z k : ℕ) → is_in_fail_fast s z k ≡ is_in_fail_fast t z k
+    fail_fast_same z k =
+        ap (λ (b : Bool). b && not (is_ready_waiter s k)) (unconfigured_same z k) ∙ sym (ap (λ (b : Bool). is_awaiting_config t z k && not b) (wait_for_ready_same k))
 
     sets : SeesSets y t
     sets = record {
       queue = exactly_by x.queue (is_in_queue s) (is_in_queue t) h.sets.queue queue_same;
-      patient = exactly_by x.patient (is_in_patient s) (is_in_patient t) h.sets.patient in_patient_same;
+      ready_waiters = exactly_by x.ready_waiters (is_in_ready_waiters s) (is_in_ready_waiters t) h.sets.ready_waiters in_ready_waiters_same;
       dues =
           timers_exactly c.number x.dues (is_in_dues s) slot.due slot2.due h.sets.dues (own_dues s c slot.due there sees.due) (is_in_dues t)
           (λ m k e. others.dues m k e) (own_dues t c1 slot2.due own_now own_due);
       deadlines =
           timers_exactly c.number x.deadlines (is_in_deadlines s) slot.deadline slot2.deadline h.sets.deadlines (own_deadlines s c slot.deadline there sees.deadline_is)
           (is_in_deadlines t) (λ m k e. others.deadlines m k e) (own_deadlines t c1 slot2.deadline own_now own_deadline);
-      bare = exactly_by x.bare (is_in_bare s) (is_in_bare t) h.sets.bare bare_same;
-      impatient = exactly_by x.impatient (is_in_impatient s) (is_in_impatient t) h.sets.impatient impatient_same;
+      awaiting_config = exactly_by x.awaiting_config (is_awaiting_config s) (is_awaiting_config t) h.sets.awaiting_config unconfigured_same;
+      fail_fast = exactly_by x.fail_fast (is_in_fail_fast s) (is_in_fail_fast t) h.sets.fail_fast fail_fast_same;
       outstanding = h.sets.outstanding;
       resets = h.sets.resets;
     }

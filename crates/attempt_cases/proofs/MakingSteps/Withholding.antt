@@ -20,7 +20,7 @@ use Rattle.channel_actions.proofs.Links.Settings.Firsts.{none_numbered}
 use Rattle.channel_actions.proofs.Stamps.{counted_at}
 use Rattle.channel_actions.specs.Agrees.{Agrees}
 use Rattle.channel_actions.specs.Calls.{HasSlot, lent_to}
-use Rattle.channel_actions.specs.Calm.{IsAt}
+use Rattle.channel_actions.specs.Quiescent.{IsAt}
 use Rattle.call_cases.proofs.ConfigActions.NetLines.{clock_stays, over_stays, wish_stays}
 use Rattle.attempt_cases.proofs.MakingSteps.Lists.{holds_alike, holds_changed}
 use Rattle.attempt_cases.proofs.MakingSteps.Step.{first_six, none_at}
@@ -64,9 +64,9 @@ use Rattle.session_actions.specs.declared.call.MarkKind.TheVariants as mark
 use Rattle.session_actions.specs.declared.entry.OpenEntry.{OpenEntry}
 use Rattle.session_actions.specs.declared.entry.Stage.TheVariants as stage
 use Rattle.session_actions.specs.declared.seen.Seen.{Seen}
-use Rattle.session_order.specs.Calm as order
-use Rattle.session_order.specs.Calm.{IsStill}
-use Rattle.session_order.specs.Laws.{CalmIsExact, QueuesStir}
+use Rattle.session_order.specs.Quiescent as order
+use Rattle.session_order.specs.Quiescent.{IsStill}
+use Rattle.session_order.specs.Laws.{QuiescenceIsExact, QueuesStir}
 use Rattle.session_order.specs.Stirs.{stirs}
 use Rattle.session_order.specs.declared.line.Line.{Line}
 use Rattle.session_order.specs.declared.line.Line.TheVariants as line
@@ -137,7 +137,7 @@ module _ (n due : ℕ) (slot : CallSlot) (x : StateSeen) (there : slot_at x.book
   pub withheld_is : made_one n x ≡ with_withheld n slot x
   withheld_is = ap sealed (asked ∙ timers_are) ∙ sealed_is
 
-module _ (exact : CalmIsExact) (stir : QueuesStir) (clocks : ClockChanges) (rests : ClockRests) (overs : TakeOversAreSame) (wishes : WishesConnect) (nones : NoneConnects)
+module _ (exact : QuiescenceIsExact) (stir : QueuesStir) (clocks : ClockChanges) (rests : ClockRests) (overs : TakeOversAreSame) (wishes : WishesConnect) (nones : NoneConnects)
     (frames : Frames) (tokens_stay : TokensStay) (fair : LinesAreFair) (withheld : HedgesAreWithheld) (keeps : WithheldKeep) (dues : AttemptsAreDue) (tested : HedgesAreTested)
     (x : StateSeen) (o : OpenEntry) (s0 : Seen) where
   abbrev s : Seen
@@ -155,10 +155,10 @@ module _ (exact : CalmIsExact) (stir : QueuesStir) (clocks : ClockChanges) (rest
         (Some action.EntryCloses) does_it tended.clock tended.take_over tended.connected tended.configs tended.pass first
 
     follows : following s ≡ Some does_it
-    follows = follows_by (of_calls o s) (of_links o s) (of_policies o s) (of_stage o s o.stage) does_it at.calm.calls at.calm.links at.calm.policies stage_gives
+    follows = follows_by (of_calls o s) (of_links o s) (of_policies o s) (of_stage o s o.stage) does_it at.quiescent.calls at.quiescent.links at.quiescent.policies stage_gives
 
     unretried : next_transparent s ≡ None
-    unretried = (or_parts_none (next_transparent s) _ (or_parts_none _ _ at.calm.calls).1).0
+    unretried = (or_parts_none (next_transparent s) _ (or_parts_none _ _ at.quiescent.calls).1).0
 
     own : HasSlot x s c c.number
     own = h.calls.each c.number c there
@@ -283,14 +283,14 @@ module _ (exact : CalmIsExact) (stir : QueuesStir) (clocks : ClockChanges) (rest
         none_too (is_final_end t) (is_final_end s) (λ q off. final_by q (q.row.call == c.number) refl (numbered s.calls q.row.call) refl off) s.attempts none
 
     -- nothing follows at once
-    calm : order.IsCalm o s
-    calm = (exact o s).0 (at.calm.calls, at.calm.links, at.calm.policies)
+    quiescent : order.IsQuiescent o s
+    quiescent = (exact o s).0 (at.quiescent.calls, at.quiescent.links, at.quiescent.policies)
 
     leaves : (l : Line) → stirs does_it l ≡ false → IsStill l p t
-    leaves l unstirred = stir.withheld c.number o s refl tt l p refl unstirred (calm l)
+    leaves l unstirred = stir.withheld c.number o s refl tt l p refl unstirred (quiescent l)
 
     still : (l : Line) → IsStill l p t
-    still line.Final = final_still (calm line.Final)
+    still line.Final = final_still (quiescent line.Final)
     still line.Inherited = leaves line.Inherited refl
     still line.Cut = leaves line.Cut refl
     still line.Transparent = leaves line.Transparent refl
@@ -315,7 +315,7 @@ module _ (exact : CalmIsExact) (stir : QueuesStir) (clocks : ClockChanges) (rest
     at_now = record {
       current = refl;
       stage_is = at.stage_is;
-      calm = (let back = (exact p t).1 still in record { calls = back.0; links = back.1; policies = back.2 });
+      quiescent = (let back = (exact p t).1 still in record { calls = back.0; links = back.1; policies = back.2 });
     }
 
     config_by : (m : ℕ) (d : Call) (b : Bool) → (m == c.number) ≡ b → numbered t.calls m ≡ Some d → config_action t d ≡ None
@@ -387,7 +387,7 @@ module _ (exact : CalmIsExact) (stir : QueuesStir) (clocks : ClockChanges) (rest
       subst (λ (n : ℕ). Leads (made_one n x) o s (IsDueDone n)) own
       (leads_withheld h at tended c (ap (numbered s.calls) own ∙ k.there) (from_either c (either s c (action.HedgeWithheld c.number) (k.gives ∙ given))) (k.first ∙ given) goes)
 
-pub one_is_withheld : CalmIsExact → QueuesStir → ClockChanges → ClockRests → TakeOversAreSame → WishesConnect → NoneConnects → Frames → TokensStay → LinesAreFair → HedgesAreWithheld
+pub one_is_withheld : QuiescenceIsExact → QueuesStir → ClockChanges → ClockRests → TakeOversAreSame → WishesConnect → NoneConnects → Frames → TokensStay → LinesAreFair → HedgesAreWithheld
     → WithheldKeep → AttemptsAreDue → HedgesAreTested → OneIsWithheld
 one_is_withheld exact stir clocks rests overs wishes nones frames tokens_stay fair withheld keeps dues tested number x o s h sound at tended k is goes =
     let P : Seen → Type 0 = λ u. Agrees x u → IsSound x u → IsAt stage.Settling o u → IsTended o u → (k : DueNext number u) → k.does ≡ action.HedgeWithheld number

@@ -10,7 +10,7 @@ use Rattle.grpc_base.specs.declared.address.Address.{Address}
 use Rattle.grpc_base.specs.declared.event.Conn.TheVariants as conn
 use Rattle.grpc_base.specs.declared.event.EndCause.TheVariants as ending
 use Rattle.grpc_base.specs.declared.kind.Kind.{Kind}
-use Rattle.attempt_cases.specs.NetChains.Chains.{IsApartCalm, IsChained, IsPickThere}
+use Rattle.attempt_cases.specs.NetChains.Chains.{IsApartQuiescent, IsChained, IsPickThere}
 use Rattle.attempt_cases.specs.NetChains.Laws.{ChainsAreNext}
 use Rattle.channel_actions.proofs.BoardActions.Boards.{one_boarded}
 use Rattle.channel_actions.specs.BoardActions.Boards.{IsBoarded, is_of_board}
@@ -32,7 +32,7 @@ use Rattle.session_actions.specs.declared.policy.PolicyUse.{PolicyUse}
 use Rattle.session_actions.specs.declared.seen.Seen.{Seen}
 use Rattle.session_actions.specs.declared.subchannel.Subchannel.{Subchannel}
 use Rattle.session_order.proofs.Boards.{with_sub_current}
-use Rattle.session_order.specs.Calm.{IsCalm, IsStill}
+use Rattle.session_order.specs.Quiescent.{IsQuiescent, IsStill}
 use Rattle.session_order.specs.Laws.{BoardsStir, LeavesApart, LinesAreStill, PoliciesStirApart}
 use Rattle.session_order.specs.Lines.{gives, is_of_policies}
 use Rattle.session_order.specs.declared.line.Line.{Line}
@@ -122,10 +122,10 @@ in_list : (p : Address → Bool) (xs : List Address) (a : Address) → find p xs
 in_list p [] a e = absurd (cc)
 in_list p (c ∷ xs) a e = found_by p c xs a (p c) refl e (in_list p xs a)
 
-module _ (stir : BoardsStir) (apart : PoliciesStirApart) (lines : LinesAreStill) (o : OpenEntry) (s : Seen) (current : s.current ≡ Some o) (calm : IsApartCalm o s)
+module _ (stir : BoardsStir) (apart : PoliciesStirApart) (lines : LinesAreStill) (o : OpenEntry) (s : Seen) (current : s.current ≡ Some o) (quiescent : IsApartQuiescent o s)
     (picks : IsPickThere s) where
   off : (l : Line) → is_of_policies l ≡ false → gives l o s ≡ None
-  off l e = (lines l o s).1 (calm l e)
+  off l e = (lines l o s).1 (quiescent l e)
 
   calls_none : of_calls o s ≡ None
   calls_none =
@@ -228,50 +228,50 @@ module _ (stir : BoardsStir) (apart : PoliciesStirApart) (lines : LinesAreStill)
   ends_by n line.Give = (lines line.Give o s).0 n.1.1.1.0
   ends_by n line.Drop = (lines line.Drop o s).0 n.1.1.1.1.0
   ends_by n line.Add = (lines line.Add o s).0 n.1.1.1.1.1.0
-  ends_by n line.Cut = calm line.Cut refl
-  ends_by n line.Transparent = calm line.Transparent refl
-  ends_by n line.Inherited = calm line.Inherited refl
-  ends_by n line.Row = calm line.Row refl
-  ends_by n line.Final = calm line.Final refl
-  ends_by n line.Cancelled = calm line.Cancelled refl
-  ends_by n line.Request = calm line.Request refl
-  ends_by n line.Response = calm line.Response refl
-  ends_by n line.Overflow = calm line.Overflow refl
-  ends_by n line.Head = calm line.Head refl
-  ends_by n line.Pick = calm line.Pick refl
-  ends_by n line.Link = calm line.Link refl
-  ends_by n line.WireEnd = calm line.WireEnd refl
-  ends_by n line.Reset = calm line.Reset refl
-  ends_by n line.Shut = calm line.Shut refl
+  ends_by n line.Cut = quiescent line.Cut refl
+  ends_by n line.Transparent = quiescent line.Transparent refl
+  ends_by n line.Inherited = quiescent line.Inherited refl
+  ends_by n line.Row = quiescent line.Row refl
+  ends_by n line.Final = quiescent line.Final refl
+  ends_by n line.Cancelled = quiescent line.Cancelled refl
+  ends_by n line.Request = quiescent line.Request refl
+  ends_by n line.Response = quiescent line.Response refl
+  ends_by n line.Overflow = quiescent line.Overflow refl
+  ends_by n line.Head = quiescent line.Head refl
+  ends_by n line.Pick = quiescent line.Pick refl
+  ends_by n line.Link = quiescent line.Link refl
+  ends_by n line.WireEnd = quiescent line.WireEnd refl
+  ends_by n line.Reset = quiescent line.Reset refl
+  ends_by n line.Shut = quiescent line.Shut refl
 
-  pub ends_calm : of_policies o s ≡ None → IsCalm o s
-  ends_calm none =
+  pub ends_quiescent : of_policies o s ≡ None → IsQuiescent o s
+  ends_quiescent none =
       ends_by (all_none (next_ended ending.Shut (is_shut_down s) s ∷ next_retired o s ∷ next_begun o s ∷ next_given o s ∷ next_shut s ∷ next_added s ∷ []) none)
 
 at_most : (k n m : ℕ) → k ≤ n → n ≤ m → k ≤ m
 at_most k n m e f = omega arith
 
 pub chains_are_next : BoardsStir → PoliciesStirApart → LinesAreStill → ChainsAreNext
-chains_are_next stir apart lines [] o s t all current calm picks = record {
+chains_are_next stir apart lines [] o s t all current quiescent picks = record {
   does = all.1;
   board = tt;
   posts = refl;
   current = ap (λ (v : Seen). v.current) all.1 ∙ current;
-  calm = subst (IsCalm o) (sym all.1) (ends_calm stir apart lines o s current calm picks all.0);
+  quiescent = subst (IsQuiescent o) (sym all.1) (ends_quiescent stir apart lines o s current quiescent picks all.0);
 }
-chains_are_next stir apart lines (a ∷ actions) o s t all current calm picks =
+chains_are_next stir apart lines (a ∷ actions) o s t all current quiescent picks =
     let u : Seen = after_in o a s in
-    let link : IsLink o s a = link_is stir apart lines o s current calm picks a all.0 in
+    let link : IsLink o s a = link_is stir apart lines o s current quiescent picks a all.0 in
     let after_is : after a s ≡ u = ap (λ (c : Option OpenEntry). after_if c a s) current in
     let on : u.current ≡ Some o = link.current ∙ current in
     let same : u.asks ≡ s.asks = ap (λ (v : Seen). v.asks) (subst (IsBoarded s) after_is (one_boarded s a link.board)) in
     let rest : IsChained actions o u t
-    = chains_are_next stir apart lines actions o u t all.1 on (λ l e. link.apart l o on e (calm l e))
+    = chains_are_next stir apart lines actions o u t all.1 on (λ l e. link.apart l o on e (quiescent l e))
     (λ ask sub is answer. at_most sub (length s.subs) (length u.subs) (picks ask sub (sym (ap last_of same) ∙ is) answer) link.more) in
     record {
-      does = (link.next (next_is stir apart lines o s current calm picks a all.0), subst (λ (v : Seen). Does actions v t) (sym after_is) rest.does);
+      does = (link.next (next_is stir apart lines o s current quiescent picks a all.0), subst (λ (v : Seen). Does actions v t) (sym after_is) rest.does);
       board = (link.board, rest.board);
       posts = none_on (a ∷ []) actions link.posts rest.posts;
       current = rest.current;
-      calm = rest.calm;
+      quiescent = rest.quiescent;
     }

@@ -15,7 +15,7 @@ use Rattle.attempt_cases.proofs.NetSettlings.Clocking.{IsAmid, rounds_on}
 use Rattle.attempt_cases.proofs.NetSettlings.Limits.{limits_form, slots_after, stamps_after, wanting}
 use Rattle.attempt_cases.specs.NetSettlings.Laws.{ClocksAreParts}
 use Rattle.channel_actions.proofs.BoardActions.Boards.{boards_leave_rest}
-use Rattle.channel_actions.proofs.BoardActions.Calm.{of_order, to_order}
+use Rattle.channel_actions.proofs.BoardActions.Quiescent.{of_order, to_order}
 use Rattle.attempt_cases.proofs.NetSteps.Clocks.{clock_goes_on, now_goes_on}
 use Rattle.attempt_cases.proofs.NetSteps.Stepped.{net_steps_keep}
 use Rattle.attempt_cases.proofs.NetSteps.Subbed.{current_stays}
@@ -25,7 +25,7 @@ use Rattle.call_cases.specs.OtherCalls.Laws.{AllCallsStay, SetsStay}
 use Rattle.session_actions.specs.Entries.{now}
 use Rattle.session_actions.specs.declared.entry.OpenEntry.{OpenEntry}
 use Rattle.session_actions.specs.declared.seen.Seen.{Seen}
-use Rattle.session_order.specs.Laws.{BoardsStir, CalmIsExact}
+use Rattle.session_order.specs.Laws.{BoardsStir, QuiescenceIsExact}
 use Rattle.subchannel.specs.Boards.{first_number}
 use Rattle.subchannel.specs.Records.{is_due}
 
@@ -37,7 +37,7 @@ clocked_is x =
     let l : NetLeft = net_clocked x.book.moment x.net in
     limits_form x l.net x.drawn x.book.ledger.generations l.gone x.resolver x.links x.book.ledger.links
 
-pub clocks_are_parts : CalmIsExact → BoardsStir → ClockChanges → ClockRests → AllCallsStay → SetsStay → KeptAlong → LinksStay → ClocksAreParts
+pub clocks_are_parts : QuiescenceIsExact → BoardsStir → ClockChanges → ClockRests → AllCallsStay → SetsStay → KeptAlong → LinksStay → ClocksAreParts
 clocks_are_parts exact stir clocks rests calls_stay sets_stay kept_along links_stay x o s h joined at begun =
     let l : NetLeft = net_clocked x.book.moment x.net in
     let y : StateSeen
@@ -48,7 +48,7 @@ clocks_are_parts exact stir clocks rests calls_stay sets_stay kept_along links_s
       board = tt;
       posts = refl;
       current = at.current;
-      still = to_order exact o s at.calm;
+      still = to_order exact o s at.quiescent;
       sees = h.net;
       generations = refl;
       joined = joined;
@@ -87,7 +87,7 @@ clocks_are_parts exact stir clocks rests calls_stay sets_stay kept_along links_s
           entries = ap (λ (v : Seen). v.entries) boarded;
           setup = ap (λ (v : Seen). v.setup) boarded;
         };
-        at = record { current = m.current; stage_is = at.stage_is; calm = of_order exact o u m.still };
+        at = record { current = m.current; stage_is = at.stage_is; quiescent = of_order exact o u m.still };
         agrees = subst (λ (v : StateSeen). Agrees v u) (sym (clocked_is x)) agrees;
       };
       reply = refl;

@@ -9,13 +9,13 @@ use Rattle.channel_actions.proofs.Settles.{follows_by}
 use Rattle.channel_actions.proofs.Does.{does_on, none_on}
 use Rattle.channel_actions.proofs.Gone.{all_numbered}
 use Rattle.channel_actions.specs.Agrees.{Agrees}
-use Rattle.channel_actions.specs.Calm.{IsAt, IsCalm}
+use Rattle.channel_actions.specs.Quiescent.{IsAt, IsQuiescent}
 use Rattle.channel_actions.specs.Columns.{links_noted}
 use Rattle.channel_actions.specs.Links.{HasLink, SeesLinks}
 use Rattle.channel_core.proofs.BookLaws.{number_changed, number_other}
 use Rattle.channel_core.proofs.Resting.{changed_length}
 use Rattle.channel_core.specs.States.{StateSeen}
-use Rattle.channel_core.specs.Tables.{buried}
+use Rattle.channel_core.specs.Tables.{marked_dead}
 use Rattle.channel_core.specs.declared.state.links.LinkSlot.{LinkSlot}
 use Rattle.channel_net.specs.Lists.{link_of}
 use Rattle.channel_net.specs.Steps.{NetLeft, NetSeen, clock_round, clock_rounds, clocked_at, left}
@@ -25,7 +25,7 @@ use Rattle.channel_actions.specs.KeptSessions.Kept.{IsKept, came_up, is_sound_su
 use Rattle.channel_actions.specs.KeptSessions.Laws.{KeptAlong}
 use Rattle.lb_policy.specs.Table.{is_ready}
 use Rattle.ledger_stamps.specs.Steps.{changed_at, gone_link}
-use Rattle.channel_actions.specs.LinkFrames.Alike.{CannotTell}
+use Rattle.channel_actions.specs.LinkFrames.Alike.{CannotDistinguish}
 use Rattle.channel_actions.specs.LinkFrames.Laws.{LinksStay}
 use Rattle.net_actions.proofs.Subs.{Both, both_at}
 use Rattle.net_actions.specs.Laws.{ClockChanges, EndsBackoff, TimesOut}
@@ -34,13 +34,13 @@ use Rattle.attempt_cases.proofs.NetSettlings.Limits.{slots_after, slots_more, st
 use Rattle.attempt_cases.proofs.NetSettlings.Overdue.{fails, gives_up, none_still, some_still, timed_none, timed_some}
 use Rattle.attempt_cases.proofs.NetSettlings.Unlinked.{joined_after, link_if, same_links, subs_after}
 use Rattle.attempt_cases.proofs.NetSettlings.Stamped.{map_stamped, stamp_over}
-use Rattle.channel_actions.specs.GreetedLinks.Joined.{AreJoined}
-use Rattle.attempt_cases.proofs.NetSteps.Alike.{links_cannot_tell, still, untold_links_agree}
+use Rattle.channel_actions.specs.PrefacedLinks.Joined.{PrefacedLinksAreJoined}
+use Rattle.attempt_cases.proofs.NetSteps.Alike.{links_cannot_distinguish, still, untold_links_agree}
 use Rattle.channel_actions.proofs.BoardActions.Boards.{boards_leave_rest, one_boarded, subbed}
-use Rattle.channel_actions.proofs.BoardActions.Calm.{of_order}
+use Rattle.channel_actions.proofs.BoardActions.Quiescent.{of_order}
 use Rattle.attempt_cases.proofs.NetSteps.Clocks.{entry_goes_on, now_goes_on}
 use Rattle.attempt_cases.proofs.NetSteps.Subbed.{noted_gone_same, noted_same, subbed_generations, subbed_links, subbed_shut, subbed_subs}
-use Rattle.channel_actions.specs.BoardActions.Boards.{AreOfBoard, IsBoarded, is_of_board}
+use Rattle.channel_actions.specs.BoardActions.Boards.{ActionsAreOfBoard, IsBoarded, is_of_board}
 use Rattle.attempt_cases.specs.NetSteps.Steps.{netted}
 use Rattle.session_actions.specs.Actions.{after, after_if, config_action, first_action, following, following_in, of_calls, of_links, of_policies, of_settling, of_stage}
 use Rattle.session_actions.specs.Closing.{noted_gone}
@@ -64,8 +64,8 @@ use Rattle.session_actions.specs.declared.seen.Seen.{Seen}
 use Rattle.session_actions.specs.declared.subchannel.Subchannel.{Subchannel}
 use Rattle.session_order.proofs.Boards.{connecting_live, with_sub_current}
 use Rattle.session_order.proofs.Changed.{changed_away, changed_map}
-use Rattle.session_order.specs.Calm as order
-use Rattle.session_order.specs.Laws.{BoardsStir, CalmIsExact}
+use Rattle.session_order.specs.Quiescent as order
+use Rattle.session_order.specs.Laws.{BoardsStir, QuiescenceIsExact}
 use Rattle.subchannel.specs.Boards.{first_number}
 use Rattle.subchannel.specs.Records.{is_due}
 
@@ -73,13 +73,13 @@ use Rattle.subchannel.specs.Records.{is_due}
 pub record IsAmid (x : StateSeen) (o : OpenEntry) (s : Seen) (l : NetLeft) (t : Seen) : Type 0 where
   pub actions : List Action
   pub does : Does actions s t
-  pub board : AreOfBoard actions
+  pub board : ActionsAreOfBoard actions
   pub posts : posted_in actions ≡ []
   pub current : t.current ≡ Some o
-  pub still : order.IsCalm o t
+  pub still : order.IsQuiescent o t
   pub sees : Sees t l.net
   pub generations : map (λ (g : PolicyUse). g.generation) t.policies ≡ map (λ (g : PolicyUse). g.generation) s.policies
-  pub joined : AreJoined t
+  pub joined : PrefacedLinksAreJoined t
   pub links : SeesLinks (netted l.net x.drawn (wanting l.gone x.resolver) (slots_after l.gone x.links) x.book.ledger.generations (stamps_after x.book.ledger.entry l.gone x.book.ledger.links) x) t
   pub noted : links_noted t ≡ stamps_after x.book.ledger.entry l.gone x.book.ledger.links
 
@@ -88,12 +88,12 @@ settling_gives : (o : OpenEntry) (t : Seen) (a : Action) → next_of_clock t ≡
 settling_gives o t a e =
     ap (λ (d : Option Action). first_action (d ∷ next_take_over t ∷ next_connected t ∷ first_of (config_action t) t.calls ∷ next_of_pass o t ∷ next_due_attempt t ∷ next_of_queue t ∷ Some action.EntryCloses ∷ [])) e
 
-pub clock_next : (exact : CalmIsExact) (o : OpenEntry) (t : Seen) (a : Action) → t.current ≡ Some o → o.stage ≡ stage.Settling → order.IsCalm o t
+pub clock_next : (exact : QuiescenceIsExact) (o : OpenEntry) (t : Seen) (a : Action) → t.current ≡ Some o → o.stage ≡ stage.Settling → order.IsQuiescent o t
     → next_of_clock t ≡ Some a → following t ≡ Some a
 clock_next exact o t a current at still e =
-    let calm : IsCalm o t = of_order exact o t still in
+    let quiescent : IsQuiescent o t = of_order exact o t still in
     ap (option_and_then (following_in t)) current
-    ∙ follows_by (of_calls o t) (of_links o t) (of_policies o t) (of_stage o t o.stage) a calm.calls calm.links calm.policies (ap (of_stage o t) at ∙ settling_gives o t a e)
+    ∙ follows_by (of_calls o t) (of_links o t) (of_policies o t) (of_stage o t o.stage) a quiescent.calls quiescent.links quiescent.policies (ap (of_stage o t) at ∙ settling_gives o t a e)
 
 -- the one that gives it
 pub record HasSub (t : Seen) (a : Action) : Type 0 where
@@ -164,11 +164,11 @@ long_if : (f : Link → Link) (n : ℕ) (xs : List Link) (o : Option Link) → l
 long_if f n xs None = refl
 long_if f n xs (Some x) = length-set xs (pred n) (f x)
 
-pub board_on : (these those : List Action) → AreOfBoard these → AreOfBoard those → AreOfBoard (these ++ those)
+pub board_on : (these those : List Action) → ActionsAreOfBoard these → ActionsAreOfBoard those → ActionsAreOfBoard (these ++ those)
 board_on [] those h k = k
 board_on (a ∷ these) those h k = (h.0, board_on these those h.1 k)
 
-module _ (exact : CalmIsExact) (stir : BoardsStir) (clocks : ClockChanges) (kept_along : KeptAlong) (links_stay : LinksStay)
+module _ (exact : QuiescenceIsExact) (stir : BoardsStir) (clocks : ClockChanges) (kept_along : KeptAlong) (links_stay : LinksStay)
     (x : StateSeen) (o : OpenEntry) (s : Seen) (h : Agrees x s) (at : IsAt stage.Settling o s) where
   abbrev E : ℕ
   E = x.book.ledger.entry
@@ -201,16 +201,16 @@ module _ (exact : CalmIsExact) (stir : BoardsStir) (clocks : ClockChanges) (kept
       entry_on : entry u ≡ entry t
       entry_on = entry_goes_on t u o o one_on m.current current
 
-      further : (k : NetLeft) → order.IsCalm o u → Sees u k.net
-          → map (λ (g : PolicyUse). g.generation) u.policies ≡ map (λ (g : PolicyUse). g.generation) t.policies → AreJoined u
+      further : (k : NetLeft) → order.IsQuiescent o u → Sees u k.net
+          → map (λ (g : PolicyUse). g.generation) u.policies ≡ map (λ (g : PolicyUse). g.generation) t.policies → PrefacedLinksAreJoined u
           → SeesLinks (z k) u → links_noted u ≡ stamps_after E k.gone x.book.ledger.links → IsAmid x o s k u
-      further k calm sees generations joined links noted = record {
+      further k quiescent sees generations joined links noted = record {
         actions = m.actions ++ a ∷ [];
         does = does_on m.actions (a ∷ []) s t u m.does (next, sym does);
         board = board_on m.actions (a ∷ []) m.board (board, tt);
         posts = none_on m.actions (a ∷ []) m.posts posts;
         current = current;
-        still = calm;
+        still = quiescent;
         sees = sees;
         generations = generations ∙ m.generations;
         joined = joined;
@@ -219,10 +219,10 @@ module _ (exact : CalmIsExact) (stir : BoardsStir) (clocks : ClockChanges) (kept
       }
 
       -- no link changed
-      unlinked : (n : NetSeen) → u.links ≡ t.links → order.IsCalm o u → Sees u n
-          → map (λ (g : PolicyUse). g.generation) u.policies ≡ map (λ (g : PolicyUse). g.generation) t.policies → AreJoined u → IsAmid x o s (left n l.gone) u
-      unlinked n same calm sees generations joined =
-          further (left n l.gone) calm sees generations joined
+      unlinked : (n : NetSeen) → u.links ≡ t.links → order.IsQuiescent o u → Sees u n
+          → map (λ (g : PolicyUse). g.generation) u.policies ≡ map (λ (g : PolicyUse). g.generation) t.policies → PrefacedLinksAreJoined u → IsAmid x o s (left n l.gone) u
+      unlinked n same quiescent sees generations joined =
+          further (left n l.gone) quiescent sees generations joined
           (untold_links_agree links_stay (z l) (z (left n l.gone)) t u kept kept_on one_on same refl m.links)
           (noted_same t u one_on entry_on shut same ∙ m.noted)
 
@@ -248,25 +248,25 @@ module _ (exact : CalmIsExact) (stir : BoardsStir) (clocks : ClockChanges) (kept
           let number : sub ≡ suc q.place = sym two.1 ∙ both.is.number_is ∙ (let up : 1 + q.place ≡ suc q.place = omega arith in up) in
           let there : numbered t.subs sub ≡ Some b = ap (numbered t.subs) number ∙ q.there in
           let fails_now : is_failure b.state ≡ true = first_true (is_failure b.state) (holds (λ (w : ℕ). nat_le w (now t)) b.again) two.0 in
-          let bare : both.r.linked ≡ false = shaped_failure both.r.state both.r.until both.r.linked both.is.shape (sym (ap is_failure both.is.state) ∙ fails_now) in
+          let awaiting_config : both.r.linked ≡ false = shaped_failure both.r.state both.r.until both.r.linked both.is.shape (sym (ap is_failure both.is.state) ∙ fails_now) in
           let free : link_of l.net.links sub ≡ None
-          = ap (link_of l.net.links) (sym two.1 ∙ both.is.number_is) ∙ no_link (link_of l.net.links (1 + q.place)) both.r.linked both.is.linked bare in
+          = ap (link_of l.net.links) (sym two.1 ∙ both.is.number_is) ∙ no_link (link_of l.net.links (1 + q.place)) both.r.linked both.is.linked awaiting_config in
           let u : Seen = with_sub (in_state conn.Idle) sub t in
           let does : after a t ≡ u = ap (λ (c : Option OpenEntry). after_if c a t) m.current in
           let current : u.current ≡ Some o = with_sub_current t sub (in_state conn.Idle) ∙ m.current in
           let next : following t ≡ Some a = clock_next exact o t a m.current at.stage_is m.still ends.0 in
           let live : is_shutdown b.state ≡ false = failure_live b.state fails_now in
           let shut : (k : ℕ) → is_shutdown_sub u k ≡ is_shutdown_sub t k = subbed_shut (in_state conn.Idle) sub t b there (sym live) in
-          let calm : order.IsCalm o u = λ line. stir.rested sub o t m.current (b, there, fails_now) line o current refl (m.still line) in
+          let quiescent : order.IsQuiescent o u = λ line. stir.rested sub o t m.current (b, there, fails_now) line o current refl (m.still line) in
           let sees : Sees u r.net = subst (λ (w : ℕ). Sees u (clock_round w l).net) now_is (ends.1 l.gone) in
-          let joined : AreJoined u
+          let joined : PrefacedLinksAreJoined u
           = joined_after t u m.joined
           (λ n k c here has. subs_after (in_state conn.Idle) (λ d i e. e) sub t b there n k c (ap (λ (xs : List Subchannel). numbered xs n) (sym (subbed_subs (in_state conn.Idle) sub t)) ∙ here) has)
           (λ n w here. same_links t n w (ap (λ (ls : List Link). numbered ls n) (sym (subbed_links (in_state conn.Idle) sub t)) ∙ here))
           (ap (λ (v : Seen). v.attempts) (subbed (in_state conn.Idle) sub t)) in (
             u,
             subst (λ (k : NetLeft). IsAmid x o s k u) (sym (round_is l.gone (gone_is ∙ none_gone l.gone (link_of l.net.links sub) free)))
-                (unlinked a refl refl next u does current shut r.net (subbed_links (in_state conn.Idle) sub t) calm sees (subbed_generations (in_state conn.Idle) sub t) joined),
+                (unlinked a refl refl next u does current shut r.net (subbed_links (in_state conn.Idle) sub t) quiescent sees (subbed_generations (in_state conn.Idle) sub t) joined),
           )
 
       -- a dial took too long
@@ -330,12 +330,12 @@ module _ (exact : CalmIsExact) (stir : BoardsStir) (clocks : ClockChanges) (kept
         undialled : b.link ≡ None → (u : Seen) × IsAmid x o s r u
         undialled none =
             let same : connect_timed_out sub t ≡ v = timed_none t o sub b there connects m.joined m.still none in
-            let calm : order.IsCalm o v = subst (order.IsCalm o) same (none_still t o sub b there connects m.joined m.still none) in
-            let joined : AreJoined v
+            let quiescent : order.IsQuiescent o v = subst (order.IsQuiescent o) same (none_still t o sub b there connects m.joined m.still none) in
+            let joined : PrefacedLinksAreJoined v
             = joined_after t v m.joined v_subs (λ n w here. same_links t n w (ap (λ (ls : List Link). numbered ls n) (sym v_links) ∙ here)) v_rows in (
               v,
               subst (λ (k : NetLeft). IsAmid x o s k v) (sym (round_is l.gone (gone_is ∙ none_gone l.gone (link_of l.net.links sub) (own ∙ none))))
-                  (unlinked a refl refl next v (does ∙ same) v_current shut r.net v_links calm (subst (λ (w : Seen). Sees w r.net) same sees) generations joined),
+                  (unlinked a refl refl next v (does ∙ same) v_current shut r.net v_links quiescent (subst (λ (w : Seen). Sees w r.net) same sees) generations joined),
             )
 
         module _ (k : ℕ) (up : b.link ≡ Some k) where
@@ -348,13 +348,13 @@ module _ (exact : CalmIsExact) (stir : BoardsStir) (clocks : ClockChanges) (kept
           here : (w : Link) × (numbered t.links k ≡ Some w)
           here = the_link (numbered t.links k) (came t b.link (not (is_ready b.state)) k up (all_numbered (is_sound_sub t) t.subs sub b there kept.boards))
 
-          calm : order.IsCalm o u
-          calm = subst (order.IsCalm o) same (some_still t o sub b there connects m.joined m.still k up here.0 here.1)
+          quiescent : order.IsQuiescent o u
+          quiescent = subst (order.IsQuiescent o) same (some_still t o sub b there connects m.joined m.still k up here.0 here.1)
 
           u_links : u.links ≡ changed gives_up k t.links
           u_links = ap (changed gives_up k) v_links
 
-          joined : AreJoined u
+          joined : PrefacedLinksAreJoined u
           joined =
               joined_after t u m.joined v_subs
               (λ n w is. link_if k t n w (n == k) refl (ap (λ (ls : List Link). numbered ls n) (sym u_links) ∙ is)) v_rows
@@ -380,18 +380,18 @@ module _ (exact : CalmIsExact) (stir : BoardsStir) (clocks : ClockChanges) (kept
           slots : (n : ℕ) → touched n ≡ false → numbered (slots_after (l.gone ++ k ∷ []) x.links) n ≡ numbered (slots_after l.gone x.links) n
           slots n off =
               ap (λ (ls : List LinkSlot). numbered ls n) (slots_more l.gone k x.links)
-              ∙ number_other buried (slots_after l.gone x.links) k n (λ e. eqb-false k n off (sym e))
+              ∙ number_other marked_dead (slots_after l.gone x.links) k n (λ e. eqb-false k n off (sym e))
 
-          untold : CannotTell touched t u
+          untold : CannotDistinguish touched t u
           untold =
-              links_cannot_tell touched t u on
+              links_cannot_distinguish touched t u on
               (λ n w off is.
               (w, sym (ap (λ (ls : List Link). numbered ls n) u_links ∙ changed_away gives_up k n t.links (λ e. eqb-false k n off (sym e))) ∙ is, still w))
 
           long : length u.links ≡ length (slots_after (l.gone ++ k ∷ []) x.links)
           long =
               ap (λ (ls : List Link). length ls) u_links ∙ long_if gives_up k t.links (numbered t.links k) ∙ m.links.count
-              ∙ sym (ap (λ (ls : List LinkSlot). length ls) (slots_more l.gone k x.links) ∙ changed_length buried (slots_after l.gone x.links) k)
+              ∙ sym (ap (λ (ls : List LinkSlot). length ls) (slots_more l.gone k x.links) ∙ changed_length marked_dead (slots_after l.gone x.links) k)
 
           has_it : (w : Link) → numbered u.links k ≡ Some w → HasLink (z f) u w k
           has_it w is =
@@ -401,8 +401,8 @@ module _ (exact : CalmIsExact) (stir : BoardsStir) (clocks : ClockChanges) (kept
               let both_links : Some w ≡ Some (gives_up here.0) = sym is ∙ now_there in
               let one : w ≡ gives_up here.0 = (cc) in
               subst (λ (c : Link). HasLink (z f) u c k) (sym one) (record {
-                slot = buried old.slot;
-                there = ap (λ (ls : List LinkSlot). numbered ls k) (slots_more l.gone k x.links) ∙ number_changed buried (slots_after l.gone x.links) k ∙ ap (option_map buried) old.there;
+                slot = marked_dead old.slot;
+                there = ap (λ (ls : List LinkSlot). numbered ls k) (slots_more l.gone k x.links) ∙ number_changed marked_dead (slots_after l.gone x.links) k ∙ ap (option_map marked_dead) old.there;
                 sees = record { over = refl; retiring = old.sees.retiring; going = λ goes. absurd (let bad : Some over.TimedOut ≡ None = goes in (cc)) };
               })
 
@@ -429,7 +429,7 @@ module _ (exact : CalmIsExact) (stir : BoardsStir) (clocks : ClockChanges) (kept
           given = (
             u,
             subst (λ (c : NetLeft). IsAmid x o s c u) (sym (round_is (l.gone ++ k ∷ []) gone_now))
-                (further a refl refl next u (does ∙ same) v_current shut f calm (subst (λ (w : Seen). Sees w r.net) same sees) generations joined sees_links noted),
+                (further a refl refl next u (does ∙ same) v_current shut f quiescent (subst (λ (w : Seen). Sees w r.net) same sees) generations joined sees_links noted),
           )
 
         times_by : (p : Option ℕ) → b.link ≡ p → (u : Seen) × IsAmid x o s r u

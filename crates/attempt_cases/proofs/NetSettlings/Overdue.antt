@@ -5,7 +5,7 @@ use Rattle.std.specs.Option.{option_map, option_map_or, option_or}
 use Rattle.std.specs.Prelude.{option_and_then}
 use Rattle.attempt_ledger.specs.declared.row.Placed.{Placed}
 use Rattle.grpc_base.specs.declared.event.Conn.TheVariants as conn
-use Rattle.channel_actions.specs.GreetedLinks.Joined.{AreJoined}
+use Rattle.channel_actions.specs.PrefacedLinks.Joined.{PrefacedLinksAreJoined}
 use Rattle.channel_actions.proofs.BoardActions.Boards.{subbed}
 use Rattle.attempt_cases.proofs.NetSteps.Subbed.{subbed_links, subbed_subs}
 use Rattle.session_actions.specs.AttemptEnds.{lost_end, outcome_on}
@@ -29,8 +29,8 @@ use Rattle.session_order.proofs.Limits.{then_same}
 use Rattle.session_order.proofs.Lists.{any_in}
 use Rattle.session_order.proofs.Overs.{over_still}
 use Rattle.session_order.proofs.Posts.{wanted_still}
-use Rattle.session_order.specs.Calm as order
-use Rattle.session_order.specs.Calm.{IsStill, is_link_new, is_to_end}
+use Rattle.session_order.specs.Quiescent as order
+use Rattle.session_order.specs.Quiescent.{IsStill, is_link_new, is_to_end}
 use Rattle.session_order.specs.declared.line.Line.{Line}
 use Rattle.session_order.specs.declared.line.Line.TheVariants as line
 
@@ -70,8 +70,8 @@ and_no true true c e h = absurd (cc)
 and_no true false c e h = refl
 and_no false b c e h = absurd (cc)
 
-module _ (t : Seen) (o : OpenEntry) (n : ℕ) (b : Subchannel) (at : numbered t.subs n ≡ Some b) (connects : is_connecting b.state ≡ true) (joined : AreJoined t)
-    (still : order.IsCalm o t) where
+module _ (t : Seen) (o : OpenEntry) (n : ℕ) (b : Subchannel) (at : numbered t.subs n ≡ Some b) (connects : is_connecting b.state ≡ true) (joined : PrefacedLinksAreJoined t)
+    (still : order.IsQuiescent o t) where
   abbrev v : Seen
   v = with_sub fails n (wants_resolution t)
 
@@ -126,7 +126,7 @@ module _ (t : Seen) (o : OpenEntry) (n : ℕ) (b : Subchannel) (at : numbered t.
     off_link : (row : ℕ) (a : Attempt) (p : Placed) → numbered v.attempts row ≡ Some a → a.row.placed ≡ Some p → p.link ≡ k → ⊥
     off_link row a p here placed is =
         let came : has_settings l ≡ true
-        = joined.greeted row a p l (ap (λ (xs : List Attempt). numbered xs row) (sym rows) ∙ here) placed (ap (numbered t.links) is ∙ there) in
+        = joined.prefaced row a p l (ap (λ (xs : List Attempt). numbered xs row) (sym rows) ∙ here) placed (ap (numbered t.links) is ∙ there) in
         let bad : true ≡ false = sym came ∙ not_ready k l own there in absurd (cc)
 
     placed_by : (row : ℕ) (a : Attempt) → numbered v.attempts row ≡ Some a → (p : Option Placed) → a.row.placed ≡ p
@@ -186,8 +186,8 @@ module _ (t : Seen) (o : OpenEntry) (n : ℕ) (b : Subchannel) (at : numbered t.
       ∙ beside (changed gives_up k t.links) (wants_resolution t) n
       ∙ ap (λ (ls : List Link). record v { links = changed gives_up k ls }) (sym v_links)
 
-  pub none_still : b.link ≡ None → order.IsCalm o (connect_timed_out n t)
+  pub none_still : b.link ≡ None → order.IsQuiescent o (connect_timed_out n t)
   none_still none l = subst (IsStill l o) (sym (timed_none none)) (v_still l)
 
-  pub some_still : (k : ℕ) (own : b.link ≡ Some k) (l : Link) → numbered t.links k ≡ Some l → order.IsCalm o (connect_timed_out n t)
+  pub some_still : (k : ℕ) (own : b.link ≡ Some k) (l : Link) → numbered t.links k ≡ Some l → order.IsQuiescent o (connect_timed_out n t)
   some_still k own l there x = subst (IsStill x o) (sym (timed_some k own)) (w_still k own l there x)

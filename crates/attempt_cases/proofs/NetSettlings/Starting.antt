@@ -8,7 +8,7 @@ use Rattle.lb_policy.specs.Steps.{noted, noted_sub}
 use Rattle.lb_policy.specs.Table.{PolicySeen, first_tier, has_state, is_among, is_one_of, is_open, is_ready, state_by, state_of, state_of_kind, tier, tier_has_failed, tier_is_ready}
 use Rattle.lb_policy.specs.declared.seen.SubSeen.{SubSeen}
 
--- two views that policies cannot tell by their states
+-- two views that policies cannot distinguish by their states
 pub record IsLike (a b : SubSeen) : Type 0 where
   pub number : b.sub ≡ a.sub
   pub ready : is_ready b.state ≡ is_ready a.state

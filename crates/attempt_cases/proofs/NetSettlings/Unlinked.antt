@@ -3,7 +3,7 @@ use Rattle.std.proofs.Common.{◌≡◌, ◌==◌, ap, refl, sym, ◌∙◌, Boo
 use Rattle.std.proofs.lemmas.Bool.{eqb-false, eqb-true}
 use Rattle.std.specs.Option.{option_map}
 use Rattle.attempt_cases.proofs.NetSettlings.Overdue.{gives_up}
-use Rattle.channel_actions.specs.GreetedLinks.Joined.{AreJoined}
+use Rattle.channel_actions.specs.PrefacedLinks.Joined.{PrefacedLinksAreJoined}
 use Rattle.session_actions.specs.Links.{has_settings}
 use Rattle.session_actions.specs.Words.{changed, numbered}
 use Rattle.session_actions.specs.declared.attempt.Attempt.{Attempt}
@@ -14,26 +14,26 @@ use Rattle.session_order.proofs.Boards.{same_sub}
 use Rattle.session_order.proofs.Changed.{changed_away, changed_map}
 
 -- where the links of subchannels and attempts come from
-pub joined_after : (t u : Seen) → AreJoined t
+pub joined_after : (t u : Seen) → PrefacedLinksAreJoined t
     → ((n k : ℕ) (c : Subchannel) → numbered u.subs n ≡ Some c → c.link ≡ Some k → (b : Subchannel) × ((numbered t.subs n ≡ Some b) × (b.link ≡ Some k)))
     → ((m : ℕ) (q : Link) → numbered u.links m ≡ Some q → (l : Link) × ((numbered t.links m ≡ Some l) × ((q.sub ≡ l.sub) × (has_settings q ≡ has_settings l))))
-    → u.attempts ≡ t.attempts → AreJoined u
+    → u.attempts ≡ t.attempts → PrefacedLinksAreJoined u
 joined_after t u h subs links rows = record {
   own = λ n k c q here has there.
       let b = subs n k c here has in
       let l = links k q there in
       l.1.1.0 ∙ h.own n k b.0 l.0 b.1.0 b.1.1 l.1.0;
-  greeted = λ row a at q here placed there.
+  prefaced = λ row a at q here placed there.
       let l = links at.link q there in
-      l.1.1.1 ∙ h.greeted row a at l.0 (ap (λ (xs : List Attempt). numbered xs row) (sym rows) ∙ here) placed l.1.0;
+      l.1.1.1 ∙ h.prefaced row a at l.0 (ap (λ (xs : List Attempt). numbered xs row) (sym rows) ∙ here) placed l.1.0;
 }
 
-module _ (f : Subchannel → Subchannel) (narrow : (b : Subchannel) (k : ℕ) → (f b).link ≡ Some k → b.link ≡ Some k) (n : ℕ) (t : Seen) where
+module _ (f : Subchannel → Subchannel) (restricted : (b : Subchannel) (k : ℕ) → (f b).link ≡ Some k → b.link ≡ Some k) (n : ℕ) (t : Seen) where
   one_sub : (b c : Subchannel) (k : ℕ) → numbered t.subs n ≡ Some b → numbered (changed f n t.subs) n ≡ Some c → c.link ≡ Some k
       → (d : Subchannel) × ((numbered t.subs n ≡ Some d) × (d.link ≡ Some k))
   one_sub b c k there here has =
       let same : f b ≡ c = same_sub (f b) c (numbered (changed f n t.subs) n) (changed_map f n t.subs ∙ ap (option_map f) there) here in
-      (b, (there, narrow b k (ap (λ (x : Subchannel). x.link) same ∙ has)))
+      (b, (there, restricted b k (ap (λ (x : Subchannel). x.link) same ∙ has)))
 
   sub_if : (j k : ℕ) (c : Subchannel) (b : Subchannel) (is : Bool) → (j == n) ≡ is → numbered t.subs n ≡ Some b → numbered (changed f n t.subs) j ≡ Some c → c.link ≡ Some k
       → (d : Subchannel) × ((numbered t.subs j ≡ Some d) × (d.link ≡ Some k))

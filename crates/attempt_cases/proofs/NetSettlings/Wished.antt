@@ -19,7 +19,7 @@ use Rattle.net_actions.specs.Sees.{Sees}
 use Rattle.attempt_cases.proofs.NetSettlings.Wishing.{IsDone, IsOn, connect_on, none_over}
 use Rattle.attempt_cases.specs.NetSettlings.Laws.{WishesAreParts}
 use Rattle.channel_actions.proofs.BoardActions.Boards.{boards_leave_rest}
-use Rattle.channel_actions.proofs.BoardActions.Calm.{of_order, to_order}
+use Rattle.channel_actions.proofs.BoardActions.Quiescent.{of_order, to_order}
 use Rattle.attempt_cases.proofs.NetSteps.Clocks.{clock_goes_on}
 use Rattle.attempt_cases.proofs.NetSteps.Stepped.{net_steps_keep}
 use Rattle.attempt_cases.proofs.NetSteps.Subbed.{current_stays}
@@ -31,7 +31,7 @@ use Rattle.session_actions.specs.Policies.{next_take_over}
 use Rattle.session_actions.specs.declared.action.Action.TheVariants as action
 use Rattle.session_actions.specs.declared.entry.OpenEntry.{OpenEntry}
 use Rattle.session_actions.specs.declared.seen.Seen.{Seen}
-use Rattle.session_order.specs.Laws.{BoardsStir, CalmIsExact}
+use Rattle.session_order.specs.Laws.{BoardsStir, QuiescenceIsExact}
 
 -- a policy takes over in neither, or in both
 some_by : (p : Option Live) (may : Bool) (c : Option Live → Bool) → may ≡ c p → c None ≡ false
@@ -77,7 +77,7 @@ net_settled_is x m e f =
     ap (λ (l : NetLeft). links_left l (with_generations (net.settled_stamps x.book.ledger.entry x.net x.book.ledger.generations) x)) e
     ∙ ap (λ (g : List Generation). links_left (left m []) (with_generations g x)) f
 
-pub wishes_are_parts : CalmIsExact → BoardsStir → TakeOversAreSame → WishesConnect → NoneConnects → AllCallsStay → SetsStay → KeptAlong → LinksStay → WishesAreParts
+pub wishes_are_parts : QuiescenceIsExact → BoardsStir → TakeOversAreSame → WishesConnect → NoneConnects → AllCallsStay → SetsStay → KeptAlong → LinksStay → WishesAreParts
 wishes_are_parts exact stir overs wishes none_connects calls_stay sets_stay kept_along links_stay x o s h joined at begun =
     let may : may_take_over x.net.asker.rack ≡ false = may_not overs s x.net h.net begun.take_over in
     let base : IsOn x o s x.book.ledger.generations x.book.ledger.links x.net s = record {
@@ -86,7 +86,7 @@ wishes_are_parts exact stir overs wishes none_connects calls_stay sets_stay kept
       board = tt;
       posts = refl;
       current = at.current;
-      still = to_order exact o s at.calm;
+      still = to_order exact o s at.quiescent;
       sees = h.net;
       ages = h.columns.generations;
       joined = joined;
@@ -130,7 +130,7 @@ wishes_are_parts exact stir overs wishes none_connects calls_stay sets_stay kept
           entries = ap (λ (v : Seen). v.entries) boarded;
           setup = ap (λ (v : Seen). v.setup) boarded;
         };
-        at = record { current = m.current; stage_is = at.stage_is; calm = of_order exact o u m.still };
+        at = record { current = m.current; stage_is = at.stage_is; quiescent = of_order exact o u m.still };
         agrees = subst (λ (v : StateSeen). Agrees v u) (sym same) agrees;
       };
       reply = refl;

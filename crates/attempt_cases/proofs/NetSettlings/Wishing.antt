@@ -8,7 +8,7 @@ use Rattle.attempt_ledger.specs.declared.ledger.LinkSeen.{LinkSeen}
 use Rattle.channel_actions.proofs.Does.{does_on, none_on}
 use Rattle.channel_actions.proofs.Settles.{follows_by}
 use Rattle.channel_actions.specs.Agrees.{Agrees}
-use Rattle.channel_actions.specs.Calm.{IsAt, IsCalm}
+use Rattle.channel_actions.specs.Quiescent.{IsAt, IsQuiescent}
 use Rattle.channel_actions.specs.Columns.{links_noted}
 use Rattle.channel_actions.specs.Links.{SeesLinks}
 use Rattle.channel_core.specs.States.{StateSeen}
@@ -23,17 +23,17 @@ use Rattle.lb_policy.specs.Table.{PolicySeen, state_of}
 use Rattle.channel_actions.specs.LinkFrames.Laws.{LinksStay}
 use Rattle.net_actions.proofs.Subs.{Both, both_at}
 use Rattle.net_actions.specs.Laws.{TakeOversAreSame, WishesConnect}
-use Rattle.net_actions.specs.Sees.{AreApart, IsShaped, IsUse, Sees}
+use Rattle.net_actions.specs.Sees.{UsesAreApart, IsShaped, IsUse, Sees}
 use Rattle.attempt_cases.proofs.NetSettlings.Clocking.{board_on, first_true, no_link}
 use Rattle.attempt_cases.proofs.NetSettlings.Unlinked.{joined_after, same_links, subs_after}
 use Rattle.attempt_cases.proofs.NetSettlings.Starting.{AreIdleIn, IsIdleIn, starting_state}
-use Rattle.channel_actions.specs.GreetedLinks.Joined.{AreJoined}
+use Rattle.channel_actions.specs.PrefacedLinks.Joined.{PrefacedLinksAreJoined}
 use Rattle.attempt_cases.proofs.NetSteps.Alike.{untold_links_agree}
 use Rattle.channel_actions.proofs.BoardActions.Boards.{one_boarded, subbed}
-use Rattle.channel_actions.proofs.BoardActions.Calm.{of_order}
+use Rattle.channel_actions.proofs.BoardActions.Quiescent.{of_order}
 use Rattle.attempt_cases.proofs.NetSteps.Clocks.{entry_goes_on, now_goes_on}
 use Rattle.attempt_cases.proofs.NetSteps.Subbed.{noted_same, subbed_generations, subbed_links, subbed_shut, subbed_subs}
-use Rattle.channel_actions.specs.BoardActions.Boards.{AreOfBoard, IsBoarded}
+use Rattle.channel_actions.specs.BoardActions.Boards.{ActionsAreOfBoard, IsBoarded}
 use Rattle.policy_rack.specs.Steps as rack
 use Rattle.policy_rack.specs.Steps.{may_follow, may_take_over}
 use Rattle.policy_rack.specs.declared.live.Live.{Live}
@@ -55,20 +55,20 @@ use Rattle.session_actions.specs.declared.policy.PolicyUse.{PolicyUse}
 use Rattle.session_actions.specs.declared.seen.Seen.{Seen}
 use Rattle.session_actions.specs.declared.subchannel.Subchannel.{Subchannel}
 use Rattle.session_order.proofs.Boards.{with_sub_current}
-use Rattle.session_order.specs.Calm as order
-use Rattle.session_order.specs.Laws.{BoardsStir, CalmIsExact}
+use Rattle.session_order.specs.Quiescent as order
+use Rattle.session_order.specs.Laws.{BoardsStir, QuiescenceIsExact}
 
 -- a point of the rounds
 pub record IsOn (x : StateSeen) (o : OpenEntry) (s : Seen) (generations : List Generation) (stamps : List LinkSeen) (n : NetSeen) (t : Seen) : Type 0 where
   pub actions : List Action
   pub does : Does actions s t
-  pub board : AreOfBoard actions
+  pub board : ActionsAreOfBoard actions
   pub posts : posted_in actions ≡ []
   pub current : t.current ≡ Some o
-  pub still : order.IsCalm o t
+  pub still : order.IsQuiescent o t
   pub sees : Sees t n
   pub ages : map (λ (g : PolicyUse). g.generation) t.policies ≡ generations
-  pub joined : AreJoined t
+  pub joined : PrefacedLinksAreJoined t
   pub links : SeesLinks x t
   pub noted : links_noted t ≡ stamps
   pub clock : next_of_clock t ≡ None
@@ -190,7 +190,7 @@ module _ (t : Seen) (sub : ℕ) (idle : (addresses : List Address) → AreIdleIn
       let same : p ≡ policy_of g t = (cc) in
       subst (λ (q : PolicySeen). state_of (f q) ≡ state_of q) (sym same) (starting_state sub (policy_of g t) (idle g.addresses))
 
-  may_by : (current pending : Option Live) (policies : List PolicySeen) → AreApart current pending
+  may_by : (current pending : Option Live) (policies : List PolicySeen) → UsesAreApart current pending
       → ((lv : Live) → current ≡ Some lv → (p : PolicySeen) → slice_get policies lv.place ≡ Some p → state_of (f p) ≡ state_of p)
       → ((lv : Live) → pending ≡ Some lv → (p : PolicySeen) → slice_get policies lv.place ≡ Some p → state_of (f p) ≡ state_of p)
       → may_follow (option_map state_of (rack.policy_of (rack.changed_of f pending (rack.changed_of f current policies)) current))
@@ -222,7 +222,7 @@ if_none_over : (b : Bool) (o : Option Action) → b ≡ false → (if b then o e
 if_none_over true o e = absurd (cc)
 if_none_over false o e = refl
 
-module _ (exact : CalmIsExact) (stir : BoardsStir) (overs : TakeOversAreSame) (wishes : WishesConnect) (kept_along : KeptAlong) (links_stay : LinksStay)
+module _ (exact : QuiescenceIsExact) (stir : BoardsStir) (overs : TakeOversAreSame) (wishes : WishesConnect) (kept_along : KeptAlong) (links_stay : LinksStay)
     (x : StateSeen) (o : OpenEntry) (s : Seen) (h : Agrees x s) (at : IsAt stage.Settling o s) (ages : List Generation) (stamps : List LinkSeen) where
   pub none_over : (n : NetSeen) (t : Seen) → Sees t n → may_take_over n.asker.rack ≡ false → next_take_over t ≡ None
   none_over n t sees may =
@@ -265,8 +265,8 @@ module _ (exact : CalmIsExact) (stir : BoardsStir) (overs : TakeOversAreSame) (w
     unlinked : b.link ≡ None
     unlinked = both.is.link_is ∙ no_link _ both.r.linked both.is.linked shaped.1
 
-    calm : IsCalm o t
-    calm = of_order exact o t m.still
+    quiescent : IsQuiescent o t
+    quiescent = of_order exact o t m.still
 
     gives : of_stage o t o.stage ≡ Some a
     gives =
@@ -278,7 +278,7 @@ module _ (exact : CalmIsExact) (stir : BoardsStir) (overs : TakeOversAreSame) (w
     next : following t ≡ Some a
     next =
         ap (option_and_then (following_in t)) m.current
-        ∙ follows_by (of_calls o t) (of_links o t) (of_policies o t) (of_stage o t o.stage) a calm.calls calm.links calm.policies gives
+        ∙ follows_by (of_calls o t) (of_links o t) (of_policies o t) (of_stage o t o.stage) a quiescent.calls quiescent.links quiescent.policies gives
 
     does : after a t ≡ u
     does = ap (λ (c : Option OpenEntry). after_if c a t) m.current

@@ -13,7 +13,7 @@ use Rattle.session_actions.specs.declared.attempt.Attempt.{Attempt}
 use Rattle.session_actions.specs.declared.call.Call.{Call}
 use Rattle.session_actions.specs.declared.link.Link.{Link}
 use Rattle.session_actions.specs.declared.seen.Seen.{Seen}
-use Rattle.call_actions.specs.TakesApart.Heard.{is_on, passes_on}
+use Rattle.call_actions.specs.TakesApart.Received.{is_on, passes_on}
 
 beyond : {X : Type 0} (xs : List X) → slice_get xs (length xs) ≡ None
 beyond [] = refl

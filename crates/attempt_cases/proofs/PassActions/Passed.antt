@@ -1,7 +1,7 @@
 -- A pass over the queue, attempt by attempt.
 use Rattle.std.proofs.Common.{◌≡◌, ◌||◌, inl, refl, sym, ◌∙◌, Bool, true, false, Option, None, Some, ℕ, zero, suc}
 use Rattle.channel_actions.specs.Agrees.{Agrees}
-use Rattle.channel_actions.specs.Calm.{IsAt}
+use Rattle.channel_actions.specs.Quiescent.{IsAt}
 use Rattle.channel_core.specs.Settling.{also, most, passed, passed_on, served, stays}
 use Rattle.channel_core.specs.States.{StateSeen}
 use Rattle.channel_core.specs.Steps.{Moved, next_served}

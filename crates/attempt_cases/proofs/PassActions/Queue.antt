@@ -1,4 +1,4 @@
--- Which attempt the channel serves next, by its sets: one of the session that waits, and stands behind the one before. And where it serves none, the session
+-- Which attempt the channel serves next, by its sets: one of the session that waits, and stands after the one before. And where it serves none, the session
 -- asks for none.
 use Rattle.std.proofs.Common.{◌≡◌, ◌&&◌, ◌||◌, ◌==◌, ◌∙◌, ◌∷◌, ap, arith, cond, refl, sym, Bool, true, false, List, [], None, Option, Some, ℕ, zero, suc, ◌⊎◌, inl, inr, filter, find, if◌then◌else◌, nat_lt, not, slice_get}
 use Rattle.std.proofs.lemmas.Bool.{and_from, and_parts}
@@ -8,7 +8,7 @@ use Rattle.std.specs.Prelude.{option_and_then}
 use Rattle.channel_actions.proofs.KeptSessions.Lists.{counted_places, own_number}
 use Rattle.channel_actions.proofs.Links.Settings.Pairs.{same_is, self_same}
 use Rattle.channel_actions.specs.Agrees.{Agrees}
-use Rattle.channel_actions.specs.Sets.{is_in_patient, is_in_queue, is_patient, is_waiting}
+use Rattle.channel_actions.specs.Sets.{is_in_ready_waiters, is_in_queue, is_ready_waiter, is_waiting}
 use Rattle.channel_net.specs.Steps.{net_state}
 use Rattle.channel_core.specs.States.{StateSeen}
 use Rattle.channel_core.specs.Steps.{next_served, served_in}
@@ -16,7 +16,7 @@ use Rattle.channel_core.specs.Timing.{first_pair}
 use Rattle.grpc_base.specs.declared.event.Conn.{Conn}
 use Rattle.grpc_base.specs.declared.event.Conn.TheVariants as conn
 use Rattle.net_actions.specs.Laws.{StatesAreSame}
-use Rattle.picker_gate.specs.Pairs.{has, is_behind, is_same, next_behind}
+use Rattle.picker_gate.specs.Pairs.{has, comes_after, is_same, next_after}
 use Rattle.session_actions.specs.Attempts.{call_of, is_queued}
 use Rattle.session_actions.specs.Configs.{waits_for_ready}
 use Rattle.session_actions.specs.Policies.{asking, current_policy, is_queued_before, is_served, is_served_by, next_asked, policy_state}
@@ -103,26 +103,26 @@ waits_of p s e = waits_in p s (numbered s.attempts p.1) refl e
 
 -- which pair of the channel's sets is served
 module _ (x : StateSeen) (s : Seen) (h : Agrees x s) where
-  in_queue : (last p : ℕ × ℕ) → next_behind x.queue last ≡ Some p → (is_behind last p ≡ true) × (Waits p s)
+  in_queue : (last p : ℕ × ℕ) → next_after x.queue last ≡ Some p → (comes_after last p ≡ true) × (Waits p s)
   in_queue last p e =
-      let found = first_found (is_behind last) x.queue p e in
+      let found = first_found (comes_after last) x.queue p e in
       let test : is_in_queue s p.0 p.1 ≡ true = sym (h.sets.queue.exact p.0 p.1) ∙ found.1 in
-      (found.0, waits_of p s (and_parts (is_waiting s p.0 p.1) (not (is_patient s p.0)) test).0)
+      (found.0, waits_of p s (and_parts (is_waiting s p.0 p.1) (not (is_ready_waiter s p.0)) test).0)
 
-  in_patient : (last p : ℕ × ℕ) → next_behind x.patient last ≡ Some p → (is_behind last p ≡ true) × (Waits p s)
-  in_patient last p e =
-      let found = first_found (is_behind last) x.patient p e in
-      let test : is_in_patient s p.0 p.1 ≡ true = sym (h.sets.patient.exact p.0 p.1) ∙ found.1 in
-      (found.0, waits_of p s (and_parts (is_waiting s p.0 p.1) (is_patient s p.0) test).0)
+  in_ready_waiters : (last p : ℕ × ℕ) → next_after x.ready_waiters last ≡ Some p → (comes_after last p ≡ true) × (Waits p s)
+  in_ready_waiters last p e =
+      let found = first_found (comes_after last) x.ready_waiters p e in
+      let test : is_in_ready_waiters s p.0 p.1 ≡ true = sym (h.sets.ready_waiters.exact p.0 p.1) ∙ found.1 in
+      (found.0, waits_of p s (and_parts (is_waiting s p.0 p.1) (is_ready_waiter s p.0) test).0)
 
-  in_either : (last p : ℕ × ℕ) → first_pair (next_behind x.queue last) (next_behind x.patient last) ≡ Some p → (is_behind last p ≡ true) × (Waits p s)
+  in_either : (last p : ℕ × ℕ) → first_pair (next_after x.queue last) (next_after x.ready_waiters last) ≡ Some p → (comes_after last p ≡ true) × (Waits p s)
   in_either last p e =
-      elim (one_of (next_behind x.queue last) (next_behind x.patient last) p e) [
+      elim (one_of (next_after x.queue last) (next_after x.ready_waiters last) p e) [
         | inl one ↦ in_queue last p one
-        | inr one ↦ in_patient last p one
+        | inr one ↦ in_ready_waiters last p one
       ]
 
-  waits_by : (o : Option Conn) (last p : ℕ × ℕ) → served_in o last x ≡ Some p → (is_behind last p ≡ true) × (Waits p s)
+  waits_by : (o : Option Conn) (last p : ℕ × ℕ) → served_in o last x ≡ Some p → (comes_after last p ≡ true) × (Waits p s)
   waits_by None last p e = absurd (let bad : None ≡ Some p = e in (cc))
   waits_by (Some conn.Idle) last p e = absurd (let bad : None ≡ Some p = e in (cc))
   waits_by (Some conn.Connecting) last p e = absurd (let bad : None ≡ Some p = e in (cc))
@@ -130,38 +130,38 @@ module _ (x : StateSeen) (s : Seen) (h : Agrees x s) where
   waits_by (Some conn.Failure) last p e = in_queue last p e
   waits_by (Some conn.Shutdown) last p e = absurd (let bad : None ≡ Some p = e in (cc))
 
-  pub next_waits : (last p : ℕ × ℕ) → next_served last x ≡ Some p → (is_behind last p ≡ true) × (Waits p s)
+  pub next_waits : (last p : ℕ × ℕ) → next_served last x ≡ Some p → (comes_after last p ≡ true) × (Waits p s)
   next_waits last p e = waits_by (net_state x.net) last p e
 
-  -- none is served where none waits behind the last one
-  module _ (last : ℕ × ℕ) (a : Attempt) (own : numbered s.attempts a.place ≡ Some a) (queued : is_queued a s ≡ true) (behind : is_behind last (a.row.call, a.place) ≡ true) where
+  -- none is served where none waits after the last one
+  module _ (last : ℕ × ℕ) (a : Attempt) (own : numbered s.attempts a.place ≡ Some a) (queued : is_queued a s ≡ true) (afterwards : comes_after last (a.row.call, a.place) ≡ true) where
     waiting : is_waiting s a.row.call a.place ≡ true
     waiting =
         ap (holds (λ (b : Attempt). (b.row.call == a.row.call) && is_queued b s)) own
         ∙ and_from (a.row.call == a.row.call) (is_queued a s) (equal_is a.row.call a.row.call refl) queued
 
-    not_in_queue : next_behind x.queue last ≡ None → is_patient s a.row.call ≡ false → ⊥
+    not_in_queue : next_after x.queue last ≡ None → is_ready_waiter s a.row.call ≡ false → ⊥
     not_in_queue e off =
-        let test : is_in_queue s a.row.call a.place ≡ true = and_from (is_waiting s a.row.call a.place) (not (is_patient s a.row.call)) waiting (ap not off) in
+        let test : is_in_queue s a.row.call a.place ≡ true = and_from (is_waiting s a.row.call a.place) (not (is_ready_waiter s a.row.call)) waiting (ap not off) in
         let there : has x.queue (a.row.call, a.place) ≡ true = h.sets.queue.exact a.row.call a.place ∙ test in
-        let bad : true ≡ false = sym behind ∙ none_found (is_behind last) x.queue (a.row.call, a.place) e there in
+        let bad : true ≡ false = sym afterwards ∙ none_found (comes_after last) x.queue (a.row.call, a.place) e there in
         (cc)
 
-    not_in_patient : next_behind x.patient last ≡ None → is_patient s a.row.call ≡ true → ⊥
-    not_in_patient e on =
-        let test : is_in_patient s a.row.call a.place ≡ true = and_from (is_waiting s a.row.call a.place) (is_patient s a.row.call) waiting on in
-        let there : has x.patient (a.row.call, a.place) ≡ true = h.sets.patient.exact a.row.call a.place ∙ test in
-        let bad : true ≡ false = sym behind ∙ none_found (is_behind last) x.patient (a.row.call, a.place) e there in
+    not_in_wait_for_ready : next_after x.ready_waiters last ≡ None → is_ready_waiter s a.row.call ≡ true → ⊥
+    not_in_wait_for_ready e on =
+        let test : is_in_ready_waiters s a.row.call a.place ≡ true = and_from (is_waiting s a.row.call a.place) (is_ready_waiter s a.row.call) waiting on in
+        let there : has x.ready_waiters (a.row.call, a.place) ≡ true = h.sets.ready_waiters.exact a.row.call a.place ∙ test in
+        let bad : true ≡ false = sym afterwards ∙ none_found (comes_after last) x.ready_waiters (a.row.call, a.place) e there in
         (cc)
 
-    not_ready : (b : Bool) → is_patient s a.row.call ≡ b → first_pair (next_behind x.queue last) (next_behind x.patient last) ≡ None → ⊥
-    not_ready true is e = not_in_patient (neither (next_behind x.queue last) (next_behind x.patient last) e).1 is
-    not_ready false is e = not_in_queue (neither (next_behind x.queue last) (next_behind x.patient last) e).0 is
+    not_ready : (b : Bool) → is_ready_waiter s a.row.call ≡ b → first_pair (next_after x.queue last) (next_after x.ready_waiters last) ≡ None → ⊥
+    not_ready true is e = not_in_wait_for_ready (neither (next_after x.queue last) (next_after x.ready_waiters last) e).1 is
+    not_ready false is e = not_in_queue (neither (next_after x.queue last) (next_after x.ready_waiters last) e).0 is
 
-    -- a call that does not wait for ready is not patient
-    hasty : (o : Option Call) → call_of a s ≡ o → holds (λ (c : Call). not (waits_for_ready c s)) o ≡ true → is_patient s a.row.call ≡ false
-    hasty None is e = absurd (let bad : false ≡ true = e in (cc))
-    hasty (Some c) is e = ap (holds (λ (d : Call). waits_for_ready d s)) is ∙ flipped (waits_for_ready c s) e
+    -- a call that does not wait for ready is no ready waiter
+    fail_fast : (o : Option Call) → call_of a s ≡ o → holds (λ (c : Call). not (waits_for_ready c s)) o ≡ true → is_ready_waiter s a.row.call ≡ false
+    fail_fast None is e = absurd (let bad : false ≡ true = e in (cc))
+    fail_fast (Some c) is e = ap (holds (λ (d : Call). waits_for_ready d s)) is ∙ flipped (waits_for_ready c s) e
       where
         flipped : (b : Bool) → not b ≡ true → b ≡ false
         flipped true e = absurd (let bad : false ≡ true = e in (cc))
@@ -171,8 +171,8 @@ module _ (x : StateSeen) (s : Seen) (h : Agrees x s) where
     none_state None e served = (let bad : false ≡ true = served in (cc))
     none_state (Some conn.Idle) e served = (let bad : false ≡ true = served in (cc))
     none_state (Some conn.Connecting) e served = (let bad : false ≡ true = served in (cc))
-    none_state (Some conn.Ready) e served = not_ready (is_patient s a.row.call) refl e
-    none_state (Some conn.Failure) e served = not_in_queue e (hasty (call_of a s) refl served)
+    none_state (Some conn.Ready) e served = not_ready (is_ready_waiter s a.row.call) refl e
+    none_state (Some conn.Failure) e served = not_in_queue e (fail_fast (call_of a s) refl served)
     none_state (Some conn.Shutdown) e served = (let bad : false ≡ true = served in (cc))
 
 policy_holds : (s : Seen) (a : Attempt) (o : Option PolicyUse)
@@ -192,8 +192,8 @@ two_off true false never = refl
 two_off false c never = refl
 
 pub none_asks : (state : StatesAreSame) (x : StateSeen) (s : Seen) (h : Agrees x s) (last : ℕ × ℕ) (test : Attempt → Bool)
-    → ((a : Attempt) (i : ℕ) → a.place ≡ suc i → test a ≡ true → is_behind last (a.row.call, a.place) ≡ true) → next_served last x ≡ None → next_asked test s ≡ None
-none_asks state x s h last test behind e =
+    → ((a : Attempt) (i : ℕ) → a.place ≡ suc i → test a ≡ true → comes_after last (a.row.call, a.place) ≡ true) → next_served last x ≡ None → next_asked test s ≡ None
+none_asks state x s h last test afterwards e =
     let each : (i : ℕ) (a : Attempt) → slice_get s.attempts i ≡ Some a → (is_served s a && test a) ≡ false
     = λ i a got. two_off (is_served s a) (test a) (λ served passes.
     let both = and_parts (is_queued a s) (holds (λ (g : PolicyUse). is_served_by (policy_state g s) a s) (current_policy s)) served in
@@ -201,6 +201,6 @@ none_asks state x s h last test behind e =
     let at : a.place ≡ suc i = counted_places (λ (b : Attempt). b.place) s.attempts h.kept.attempts (suc i) a got in
     let now : holds (λ (c : Conn). is_served_by c a s) (net_state x.net) ≡ true
     = sym (ap (holds (λ (c : Conn). is_served_by c a s)) (state s x.net h.net)) ∙ sym (policy_holds s a (current_policy s)) ∙ both.1 in
-    none_state x s h last a own both.0 (behind a i at passes) (net_state x.net) e now) in
+    none_state x s h last a own both.0 (afterwards a i at passes) (net_state x.net) e now) in
     let none : filter (λ (a : Attempt). is_served s a && test a) s.attempts ≡ [] = none_passes (λ (a : Attempt). is_served s a && test a) s.attempts each in
     ap (λ (l : List Attempt). option_and_then (asking s) (foremost is_queued_before l)) none

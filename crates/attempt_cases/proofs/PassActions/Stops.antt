@@ -1,4 +1,4 @@
--- Where the channel serves none, a pass is over; and a pass comes to its end, since each attempt that it serves stands behind the one before.
+-- Where the channel serves none, a pass is over; and a pass comes to its end, since each attempt that it serves stands after the one before.
 use Rattle.std.proofs.Common.{◌≡◌, ◌<◌, ◌≤◌, ◌+◌, ◌*◌, ◌&&◌, ◌||◌, ◌==◌, ◌∙◌, ap, arith, refl, sym, Bool, true, false, None, Option, Some, ℕ, zero, suc, inl, inr, is_some, length, nat_lt, ◌⊎◌}
 use Rattle.std.proofs.lemmas.Bool.Decides.{nat_tests}
 use Rattle.std.proofs.lemmas.List.{length-map}
@@ -6,7 +6,7 @@ use Rattle.std.specs.Prelude.{option_and_then}
 use Rattle.call_actions.proofs.Places.{places_below}
 use Rattle.channel_actions.proofs.Gone.{all_numbered}
 use Rattle.channel_actions.specs.Agrees.{Agrees}
-use Rattle.channel_actions.specs.Calm.{IsAt}
+use Rattle.channel_actions.specs.Quiescent.{IsAt}
 use Rattle.attempt_cases.proofs.PassActions.Queue.{Waits, next_waits, none_asks}
 use Rattle.attempt_cases.specs.PassActions.Serves.{IsBeginning, IsPassing, IsServed, PassesEnd, PassesStop, ServeSteps, is_passed, is_passed_by, turn_of}
 use Rattle.channel_actions.specs.SoundCalls.Sound.{to_come}
@@ -15,7 +15,7 @@ use Rattle.channel_core.specs.Settling.{also, most, served, stays}
 use Rattle.channel_core.specs.States.{StateSeen}
 use Rattle.channel_core.specs.Steps.{Moved, next_served}
 use Rattle.net_actions.specs.Laws.{StatesAreSame}
-use Rattle.picker_gate.specs.Pairs.{is_behind}
+use Rattle.picker_gate.specs.Pairs.{comes_after}
 use Rattle.session_actions.specs.Attempts.{call_of}
 use Rattle.session_actions.specs.Policies.{is_after, next_asked, next_of_pass, next_of_queue}
 use Rattle.session_actions.specs.declared.attempt.Attempt.{Attempt}
@@ -25,24 +25,24 @@ use Rattle.session_actions.specs.declared.entry.Stage.TheVariants as stage
 use Rattle.session_actions.specs.declared.entry.Turn.{Turn}
 use Rattle.session_actions.specs.declared.seen.Seen.{Seen}
 
--- the begin of a pass stands in front of all
-first_behind : (c i : ℕ) → is_behind (0, 0) (c, suc i) ≡ true
-first_behind c i = grind (arith, nat_tests)
+-- the begin of a pass stands before all
+first_after : (c i : ℕ) → comes_after (0, 0) (c, suc i) ≡ true
+first_after c i = grind (arith, nat_tests)
 
-after_behind : (p q : ℕ × ℕ) → (nat_lt p.0 q.0 || ((p.0 == q.0) && nat_lt p.1 q.1)) ≡ true → is_behind p q ≡ true
-after_behind p q e = grind (arith, nat_tests)
+after_afterwards : (p q : ℕ × ℕ) → (nat_lt p.0 q.0 || ((p.0 == q.0) && nat_lt p.1 q.1)) ≡ true → comes_after p q ≡ true
+after_afterwards p q e = grind (arith, nat_tests)
 
 module _ (state : StatesAreSame) (last : ℕ × ℕ) (x : StateSeen) (o : OpenEntry) (s : Seen) (h : Agrees x s) (none : next_served last x ≡ None) where
-  behind_first : last ≡ (0, 0) → (a : Attempt) (i : ℕ) → a.place ≡ suc i → true ≡ true → is_behind last (a.row.call, a.place) ≡ true
-  behind_first zero_ a i at e =
-      ap (λ (p : ℕ × ℕ). is_behind p (a.row.call, a.place)) zero_ ∙ ap (λ (n : ℕ). is_behind (0, 0) (a.row.call, n)) at ∙ first_behind a.row.call i
+  after_the_first : last ≡ (0, 0) → (a : Attempt) (i : ℕ) → a.place ≡ suc i → true ≡ true → comes_after last (a.row.call, a.place) ≡ true
+  after_the_first zero_ a i at e =
+      ap (λ (p : ℕ × ℕ). comes_after p (a.row.call, a.place)) zero_ ∙ ap (λ (n : ℕ). comes_after (0, 0) (a.row.call, n)) at ∙ first_after a.row.call i
 
   no_queue : IsBeginning last o s → next_of_queue s ≡ None
-  no_queue begin = none_asks state x s h last (λ (a : Attempt). true) (behind_first begin.none) none
+  no_queue begin = none_asks state x s h last (λ (a : Attempt). true) (after_the_first begin.none) none
 
   no_further : next_asked (is_after (turn_of last)) s ≡ None
   no_further =
-      none_asks state x s h last (is_after (turn_of last)) (λ a i at e. after_behind last (a.row.call, a.place) e) none
+      none_asks state x s h last (is_after (turn_of last)) (λ a i at e. after_afterwards last (a.row.call, a.place) e) none
 
   no_pass : IsPassing last o s → next_of_pass o s ≡ None
   no_pass passing =
@@ -55,7 +55,7 @@ pub passes_stop : StatesAreSame → PassesStop
 passes_stop state last x o s h sound at passing none =
     record { pass = no_pass state last x o s h none passing; queue = no_queue state last x o s h none }
 
--- by how much a pair is behind the first one
+-- by how much a pair is after the first one
 abbrev weight : ℕ × ℕ → ℕ
 weight p = 8796093022208 * p.0 + p.1
 
@@ -63,8 +63,8 @@ pub record IsLow (p : ℕ × ℕ) : Type 0 where
   pub call : p.0 ≤ 1048576
   pub row : p.1 < 8796093022208
 
-behind_parts : (p q : ℕ × ℕ) → is_behind p q ≡ true → ((p.0 + 1 ≤ q.0) ⊎ ((p.0 ≡ q.0) × (p.1 + 1 ≤ q.1)))
-behind_parts p q e = by_less (nat_lt p.0 q.0) refl
+after_parts : (p q : ℕ × ℕ) → comes_after p q ≡ true → ((p.0 + 1 ≤ q.0) ⊎ ((p.0 ≡ q.0) × (p.1 + 1 ≤ q.1)))
+after_parts p q e = by_less (nat_lt p.0 q.0) refl
   where
     by_less : (b : Bool) → nat_lt p.0 q.0 ≡ b → ((p.0 + 1 ≤ q.0) ⊎ ((p.0 ≡ q.0) × (p.1 + 1 ≤ q.1)))
     by_less true l = inl (less p.0 q.0 l)
@@ -73,16 +73,16 @@ behind_parts p q e = by_less (nat_lt p.0 q.0) refl
         less a b l = grind (arith, nat_tests)
     by_less false l = inr (same p q e l, further p q e l)
       where
-        same : (p q : ℕ × ℕ) → is_behind p q ≡ true → nat_lt p.0 q.0 ≡ false → p.0 ≡ q.0
+        same : (p q : ℕ × ℕ) → comes_after p q ≡ true → nat_lt p.0 q.0 ≡ false → p.0 ≡ q.0
         same p q e l = grind (arith, nat_tests)
 
-        further : (p q : ℕ × ℕ) → is_behind p q ≡ true → nat_lt p.0 q.0 ≡ false → p.1 + 1 ≤ q.1
+        further : (p q : ℕ × ℕ) → comes_after p q ≡ true → nat_lt p.0 q.0 ≡ false → p.1 + 1 ≤ q.1
         further p q e l = grind (arith, nat_tests)
 
-heavier : (p q : ℕ × ℕ) → IsLow p → is_behind p q ≡ true → weight p + 1 ≤ weight q
+heavier : (p q : ℕ × ℕ) → IsLow p → comes_after p q ≡ true → weight p + 1 ≤ weight q
 heavier p q low e =
     let row : p.1 < 8796093022208 = low.row in
-    elim (behind_parts p q e) [
+    elim (after_parts p q e) [
       | inl more ↦ omega (arith, more, row)
       | inr both ↦ (let same : p.0 ≡ q.0 = both.0 in let more : p.1 + 1 ≤ q.1 = both.1 in omega (arith, same, more))
     ]

@@ -4,7 +4,7 @@ use Rattle.attempt_ledger.specs.declared.row.Row.{Row}
 use Rattle.call_actions.specs.Laws.{AttemptsAreDue}
 use Rattle.channel_actions.proofs.Calls.Going.Arms.{CallLaws}
 use Rattle.channel_actions.specs.Agrees.{Agrees}
-use Rattle.channel_actions.specs.Calm.{IsAt}
+use Rattle.channel_actions.specs.Quiescent.{IsAt}
 use Rattle.attempt_cases.proofs.PassActions.Queue.{next_waits}
 use Rattle.attempt_cases.proofs.RoundSteps.Falls.{Falling, Falls, falling, load, may_all}
 use Rattle.attempt_cases.proofs.RoundSteps.Loads.{may}

@@ -15,7 +15,7 @@ use Rattle.channel_actions.proofs.Calls.Sound.Carried.{AreSound, Settled, Settle
 use Rattle.channel_actions.proofs.Calls.Sound.Spends.{taken_same}
 use Rattle.channel_actions.proofs.Calls.Sound.Steps.{leaves_closed, leaves_failed, leaves_placed, leaves_timed, less_on, waiting}
 use Rattle.channel_actions.proofs.Calls.Sound.Tables.{AllSound, SoundCall, sound_get}
-use Rattle.channel_core.proofs.Resting.{Rests}
+use Rattle.channel_core.proofs.Resting.{IsQuietActionInvariant}
 use Rattle.channel_core.specs.States.{StateSeen}
 use Rattle.channel_core.specs.Steps.{next_word}
 use Rattle.channel_core.specs.Tables.{Acted, acted, acted_at, acted_on, changed_call, changed_call_at, changed_call_on, changed_slot, changed_slot_at, changed_slot_on, numbered, with_timers, without_due}
@@ -151,7 +151,7 @@ same_book : (s t : StateSeen) → t.book ≡ s.book → load t ≤ load s
 same_book s t e = let same : load t ≡ load s = ap (λ (b : Book). load_of b.ledger.rows b.calls) e in omega (arith, same)
 
 module _ (laws : CallLaws) where
-  abbrev r : Rests Settles
+  abbrev r : IsQuietActionInvariant Settles
   r = rests laws
 
   timed : (moment : ℕ) (ledger : Ledger) (tokens : Option Bucket) (c : CallState) → SoundCall (length ledger.rows) c
@@ -178,7 +178,7 @@ module _ (laws : CallLaws) where
   placed row at ledger tokens c k =
       lowers_by (lent c ledger tokens []) (call.placed_at row at (lent c ledger tokens [])) (leaves_placed row at (lent c ledger tokens []))
 
-  pub falling : Rests Falls
+  pub falling : IsQuietActionInvariant Falls
   falling = record {
     joined = falls_joined r.joined;
     beside = λ s t book held links shut. falls s t (r.beside s t book held links shut) (λ k. same_book s t book);

@@ -9,7 +9,7 @@ use Rattle.channel_actions.specs.Calls.{SeesCalls}
 use Rattle.channel_actions.specs.Columns.{SeesColumns}
 use Rattle.channel_actions.specs.KeptSessions.Kept.{IsKept}
 use Rattle.channel_actions.specs.KeptSessions.Laws.{KeptAlong}
-use Rattle.channel_actions.specs.LinkFrames.Alike.{CannotTell}
+use Rattle.channel_actions.specs.LinkFrames.Alike.{CannotDistinguish}
 use Rattle.channel_actions.specs.LinkFrames.Bears.{bears_on}
 use Rattle.channel_actions.specs.LinkFrames.Laws.{ActionsAreUntold, LinksStay}
 use Rattle.channel_actions.specs.Links.{SeesLinks}
@@ -115,11 +115,11 @@ module _ (calls_stay : AllCallsStay) (sets_stay : SetsStay) (links_stay : LinksS
     sets_now : SeesSets y t
     sets_now = record {
       queue = h.sets.queue;
-      patient = h.sets.patient;
+      ready_waiters = h.sets.ready_waiters;
       dues = record { rising = h.sets.dues.rising; exact = λ m n. h.sets.dues.exact m n ∙ sym (dues_same m n) };
       deadlines = h.sets.deadlines;
-      bare = h.sets.bare;
-      impatient = h.sets.impatient;
+      awaiting_config = h.sets.awaiting_config;
+      fail_fast = h.sets.fail_fast;
       outstanding = h.sets.outstanding;
       resets = h.sets.resets;
     }
@@ -135,7 +135,7 @@ module _ (calls_stay : AllCallsStay) (sets_stay : SetsStay) (links_stay : LinksS
     calls : SeesCalls y t
     calls = calls_stay 0 x y s t goes books h.calls h.calls.count (λ c at. no_call _ c at)
 
-    cannot : CannotTell (bears_on does_it s) s t
+    cannot : CannotDistinguish (bears_on does_it s) s t
     cannot = untold does_it s h.kept tt
 
     links : SeesLinks y t

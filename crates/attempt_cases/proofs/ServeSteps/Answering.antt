@@ -22,7 +22,7 @@ use Rattle.channel_net.specs.Lists.{link_of}
 use Rattle.channel_net.specs.declared.links.OwnLink.{OwnLink}
 use Rattle.grpc_base.specs.declared.kind.Pick.TheVariants as pick
 use Rattle.lb_policy.specs.Table.{is_ready}
-use Rattle.net_actions.specs.Sees.{AreSubs}
+use Rattle.net_actions.specs.Sees.{SubchannelsAgree}
 use Rattle.session_actions.specs.Actions.{following}
 use Rattle.session_actions.specs.AttemptEnds.{end_of, pick_end}
 use Rattle.session_actions.specs.Attempts.{is_over}
@@ -40,7 +40,7 @@ use Rattle.session_actions.specs.declared.link.Link.{Link}
 use Rattle.session_actions.specs.declared.policy.PolicyUse.{PolicyUse}
 use Rattle.session_actions.specs.declared.seen.Seen.{Seen}
 use Rattle.session_actions.specs.declared.subchannel.Subchannel.{Subchannel}
-use Rattle.session_order.specs.Calm.{is_link_new}
+use Rattle.session_order.specs.Quiescent.{is_link_new}
 use Rattle.session_order.specs.Laws.{FirstLineGives}
 use Rattle.session_order.specs.Lines.{is_line, rank}
 use Rattle.session_order.specs.declared.line.Line.{Line}
@@ -82,7 +82,7 @@ none_at test xs zero x e got = absurd (let bad : None ≡ Some x = got in (cc))
 none_at test xs (suc i) x e got = none_got test xs i x e got
 
 -- the link of a subchannel is that of the net
-link_got : (n i : ℕ) (subs : List Subchannel) (board : List SubRecord) (links : List OwnLink) (b : Subchannel) → AreSubs n subs board links → slice_get subs i ≡ Some b
+link_got : (n i : ℕ) (subs : List Subchannel) (board : List SubRecord) (links : List OwnLink) (b : Subchannel) → SubchannelsAgree n subs board links → slice_get subs i ≡ Some b
     → b.link ≡ link_of links (n + i)
 link_got n i [] board links b h got = absurd (let bad : None ≡ Some b = got in (cc))
 link_got n i (c ∷ subs) [] links b h got = absurd h
@@ -92,7 +92,7 @@ link_got n zero (c ∷ subs) (r ∷ board) links b h got =
 link_got n (suc i) (c ∷ subs) (r ∷ board) links b h got =
     let at : n + 1 + i ≡ n + suc i = omega arith in link_got (n + 1) i subs board links b h.1 got ∙ ap (link_of links) at
 
-link_at : (n : ℕ) (subs : List Subchannel) (board : List SubRecord) (links : List OwnLink) (b : Subchannel) → AreSubs 1 subs board links → numbered subs n ≡ Some b
+link_at : (n : ℕ) (subs : List Subchannel) (board : List SubRecord) (links : List OwnLink) (b : Subchannel) → SubchannelsAgree 1 subs board links → numbered subs n ≡ Some b
     → b.link ≡ link_of links n
 link_at zero subs board links b h got = absurd (let bad : None ≡ Some b = got in (cc))
 link_at (suc i) subs board links b h got =
@@ -178,7 +178,7 @@ module _ (first : FirstLineGives) (p : ℕ × ℕ) (x : StateSeen) (o : OpenEntr
         ∙ ap (λ (b : Bool). if b then follow_pick ask t k.attempt (answer_for g s) else None) now_asked
 
     follows_pick : (a : Action) → next_of_pick t ≡ Some a → following t ≡ Some a
-    follows_pick a e = first line.Pick a (passed_by p o) t after.current (λ m before. after.calm m (other_line (is_loss o.event) m before)) e
+    follows_pick a e = first line.Pick a (passed_by p o) t after.current (λ m before. after.quiescent m (other_line (is_loss o.event) m before)) e
 
     pub fails_next : answer_for g s ≡ pick.Fail → following t ≡ Some (action.AttemptEnds p.1 (end_of k.attempt pick_end t))
     fails_next is =
@@ -211,7 +211,7 @@ module _ (first : FirstLineGives) (p : ℕ × ℕ) (x : StateSeen) (o : OpenEntr
       linked = link_there t on.link (numbered t.links on.link) refl came
 
       still_link : is_link_new t on.b ≡ false
-      still_link = none_at (is_link_new t) t.subs sub on.b (after.calm line.Link refl) on.there
+      still_link = none_at (is_link_new t) t.subs sub on.b (after.quiescent line.Link refl) on.there
 
       up : is_going_down linked.0 ≡ false
       up =

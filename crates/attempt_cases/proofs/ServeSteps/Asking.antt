@@ -1,4 +1,4 @@
--- Whom the channel serves next asks next: of the attempts that wait behind the last one it is the foremost that can be served.
+-- Whom the channel serves next asks next: of the attempts that wait after the last one it is the foremost that can be served.
 use Rattle.std.proofs.Common.{◌≡◌, ◌&&◌, ◌||◌, ◌==◌, ◌∙◌, ◌∷◌, inl, inr, ap, arith, refl, sym, Bool, true, false, [], None, Option, Some, ℕ, zero, suc, filter, is_some, nat_lt, not, slice_get}
 use Rattle.std.proofs.lemmas.Bool.{and_from, and_parts}
 use Rattle.std.proofs.lemmas.Bool.Decides.{nat_tests}
@@ -8,8 +8,8 @@ use Rattle.channel_actions.proofs.Gone.{all_numbered}
 use Rattle.channel_actions.proofs.KeptSessions.Lists.{counted_places, own_number}
 use Rattle.channel_actions.proofs.Settles.{follows_by}
 use Rattle.channel_actions.specs.Agrees.{Agrees}
-use Rattle.channel_actions.specs.Calm.{IsAt}
-use Rattle.channel_actions.specs.Sets.{is_in_queue, is_patient, is_waiting}
+use Rattle.channel_actions.specs.Quiescent.{IsAt}
+use Rattle.channel_actions.specs.Sets.{is_in_queue, is_ready_waiter, is_waiting}
 use Rattle.attempt_cases.proofs.PassActions.Queue.{Waits, first_found, next_waits, none_found}
 use Rattle.attempt_cases.proofs.ServeSteps.Order.{IsForemost, IsOrder, foremost_is, least_found, left_least, none_left, right_least}
 use Rattle.attempt_cases.specs.PassActions.Serves.{IsBeginning, IsPassing, turn_of}
@@ -21,7 +21,7 @@ use Rattle.channel_net.specs.Steps.{net_state}
 use Rattle.grpc_base.specs.declared.event.Conn.{Conn}
 use Rattle.grpc_base.specs.declared.event.Conn.TheVariants as conn
 use Rattle.net_actions.specs.Laws.{StatesAreSame}
-use Rattle.picker_gate.specs.Pairs.{has, is_behind, next_behind}
+use Rattle.picker_gate.specs.Pairs.{has, comes_after, next_after}
 use Rattle.session_actions.specs.Actions.{config_action, first_action, following, following_in, of_calls, of_links, of_policies, of_stage}
 use Rattle.session_actions.specs.Attempts.{call_of, is_queued, of_its_call}
 use Rattle.session_actions.specs.Configs.{waits_for_ready}
@@ -61,7 +61,7 @@ in_order = record {
 }
 
 -- two pairs of which neither stands before the other are one
-one_place : (c r d q : ℕ) → (nat_lt c d || ((c == d) && nat_lt r q)) ≡ false → is_behind (d, q) (c, r) ≡ false → r ≡ q
+one_place : (c r d q : ℕ) → (nat_lt c d || ((c == d) && nat_lt r q)) ≡ false → comes_after (d, q) (c, r) ≡ false → r ≡ q
 one_place c r d q e f = grind (arith, nat_tests)
 
 policy_holds : (s : Seen) (a : Attempt) (o : Option PolicyUse)
@@ -73,36 +73,36 @@ flipped : (b : Bool) → not b ≡ true → b ≡ false
 flipped true e = absurd (let bad : false ≡ true = e in (cc))
 flipped false e = refl
 
--- a call that is there, and is not patient, does not wait for ready
-hasty_by : (s : Seen) (a : Attempt) (o : Option Call) → call_of a s ≡ o → is_some o ≡ true → is_patient s a.row.call ≡ false
+-- a call that is there, and is no ready waiter, does not wait for ready
+fail_fast_by : (s : Seen) (a : Attempt) (o : Option Call) → call_of a s ≡ o → is_some o ≡ true → is_ready_waiter s a.row.call ≡ false
     → of_its_call (λ (c : Call). not (waits_for_ready c s)) a s ≡ true
-hasty_by s a None is there off = absurd (let bad : false ≡ true = there in (cc))
-hasty_by s a (Some c) is there off =
+fail_fast_by s a None is there off = absurd (let bad : false ≡ true = there in (cc))
+fail_fast_by s a (Some c) is there off =
     ap (holds (λ (d : Call). not (waits_for_ready d s))) is ∙ ap not (sym (ap (holds (λ (d : Call). waits_for_ready d s)) is) ∙ off)
 
 module _ (x : StateSeen) (s : Seen) (h : Agrees x s) where
   -- an attempt that waits is served
-  hasty : (p : ℕ × ℕ) (w : Waits p s) → is_patient s p.0 ≡ false → is_served_by conn.Failure w.attempt s ≡ true
-  hasty p w off =
-      hasty_by s w.attempt (call_of w.attempt s) refl (all_numbered (λ (a : Attempt). is_some (call_of a s)) s.attempts p.1 w.attempt w.there h.kept.owned)
-      (ap (is_patient s) w.call ∙ off)
+  fail_fast : (p : ℕ × ℕ) (w : Waits p s) → is_ready_waiter s p.0 ≡ false → is_served_by conn.Failure w.attempt s ≡ true
+  fail_fast p w off =
+      fail_fast_by s w.attempt (call_of w.attempt s) refl (all_numbered (λ (a : Attempt). is_some (call_of a s)) s.attempts p.1 w.attempt w.there h.kept.owned)
+      (ap (is_ready_waiter s) w.call ∙ off)
 
-  unpatient : (last p : ℕ × ℕ) → next_behind x.queue last ≡ Some p → is_patient s p.0 ≡ false
+  unpatient : (last p : ℕ × ℕ) → next_after x.queue last ≡ Some p → is_ready_waiter s p.0 ≡ false
   unpatient last p e =
-      let found = first_found (is_behind last) x.queue p e in
+      let found = first_found (comes_after last) x.queue p e in
       let test : is_in_queue s p.0 p.1 ≡ true = sym (h.sets.queue.exact p.0 p.1) ∙ found.1 in
-      flipped (is_patient s p.0) (and_parts (is_waiting s p.0 p.1) (not (is_patient s p.0)) test).1
+      flipped (is_ready_waiter s p.0) (and_parts (is_waiting s p.0 p.1) (not (is_ready_waiter s p.0)) test).1
 
   served_by : (o : Option Conn) (last p : ℕ × ℕ) (w : Waits p s) → served_in o last x ≡ Some p → holds (λ (c : Conn). is_served_by c w.attempt s) o ≡ true
   served_by None last p w e = absurd (let bad : None ≡ Some p = e in (cc))
   served_by (Some conn.Idle) last p w e = absurd (let bad : None ≡ Some p = e in (cc))
   served_by (Some conn.Connecting) last p w e = absurd (let bad : None ≡ Some p = e in (cc))
   served_by (Some conn.Ready) last p w e = refl
-  served_by (Some conn.Failure) last p w e = hasty p w (unpatient last p e)
+  served_by (Some conn.Failure) last p w e = fail_fast p w (unpatient last p e)
   served_by (Some conn.Shutdown) last p w e = absurd (let bad : None ≡ Some p = e in (cc))
 
   -- none that is served stands before it
-  module _ (last p : ℕ × ℕ) (a : Attempt) (own : numbered s.attempts a.place ≡ Some a) (queued : is_queued a s ≡ true) (behind : is_behind last (a.row.call, a.place) ≡ true) where
+  module _ (last p : ℕ × ℕ) (a : Attempt) (own : numbered s.attempts a.place ≡ Some a) (queued : is_queued a s ≡ true) (afterwards : comes_after last (a.row.call, a.place) ≡ true) where
     abbrev q : ℕ × ℕ
     q = (a.row.call, a.place)
 
@@ -111,43 +111,43 @@ module _ (x : StateSeen) (s : Seen) (h : Agrees x s) where
         ap (holds (λ (b : Attempt). (b.row.call == a.row.call) && is_queued b s)) own
         ∙ and_from (a.row.call == a.row.call) (is_queued a s) (equal_is a.row.call a.row.call refl) queued
 
-    in_queue : is_patient s a.row.call ≡ false → has x.queue q ≡ true
-    in_queue off = h.sets.queue.exact a.row.call a.place ∙ and_from (is_waiting s a.row.call a.place) (not (is_patient s a.row.call)) waiting (ap not off)
+    in_queue : is_ready_waiter s a.row.call ≡ false → has x.queue q ≡ true
+    in_queue off = h.sets.queue.exact a.row.call a.place ∙ and_from (is_waiting s a.row.call a.place) (not (is_ready_waiter s a.row.call)) waiting (ap not off)
 
-    in_patient : is_patient s a.row.call ≡ true → has x.patient q ≡ true
-    in_patient on = h.sets.patient.exact a.row.call a.place ∙ and_from (is_waiting s a.row.call a.place) (is_patient s a.row.call) waiting on
+    in_ready_waiters : is_ready_waiter s a.row.call ≡ true → has x.ready_waiters q ≡ true
+    in_ready_waiters on = h.sets.ready_waiters.exact a.row.call a.place ∙ and_from (is_waiting s a.row.call a.place) (is_ready_waiter s a.row.call) waiting on
 
-    queue_least : (o : Option (ℕ × ℕ)) → next_behind x.queue last ≡ o → is_patient s a.row.call ≡ false → first_pair o (next_behind x.patient last) ≡ Some p
-        → is_behind q p ≡ false
+    queue_least : (o : Option (ℕ × ℕ)) → next_after x.queue last ≡ o → is_ready_waiter s a.row.call ≡ false → first_pair o (next_after x.ready_waiters last) ≡ Some p
+        → comes_after q p ≡ false
     queue_least None e off first =
-        absurd (let bad : true ≡ false = sym behind ∙ none_found (is_behind last) x.queue q e (in_queue off) in (cc))
-    queue_least (Some r) e off first = left_least q r p (next_behind x.patient last) (least_found last r q x.queue h.sets.queue.rising e behind (in_queue off)) first
+        absurd (let bad : true ≡ false = sym afterwards ∙ none_found (comes_after last) x.queue q e (in_queue off) in (cc))
+    queue_least (Some r) e off first = left_least q r p (next_after x.ready_waiters last) (least_found last r q x.queue h.sets.queue.rising e afterwards (in_queue off)) first
 
-    patient_least : (o : Option (ℕ × ℕ)) → next_behind x.patient last ≡ o → is_patient s a.row.call ≡ true → first_pair (next_behind x.queue last) o ≡ Some p
-        → is_behind q p ≡ false
-    patient_least None e on first =
-        absurd (let bad : true ≡ false = sym behind ∙ none_found (is_behind last) x.patient q e (in_patient on) in (cc))
-    patient_least (Some r) e on first = right_least q r p (next_behind x.queue last) (least_found last r q x.patient h.sets.patient.rising e behind (in_patient on)) first
+    wait_for_ready_least : (o : Option (ℕ × ℕ)) → next_after x.ready_waiters last ≡ o → is_ready_waiter s a.row.call ≡ true → first_pair (next_after x.queue last) o ≡ Some p
+        → comes_after q p ≡ false
+    wait_for_ready_least None e on first =
+        absurd (let bad : true ≡ false = sym afterwards ∙ none_found (comes_after last) x.ready_waiters q e (in_ready_waiters on) in (cc))
+    wait_for_ready_least (Some r) e on first = right_least q r p (next_after x.queue last) (least_found last r q x.ready_waiters h.sets.ready_waiters.rising e afterwards (in_ready_waiters on)) first
 
-    ready_least : (b : Bool) → is_patient s a.row.call ≡ b → first_pair (next_behind x.queue last) (next_behind x.patient last) ≡ Some p → is_behind q p ≡ false
-    ready_least true on e = patient_least (next_behind x.patient last) refl on e
-    ready_least false off e = queue_least (next_behind x.queue last) refl off e
+    ready_least : (b : Bool) → is_ready_waiter s a.row.call ≡ b → first_pair (next_after x.queue last) (next_after x.ready_waiters last) ≡ Some p → comes_after q p ≡ false
+    ready_least true on e = wait_for_ready_least (next_after x.ready_waiters last) refl on e
+    ready_least false off e = queue_least (next_after x.queue last) refl off e
 
-    -- a call that does not wait for ready is not patient
-    not_patient : (o : Option Call) → call_of a s ≡ o → holds (λ (c : Call). not (waits_for_ready c s)) o ≡ true → is_patient s a.row.call ≡ false
-    not_patient None is e = absurd (let bad : false ≡ true = e in (cc))
-    not_patient (Some c) is e = ap (holds (λ (d : Call). waits_for_ready d s)) is ∙ flipped (waits_for_ready c s) e
+    -- a call that does not wait for ready is no ready waiter
+    not_wait_for_ready : (o : Option Call) → call_of a s ≡ o → holds (λ (c : Call). not (waits_for_ready c s)) o ≡ true → is_ready_waiter s a.row.call ≡ false
+    not_wait_for_ready None is e = absurd (let bad : false ≡ true = e in (cc))
+    not_wait_for_ready (Some c) is e = ap (holds (λ (d : Call). waits_for_ready d s)) is ∙ flipped (waits_for_ready c s) e
 
-    state_least : (o : Option Conn) → served_in o last x ≡ Some p → holds (λ (c : Conn). is_served_by c a s) o ≡ true → is_behind q p ≡ false
+    state_least : (o : Option Conn) → served_in o last x ≡ Some p → holds (λ (c : Conn). is_served_by c a s) o ≡ true → comes_after q p ≡ false
     state_least None e on = absurd (let bad : false ≡ true = on in (cc))
     state_least (Some conn.Idle) e on = absurd (let bad : false ≡ true = on in (cc))
     state_least (Some conn.Connecting) e on = absurd (let bad : false ≡ true = on in (cc))
-    state_least (Some conn.Ready) e on = ready_least (is_patient s a.row.call) refl e
-    state_least (Some conn.Failure) e on = least_found last p q x.queue h.sets.queue.rising e behind (in_queue (not_patient (call_of a s) refl on))
+    state_least (Some conn.Ready) e on = ready_least (is_ready_waiter s a.row.call) refl e
+    state_least (Some conn.Failure) e on = least_found last p q x.queue h.sets.queue.rising e afterwards (in_queue (not_wait_for_ready (call_of a s) refl on))
     state_least (Some conn.Shutdown) e on = absurd (let bad : false ≡ true = on in (cc))
 
 module _ (state : StatesAreSame) (last p : ℕ × ℕ) (x : StateSeen) (s : Seen) (h : Agrees x s) (e : next_served last x ≡ Some p) where
-  found : (is_behind last p ≡ true) × (Waits p s)
+  found : (comes_after last p ≡ true) × (Waits p s)
   found = next_waits x s h last p e
 
   abbrev a : Attempt
@@ -167,8 +167,8 @@ module _ (state : StatesAreSame) (last p : ℕ × ℕ) (x : StateSeen) (s : Seen
   place : a.place ≡ p.1
   place = counted_places (λ (b : Attempt). b.place) s.attempts h.kept.attempts p.1 a found.1.there
 
-  -- the attempts that pass a test of their pass, which stand behind the last one
-  module _ (test : Attempt → Bool) (behind : (b : Attempt) (i : ℕ) → b.place ≡ suc i → test b ≡ true → is_behind last (b.row.call, b.place) ≡ true)
+  -- the attempts that pass a test of their pass, which stand after the last one
+  module _ (test : Attempt → Bool) (afterwards : (b : Attempt) (i : ℕ) → b.place ≡ suc i → test b ≡ true → comes_after last (b.row.call, b.place) ≡ true)
       (passes : test a ≡ true) where
     abbrev both_tests : Attempt → Bool
     both_tests b = is_served s b && test b
@@ -188,12 +188,12 @@ module _ (state : StatesAreSame) (last p : ℕ × ℕ) (x : StateSeen) (s : Seen
         let at : m.place ≡ suc f.index = counted_places (λ (b : Attempt). b.place) s.attempts h.kept.attempts (suc f.index) m f.there in
         let now : holds (λ (c : Conn). is_served_by c m s) (net_state x.net) ≡ true
         = sym (ap (holds (λ (c : Conn). is_served_by c m s)) state_is) ∙ sym (policy_holds s m (current_policy s)) ∙ queue.1 in
-        let low : is_behind (m.row.call, m.place) p ≡ false
-        = state_least x s h last p m own queue.0 (behind m f.index at parts.1) (net_state x.net) e now in
+        let low : comes_after (m.row.call, m.place) p ≡ false
+        = state_least x s h last p m own queue.0 (afterwards m f.index at parts.1) (net_state x.net) e now in
         let index = own_index p.1 found.1.there in
         let high : is_queued_before a m ≡ false = f.least index.0 a index.1 own_test in
-        let lower : is_behind (m.row.call, m.place) (a.row.call, a.place) ≡ false
-        = ap (λ (n : ℕ). is_behind (m.row.call, m.place) (n, a.place)) found.1.call ∙ ap (λ (n : ℕ). is_behind (m.row.call, m.place) (p.0, n)) place ∙ low in
+        let lower : comes_after (m.row.call, m.place) (a.row.call, a.place) ≡ false
+        = ap (λ (n : ℕ). comes_after (m.row.call, m.place) (n, a.place)) found.1.call ∙ ap (λ (n : ℕ). comes_after (m.row.call, m.place) (p.0, n)) place ∙ low in
         let one : a.place ≡ m.place = one_place a.row.call a.place m.row.call m.place high lower in
         let two : Some m ≡ Some a = sym own ∙ ap (numbered s.attempts) (sym one ∙ place) ∙ found.1.there in
         (cc)
@@ -236,14 +236,14 @@ first_seven a b c d e f g h z p q r s t u v =
     ∙ ap (λ (w : Option Action). first_action (w ∷ f ∷ g ∷ h ∷ [])) t ∙ ap (λ (w : Option Action). first_action (w ∷ g ∷ h ∷ [])) u
     ∙ ap (λ (w : Option Action). first_action (w ∷ h ∷ [])) v
 
-first_behind : (c i : ℕ) → is_behind (0, 0) (c, suc i) ≡ true
-first_behind c i = grind (arith, nat_tests)
+first_after : (c i : ℕ) → comes_after (0, 0) (c, suc i) ≡ true
+first_after c i = grind (arith, nat_tests)
 
-after_behind : (p q : ℕ × ℕ) → (nat_lt p.0 q.0 || ((p.0 == q.0) && nat_lt p.1 q.1)) ≡ true → is_behind p q ≡ true
-after_behind p q e = grind (arith, nat_tests)
+after_afterwards : (p q : ℕ × ℕ) → (nat_lt p.0 q.0 || ((p.0 == q.0) && nat_lt p.1 q.1)) ≡ true → comes_after p q ≡ true
+after_afterwards p q e = grind (arith, nat_tests)
 
-behind_after : (p q : ℕ × ℕ) → is_behind p q ≡ true → (nat_lt p.0 q.0 || ((p.0 == q.0) && nat_lt p.1 q.1)) ≡ true
-behind_after p q e = grind (arith, nat_tests)
+afterwards_after : (p q : ℕ × ℕ) → comes_after p q ≡ true → (nat_lt p.0 q.0 || ((p.0 == q.0) && nat_lt p.1 q.1)) ≡ true
+afterwards_after p q e = grind (arith, nat_tests)
 
 module _ (state : StatesAreSame) (last p : ℕ × ℕ) (x : StateSeen) (o : OpenEntry) (s : Seen) (h : Agrees x s) (at : IsAt stage.Settling o s) (passing : IsPassing last o s)
     (e : next_served last x ≡ Some p) where
@@ -256,20 +256,20 @@ module _ (state : StatesAreSame) (last p : ℕ × ℕ) (x : StateSeen) (o : Open
   abbrev does_it : Action
   does_it = action.PickRequested p.1 g.number (answer_for g s)
 
-  behind_first : last ≡ (0, 0) → (c : Attempt) (i : ℕ) → c.place ≡ suc i → true ≡ true → is_behind last (c.row.call, c.place) ≡ true
-  behind_first zero_ c i is f =
-      ap (λ (q : ℕ × ℕ). is_behind q (c.row.call, c.place)) zero_ ∙ ap (λ (n : ℕ). is_behind (0, 0) (c.row.call, n)) is ∙ first_behind c.row.call i
+  after_the_first : last ≡ (0, 0) → (c : Attempt) (i : ℕ) → c.place ≡ suc i → true ≡ true → comes_after last (c.row.call, c.place) ≡ true
+  after_the_first zero_ c i is f =
+      ap (λ (q : ℕ × ℕ). comes_after q (c.row.call, c.place)) zero_ ∙ ap (λ (n : ℕ). comes_after (0, 0) (c.row.call, n)) is ∙ first_after c.row.call i
 
   begins : IsBeginning last o s → of_stage o s stage.Settling ≡ Some does_it
   begins begin =
       first_seven (next_of_clock s) (next_take_over s) (next_connected s) (first_of (config_action s) s.calls) (next_of_pass o s) (next_due_attempt s) (next_of_queue s)
       (Some action.EntryCloses) does_it passing.clock passing.take_over passing.connected passing.configs begin.made.tended.pass begin.made.due
-      (asks state last p x s h e (λ c. true) (behind_first begin.none) refl g (policy state last p x s h e).1)
+      (asks state last p x s h e (λ c. true) (after_the_first begin.none) refl g (policy state last p x s h e).1)
 
   own_after : is_after (turn_of last) b ≡ true
   own_after =
-      behind_after last (b.row.call, b.place)
-      (ap (λ (n : ℕ). is_behind last (n, b.place)) (found state last p x s h e).1.call ∙ ap (λ (n : ℕ). is_behind last (p.0, n)) (place state last p x s h e)
+      afterwards_after last (b.row.call, b.place)
+      (ap (λ (n : ℕ). comes_after last (n, b.place)) (found state last p x s h e).1.call ∙ ap (λ (n : ℕ). comes_after last (p.0, n)) (place state last p x s h e)
       ∙ (found state last p x s h e).0)
 
   goes_on : o.turn ≡ Some (turn_of last) → of_stage o s stage.Settling ≡ Some does_it
@@ -277,7 +277,7 @@ module _ (state : StatesAreSame) (last p : ℕ × ℕ) (x : StateSeen) (o : Open
       first_five (next_of_clock s) (next_take_over s) (next_connected s) (first_of (config_action s) s.calls) (next_of_pass o s) (next_due_attempt s) (next_of_queue s)
       (Some action.EntryCloses) does_it passing.clock passing.take_over passing.connected passing.configs
       (ap (option_and_then (λ (t : Turn). next_asked (is_after t) s)) turn
-      ∙ asks state last p x s h e (is_after (turn_of last)) (λ c i is f. after_behind last (c.row.call, c.place) f) own_after g (policy state last p x s h e).1)
+      ∙ asks state last p x s h e (is_after (turn_of last)) (λ c i is f. after_afterwards last (c.row.call, c.place) f) own_after g (policy state last p x s h e).1)
 
   stage_gives : of_stage o s o.stage ≡ Some does_it
   stage_gives =
@@ -290,7 +290,7 @@ module _ (state : StatesAreSame) (last p : ℕ × ℕ) (x : StateSeen) (o : Open
   follows : following s ≡ Some does_it
   follows =
       ap (option_and_then (following_in s)) at.current
-      ∙ follows_by (of_calls o s) (of_links o s) (of_policies o s) (of_stage o s o.stage) does_it at.calm.calls at.calm.links at.calm.policies stage_gives
+      ∙ follows_by (of_calls o s) (of_links o s) (of_policies o s) (of_stage o s o.stage) does_it at.quiescent.calls at.quiescent.links at.quiescent.policies stage_gives
 
   pub next : AskNext p s
   next = record {

@@ -3,7 +3,7 @@ use Rattle.std.proofs.Common.{◌≡◌, ◌⊎◌, ◌+◌, ◌<◌, ◌≤◌,
 use Rattle.std.proofs.lemmas.Bool.Decides.{nat_tests}
 use Rattle.std.specs.List.{AllByRecursion, list_any}
 use Rattle.std.specs.Option.{option_or}
-use Rattle.call_actions.specs.Order.{AreNumbered}
+use Rattle.call_actions.specs.Order.{AttemptsAreNumbered}
 use Rattle.session_actions.specs.Words.{find_last}
 use Rattle.session_actions.specs.declared.attempt.Attempt.{Attempt}
 
@@ -31,7 +31,7 @@ or_true false b e = e
 pub same_some : {X : Type 0} (x y : X) (o : Option X) → o ≡ Some x → o ≡ Some y → x ≡ y
 same_some x y o e f = (cc)
 
--- the last that passes: one of the list that does, and none behind it does
+-- the last that passes: one of the list that does, and none after it does
 pub record IsLast (p : Attempt → Bool) (xs : List Attempt) (k : Attempt) : Type 0 where
   pub index : ℕ
   pub here : slice_get xs index ≡ Some k
@@ -92,7 +92,7 @@ any_at p (y ∷ xs) zero a at e = let one : y ≡ a = (cc) in ap (λ (z : Attemp
 any_at p (y ∷ xs) (suc i) a at e = or_true (p y) (list_any p xs) (any_at p xs i a at e)
 
 -- places
-pub index_is : (xs : List Attempt) (n i : ℕ) (a : Attempt) → AreNumbered (suc n) xs → slice_get xs i ≡ Some a → a.place ≡ suc n + i
+pub index_is : (xs : List Attempt) (n i : ℕ) (a : Attempt) → AttemptsAreNumbered (suc n) xs → slice_get xs i ≡ Some a → a.place ≡ suc n + i
 index_is [] n i a places at = absurd (let bad : None ≡ Some a = at in (cc))
 index_is (y ∷ xs) n zero a places at =
     let one : y ≡ a = (cc) in ap (λ (z : Attempt). z.place) (sym one) ∙ places.0 ∙ (let up : suc n ≡ suc n + 0 = omega arith in up)

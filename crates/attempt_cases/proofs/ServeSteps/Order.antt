@@ -4,76 +4,76 @@ use Rattle.std.proofs.lemmas.Bool.{and_parts}
 use Rattle.std.proofs.lemmas.Bool.Decides.{nat_tests}
 use Rattle.std.specs.List.{list_all}
 use Rattle.channel_actions.proofs.Links.Settings.Pairs.{same_is}
-use Rattle.channel_actions.specs.Sets.{AreRising}
+use Rattle.channel_actions.specs.Sets.{PairsAreRising}
 use Rattle.channel_core.specs.Timing.{first_pair}
-use Rattle.picker_gate.specs.Pairs.{has, is_behind, is_same, next_behind}
+use Rattle.picker_gate.specs.Pairs.{has, comes_after, is_same, next_after}
 use Rattle.session_actions.specs.Words.{earlier, foremost}
 
-not_self : (q : ℕ × ℕ) → is_behind q q ≡ false
+not_self : (q : ℕ × ℕ) → comes_after q q ≡ false
 not_self q = grind (arith, nat_tests)
 
-not_back : (p q : ℕ × ℕ) → is_behind p q ≡ true → is_behind q p ≡ false
+not_back : (p q : ℕ × ℕ) → comes_after p q ≡ true → comes_after q p ≡ false
 not_back p q e = grind (arith, nat_tests)
 
 -- of rising pairs
-behind_by : (p q r : ℕ × ℕ) (pairs : List (ℕ × ℕ)) (b : Bool) → is_same q r ≡ b → is_behind p r ≡ true → (has pairs q ≡ true → is_behind p q ≡ true)
-    → (b || has pairs q) ≡ true → is_behind p q ≡ true
-behind_by p q r pairs true e first rest at = ap (is_behind p) (same_is q r e) ∙ first
-behind_by p q r pairs false e first rest at = rest at
+afterwards_by : (p q r : ℕ × ℕ) (pairs : List (ℕ × ℕ)) (b : Bool) → is_same q r ≡ b → comes_after p r ≡ true → (has pairs q ≡ true → comes_after p q ≡ true)
+    → (b || has pairs q) ≡ true → comes_after p q ≡ true
+afterwards_by p q r pairs true e first rest at = ap (comes_after p) (same_is q r e) ∙ first
+afterwards_by p q r pairs false e first rest at = rest at
 
-all_behind : (p q : ℕ × ℕ) (pairs : List (ℕ × ℕ)) → list_all (is_behind p) pairs ≡ true → has pairs q ≡ true → is_behind p q ≡ true
-all_behind p q [] all there = absurd (let bad : false ≡ true = there in (cc))
-all_behind p q (r ∷ pairs) all there =
-    let both = and_parts (is_behind p r) (list_all (is_behind p) pairs) all in
-    behind_by p q r pairs (is_same q r) refl both.0 (all_behind p q pairs both.1) there
+all_after : (p q : ℕ × ℕ) (pairs : List (ℕ × ℕ)) → list_all (comes_after p) pairs ≡ true → has pairs q ≡ true → comes_after p q ≡ true
+all_after p q [] all there = absurd (let bad : false ≡ true = there in (cc))
+all_after p q (r ∷ pairs) all there =
+    let both = and_parts (comes_after p r) (list_all (comes_after p) pairs) all in
+    afterwards_by p q r pairs (is_same q r) refl both.0 (all_after p q pairs both.1) there
 
 -- the one that is found: none that passes stands before it
-after_first : (p q : ℕ × ℕ) (pairs : List (ℕ × ℕ)) (c : Bool) → is_same q p ≡ c → list_all (is_behind p) pairs ≡ true → (c || has pairs q) ≡ true → is_behind q p ≡ false
-after_first p q pairs true e all there = ap (λ (z : ℕ × ℕ). is_behind z p) (same_is q p e) ∙ not_self p
-after_first p q pairs false e all there = not_back p q (all_behind p q pairs all there)
+after_first : (p q : ℕ × ℕ) (pairs : List (ℕ × ℕ)) (c : Bool) → is_same q p ≡ c → list_all (comes_after p) pairs ≡ true → (c || has pairs q) ≡ true → comes_after q p ≡ false
+after_first p q pairs true e all there = ap (λ (z : ℕ × ℕ). comes_after z p) (same_is q p e) ∙ not_self p
+after_first p q pairs false e all there = not_back p q (all_after p q pairs all there)
 
-later_one : (last p q : ℕ × ℕ) (pairs : List (ℕ × ℕ)) (c : Bool) → is_same q p ≡ c → is_behind last p ≡ false → is_behind last q ≡ true → (c || has pairs q) ≡ true
+later_one : (last p q : ℕ × ℕ) (pairs : List (ℕ × ℕ)) (c : Bool) → is_same q p ≡ c → comes_after last p ≡ false → comes_after last q ≡ true → (c || has pairs q) ≡ true
     → has pairs q ≡ true
 later_one last p q pairs true e off on there =
-    absurd (let bad : false ≡ true = sym off ∙ sym (ap (is_behind last) (same_is q p e)) ∙ on in (cc))
+    absurd (let bad : false ≡ true = sym off ∙ sym (ap (comes_after last) (same_is q p e)) ∙ on in (cc))
 later_one last p q pairs false e off on there = there
 
-least_by : (last r p q : ℕ × ℕ) (pairs : List (ℕ × ℕ)) (b : Bool) → is_behind last r ≡ b → list_all (is_behind r) pairs ≡ true
-    → (find (is_behind last) pairs ≡ Some p → has pairs q ≡ true → is_behind q p ≡ false) → cond b (Some r) (find (is_behind last) pairs) ≡ Some p
-    → is_behind last q ≡ true → has (r ∷ pairs) q ≡ true → is_behind q p ≡ false
+least_by : (last r p q : ℕ × ℕ) (pairs : List (ℕ × ℕ)) (b : Bool) → comes_after last r ≡ b → list_all (comes_after r) pairs ≡ true
+    → (find (comes_after last) pairs ≡ Some p → has pairs q ≡ true → comes_after q p ≡ false) → cond b (Some r) (find (comes_after last) pairs) ≡ Some p
+    → comes_after last q ≡ true → has (r ∷ pairs) q ≡ true → comes_after q p ≡ false
 least_by last r p q pairs true is all rest e on there =
-    let same : r ≡ p = (cc) in ap (is_behind q) (sym same) ∙ after_first r q pairs (is_same q r) refl all there
+    let same : r ≡ p = (cc) in ap (comes_after q) (sym same) ∙ after_first r q pairs (is_same q r) refl all there
 least_by last r p q pairs false is all rest e on there = rest e (later_one last r q pairs (is_same q r) refl is on there)
 
-pub least_found : (last p q : ℕ × ℕ) (pairs : List (ℕ × ℕ)) → AreRising pairs → next_behind pairs last ≡ Some p → is_behind last q ≡ true → has pairs q ≡ true
-    → is_behind q p ≡ false
+pub least_found : (last p q : ℕ × ℕ) (pairs : List (ℕ × ℕ)) → PairsAreRising pairs → next_after pairs last ≡ Some p → comes_after last q ≡ true → has pairs q ≡ true
+    → comes_after q p ≡ false
 least_found last p q [] rising e on there = absurd (let bad : None ≡ Some p = e in (cc))
 least_found last p q (r ∷ pairs) rising e on there =
-    least_by last r p q pairs (is_behind last r) refl rising.0 (λ f at. least_found last p q pairs rising.1 f on at) e on there
+    least_by last r p q pairs (comes_after last r) refl rising.0 (λ f at. least_found last p q pairs rising.1 f on at) e on there
 
 -- of two
-beyond_both : (q r t : ℕ × ℕ) → is_behind q r ≡ false → (nat_lt r.0 t.0 || ((r.0 == t.0) && nat_lt r.1 t.1)) ≡ false → is_behind q t ≡ false
+beyond_both : (q r t : ℕ × ℕ) → comes_after q r ≡ false → (nat_lt r.0 t.0 || ((r.0 == t.0) && nat_lt r.1 t.1)) ≡ false → comes_after q t ≡ false
 beyond_both q r t e f = grind (arith, nat_tests)
 
-before_both : (q r t : ℕ × ℕ) → is_behind q t ≡ false → (nat_lt r.0 t.0 || ((r.0 == t.0) && nat_lt r.1 t.1)) ≡ true → is_behind q r ≡ false
+before_both : (q r t : ℕ × ℕ) → comes_after q t ≡ false → (nat_lt r.0 t.0 || ((r.0 == t.0) && nat_lt r.1 t.1)) ≡ true → comes_after q r ≡ false
 before_both q r t e f = grind (arith, nat_tests)
 
-left_by : (q r t p : ℕ × ℕ) (b : Bool) → (nat_lt r.0 t.0 || ((r.0 == t.0) && nat_lt r.1 t.1)) ≡ b → is_behind q r ≡ false → (if b then Some r else Some t) ≡ Some p
-    → is_behind q p ≡ false
-left_by q r t p true less off e = let same : r ≡ p = (cc) in ap (is_behind q) (sym same) ∙ off
-left_by q r t p false less off e = let same : t ≡ p = (cc) in ap (is_behind q) (sym same) ∙ beyond_both q r t off less
+left_by : (q r t p : ℕ × ℕ) (b : Bool) → (nat_lt r.0 t.0 || ((r.0 == t.0) && nat_lt r.1 t.1)) ≡ b → comes_after q r ≡ false → (if b then Some r else Some t) ≡ Some p
+    → comes_after q p ≡ false
+left_by q r t p true less off e = let same : r ≡ p = (cc) in ap (comes_after q) (sym same) ∙ off
+left_by q r t p false less off e = let same : t ≡ p = (cc) in ap (comes_after q) (sym same) ∙ beyond_both q r t off less
 
-pub left_least : (q r p : ℕ × ℕ) (o : Option (ℕ × ℕ)) → is_behind q r ≡ false → first_pair (Some r) o ≡ Some p → is_behind q p ≡ false
-left_least q r p None off e = let same : r ≡ p = (cc) in ap (is_behind q) (sym same) ∙ off
+pub left_least : (q r p : ℕ × ℕ) (o : Option (ℕ × ℕ)) → comes_after q r ≡ false → first_pair (Some r) o ≡ Some p → comes_after q p ≡ false
+left_least q r p None off e = let same : r ≡ p = (cc) in ap (comes_after q) (sym same) ∙ off
 left_least q r p (Some t) off e = left_by q r t p (nat_lt r.0 t.0 || ((r.0 == t.0) && nat_lt r.1 t.1)) refl off e
 
-right_by : (q r t p : ℕ × ℕ) (b : Bool) → (nat_lt r.0 t.0 || ((r.0 == t.0) && nat_lt r.1 t.1)) ≡ b → is_behind q t ≡ false → (if b then Some r else Some t) ≡ Some p
-    → is_behind q p ≡ false
-right_by q r t p true less off e = let same : r ≡ p = (cc) in ap (is_behind q) (sym same) ∙ before_both q r t off less
-right_by q r t p false less off e = let same : t ≡ p = (cc) in ap (is_behind q) (sym same) ∙ off
+right_by : (q r t p : ℕ × ℕ) (b : Bool) → (nat_lt r.0 t.0 || ((r.0 == t.0) && nat_lt r.1 t.1)) ≡ b → comes_after q t ≡ false → (if b then Some r else Some t) ≡ Some p
+    → comes_after q p ≡ false
+right_by q r t p true less off e = let same : r ≡ p = (cc) in ap (comes_after q) (sym same) ∙ before_both q r t off less
+right_by q r t p false less off e = let same : t ≡ p = (cc) in ap (comes_after q) (sym same) ∙ off
 
-pub right_least : (q t p : ℕ × ℕ) (o : Option (ℕ × ℕ)) → is_behind q t ≡ false → first_pair o (Some t) ≡ Some p → is_behind q p ≡ false
-right_least q t p None off e = let same : t ≡ p = (cc) in ap (is_behind q) (sym same) ∙ off
+pub right_least : (q t p : ℕ × ℕ) (o : Option (ℕ × ℕ)) → comes_after q t ≡ false → first_pair o (Some t) ≡ Some p → comes_after q p ≡ false
+right_least q t p None off e = let same : t ≡ p = (cc) in ap (comes_after q) (sym same) ∙ off
 right_least q t p (Some r) off e = right_by q r t p (nat_lt r.0 t.0 || ((r.0 == t.0) && nat_lt r.1 t.1)) refl off e
 
 -- the foremost one of those that pass a test, in an order
@@ -102,7 +102,7 @@ none_left before test (x ∷ xs) zero y e at passes =
 none_left before test (x ∷ xs) (suc j) y e at passes = none_left before test xs j y (none_by before x (filter test xs) (test x) e).1 at passes
 
 module _ {X : Type 0} (before : X → X → Bool) (order : IsOrder before) (test : X → Bool) where
-  -- behind one that does not pass
+  -- after one that does not pass
   skips : (x m : X) (xs : List X) → test x ≡ false → IsForemost before test xs m → IsForemost before test (x ∷ xs) m
   skips x m xs off f = record { index = suc f.index; there = f.there; passes = f.passes; least = least }
     where

@@ -16,7 +16,7 @@ use Rattle.channel_actions.proofs.Links.Settings.Slots.{put_away}
 use Rattle.channel_actions.specs.Agrees.{Agrees}
 use Rattle.channel_actions.specs.Calls.{HasSlot, lent_to}
 use Rattle.call_cases.proofs.ConfiguredCalls.Lists.{draws_same, equal_numbers}
-use Rattle.attempt_cases.proofs.MakingSteps.Calm.{any_live, some_row, three, three_back, two_off}
+use Rattle.attempt_cases.proofs.MakingSteps.Quiescent.{any_live, some_row, three, three_back, two_off}
 use Rattle.attempt_cases.proofs.MakingSteps.Lists.{holds_alike, holds_changed}
 use Rattle.attempt_cases.proofs.ServeSteps.Lasts.{any_at, none_of, same_some}
 use Rattle.attempt_cases.proofs.ServeSteps.OutBase as base

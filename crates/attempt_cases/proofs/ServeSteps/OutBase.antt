@@ -99,7 +99,7 @@ pub record OutNext (x : StateSeen) (s : Seen) : Type 0 where
   pub up : is_going_down link ≡ false
   pub alive : is_shutdown_sub s link.sub ≡ false
   -- nothing else follows
-  pub calm : list_any (λ (q : Attempt). wants_follower q s) s.attempts ≡ false
+  pub quiescent : list_any (λ (q : Attempt). wants_follower q s) s.attempts ≡ false
   pub uninherited : list_any (is_inherited s) s.attempts ≡ false
   pub next : following s ≡ Some (action.AttemptPlaced row at)
 
@@ -245,7 +245,7 @@ module _ (x : StateSeen) (s : Seen) (is : OutNext x s) where
   y = record x {
     links = changed_at (with_link (placed_link is.row (limit_in is.slot.call.chosen))) x.links is.at.link;
     queue = remove_key (is_same (is.call.number, is.row)) x.queue;
-    patient = remove_key (is_same (is.call.number, is.row)) x.patient;
+    ready_waiters = remove_key (is_same (is.call.number, is.row)) x.ready_waiters;
     outstanding = insert_key pair_cmp x.outstanding (is.at.link, is.row);
     dues = timer_moved is.call.number is.slot.due (due_at (Some slot1)) x.dues;
     deadlines = timer_moved is.call.number is.slot.deadline (deadline_of (Some slot1)) x.deadlines;
@@ -261,7 +261,7 @@ module _ (x : StateSeen) (s : Seen) (is : OutNext x s) where
     booked_in = record x {
       links = changed_at (with_link (placed_link row (limit_in slot.call.chosen))) x.links at.link;
       queue = remove_key (is_same (c.number, row)) x.queue;
-      patient = remove_key (is_same (c.number, row)) x.patient;
+      ready_waiters = remove_key (is_same (c.number, row)) x.ready_waiters;
       outstanding = insert_key pair_cmp x.outstanding (at.link, row);
       book = record x.book {
         calls = slice_set x.book.calls (c.number - 1) slot1;

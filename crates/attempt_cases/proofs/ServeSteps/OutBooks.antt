@@ -18,7 +18,7 @@ use Rattle.channel_actions.specs.Configs.{SeesBuckets, bucket_in, runs_in_turn}
 use Rattle.channel_actions.specs.KeptSessions.Kept.{IsKept}
 use Rattle.call_cases.specs.OtherCalls.Others.{BooksApart, GoesApart, IsBooked}
 use Rattle.call_cases.proofs.ConfiguredCalls.Lists.{changed_length, equal_numbers, same_numbered}
-use Rattle.attempt_cases.proofs.MakingSteps.Calm.{two_off}
+use Rattle.attempt_cases.proofs.MakingSteps.Quiescent.{two_off}
 use Rattle.attempt_cases.proofs.ServeSteps.Lasts.{none_of, not_false, same_some}
 use Rattle.attempt_cases.proofs.ServeSteps.OutBase as base
 use Rattle.attempt_cases.proofs.ServeSteps.OutBase.{OutLaws, OutNext}

@@ -1,4 +1,4 @@
--- What the call of an attempt that is placed holds for its attempts: the attempt has a place in front of all messages, and the others have theirs.
+-- What the call of an attempt that is placed holds for its attempts: the attempt has a place before all messages, and the others have theirs.
 use Rattle.std.proofs.Common.{◌≡◌, ◌==◌, ◌&&◌, ◌∷◌, ◌∙◌, ap, arith, eq-eqb, refl, subst, sym, Bool, true, false, List, [], Option, None, Some, ℕ, zero, suc, filter, if◌then◌else◌, is_none, is_some, option_map, slice_get}
 use Rattle.std.proofs.lemmas.Bool.Decides.{nat_tests}
 use Rattle.std.specs.List.{AllByRecursion}
@@ -9,7 +9,7 @@ use Rattle.attempt_buffer.specs.Buffers.{Buffered, Committed, taken_by, taken_fr
 use Rattle.attempt_ledger.specs.declared.row.RowEnd.{RowEnd}
 use Rattle.call_actions.proofs.PlacedFrames.{none_bad}
 use Rattle.call_actions.proofs.Ranks.{filter_mapped}
-use Rattle.call_actions.specs.TakeActions.Serves.{AreFed, Holds, IsAt, IsFed, drained_so_far, passed}
+use Rattle.call_actions.specs.TakeActions.Serves.{AttemptsAreFed, Holds, IsAt, IsFed, drained_so_far, passed}
 use Rattle.call_core.specs.Parts.{begun_row, names}
 use Rattle.channel_actions.proofs.SoundBuffers.Sound.{all_in, fed_some}
 use Rattle.attempt_cases.proofs.ServeSteps.Lasts.{all_from, all_map, unsome}
@@ -101,7 +101,7 @@ module _ (x : StateSeen) (s : Seen) (is : OutNext x s) where
     fed_by i z true e got mine = subst (λ (k : Attempt). Fed d t (g k)) (sym (base.at_row x s is i z got e)) fed_here
     fed_by i z false e got mine = subst (λ (k : Attempt). Fed d t k) (sym (base.g_off x s is z e)) (others z (turned_about z.place row e) (was_fed i z got mine))
 
-    fed_now : AreFed t c1 d (filter (is_of c1) t.attempts)
+    fed_now : AttemptsAreFed t c1 d (filter (is_of c1) t.attempts)
     fed_now =
         subst (λ (l : List Attempt). AllByRecursion (Fed d t) l) (sym (filter_mapped (is_of c) (is_of c) (λ (q : Attempt). false) g (λ q good. refl) s.attempts (none_bad s.attempts)))
         (all_map (Fed d t) g (filter (is_of c) s.attempts)

@@ -110,7 +110,7 @@ module _ (x : StateSeen) (s : Seen) (is : OutNext x s) where
     kept = laws.frames.kept (base.does_it x s is ∷ []) s t is.agrees.kept does
 
     steady : IsSteady s c
-    steady = record { turn = is.sees.turn; calm = any_less (is_of c) (λ (q : Attempt). wants_follower q s) s.attempts is.calm }
+    steady = record { turn = is.sees.turn; quiescent = any_less (is_of c) (λ (q : Attempt). wants_follower q s) s.attempts is.quiescent }
 
     turned : StaysSteady t c.number
     turned =

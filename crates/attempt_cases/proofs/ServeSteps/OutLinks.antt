@@ -5,13 +5,13 @@ use Rattle.call_actions.proofs.Places.{place_is}
 use Rattle.call_actions.proofs.Ranks.{numbered_map}
 use Rattle.call_actions.proofs.TakeActions.Retold.{read_same}
 use Rattle.channel_actions.proofs.Stamps.{counted_at}
-use Rattle.channel_actions.specs.LinkFrames.Alike.{CannotTell}
+use Rattle.channel_actions.specs.LinkFrames.Alike.{CannotDistinguish}
 use Rattle.channel_actions.specs.LinkFrames.Bears.{bears_on}
 use Rattle.channel_actions.specs.Links.{HasLink, IsGoing, SeesLinks, line_of, lines_in, no_line}
 use Rattle.channel_actions.specs.Readers.{SeesReaders}
 use Rattle.call_cases.proofs.ConfiguredCalls.Lists.{equal_numbers, same_words}
 use Rattle.attempt_cases.proofs.DrainEvents.Links.{read_so, read_then}
-use Rattle.attempt_cases.proofs.MakingSteps.Calm.{two_off}
+use Rattle.attempt_cases.proofs.MakingSteps.Quiescent.{two_off}
 use Rattle.attempt_cases.proofs.ServeSteps.Lasts.{same_some, unsome}
 use Rattle.attempt_cases.proofs.ServeSteps.OutBase as base
 use Rattle.attempt_cases.proofs.ServeSteps.OutBase.{OutLaws, OutNext}
@@ -168,9 +168,9 @@ module _ (x : StateSeen) (s : Seen) (is : OutNext x s) where
         let one : l ≡ m = same_some l m (numbered s.links is.at.link) is.link_there (ap (numbered s.links) here_is ∙ got) in
         subst (λ (n : ℕ). HasLink y t m n) here_is (subst (λ (q : Link). HasLink y t q is.at.link) one here_link)
 
-    cannot : CannotTell (bears_on (base.does_it x s is) s) s t
+    cannot : CannotDistinguish (bears_on (base.does_it x s is) s) s t
     cannot =
-        subst (λ (u : Seen). CannotTell (bears_on (base.does_it x s is) s) s u) (base.after_is x s is)
+        subst (λ (u : Seen). CannotDistinguish (bears_on (base.does_it x s is) s) s u) (base.after_is x s is)
         (laws.frames.untold (base.does_it x s is) s is.agrees.kept
         (λ z got. ap (λ (q : Attempt). q.row.placed) (same_some z a (numbered s.attempts row) got is.here) ∙ base.unplaced x s is))
 

@@ -5,8 +5,8 @@ use Rattle.std.specs.Option.{option_map_or}
 use Rattle.attempt_ledger.specs.declared.ledger.CallEnd.{CallEnd}
 use Rattle.call_actions.proofs.Ranks.{numbered_map}
 use Rattle.call_actions.proofs.TakeActions.Deadlines.{deadline_is}
-use Rattle.call_actions.specs.Order.{AreNumbered}
-use Rattle.call_actions.specs.TakeActions.Serves.{ArePlaced, IsLeft, Serves, is_ended_at}
+use Rattle.call_actions.specs.Order.{AttemptsAreNumbered}
+use Rattle.call_actions.specs.TakeActions.Serves.{AttemptsStandInPlace, IsLeft, Serves, is_ended_at}
 use Rattle.call_core.specs.Laws.{came as channel_came}
 use Rattle.call_core.specs.Steps.{deadline_at, next_due}
 use Rattle.channel_actions.proofs.KeptSessions.Lists.{all_wide}
@@ -30,7 +30,7 @@ use Rattle.session_actions.specs.declared.call.Call.{Call}
 use Rattle.session_actions.specs.declared.config.ThrottleRun.{ThrottleRun}
 use Rattle.session_actions.specs.declared.seen.Seen.{Seen}
 
-placed_so : (n : ℕ) (xs : List Attempt) → AreNumbered n xs → ArePlaced n xs
+placed_so : (n : ℕ) (xs : List Attempt) → AttemptsAreNumbered n xs → AttemptsStandInPlace n xs
 placed_so n [] p = tt
 placed_so n (x ∷ xs) p = (p.0, placed_so _ xs p.1)
 

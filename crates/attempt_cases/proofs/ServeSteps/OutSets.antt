@@ -10,7 +10,7 @@ use Rattle.channel_actions.proofs.Links.Settings.Pairs.{exactly_by, exactly_inse
 use Rattle.channel_actions.proofs.Links.Settings.Timers.{timers_exactly}
 use Rattle.channel_actions.specs.Calls.{deadline_of, due_of}
 use Rattle.call_cases.specs.OtherCalls.Laws.{SetsApart}
-use Rattle.channel_actions.specs.Sets.{SeesSets, is_in_bare, is_in_deadlines, is_in_dues, is_in_impatient, is_in_outstanding, is_in_patient, is_in_queue, is_patient, is_waiting}
+use Rattle.channel_actions.specs.Sets.{SeesSets, is_awaiting_config, is_in_deadlines, is_in_dues, is_in_fail_fast, is_in_outstanding, is_in_ready_waiters, is_in_queue, is_ready_waiter, is_waiting}
 use Rattle.call_cases.proofs.ConfiguredCalls.Lists.{equal_numbers}
 use Rattle.attempt_cases.proofs.MakingSteps.Lists.{holds_alike, holds_changed, pair_away, pair_here}
 use Rattle.attempt_cases.proofs.ServeSteps.OutBase as base
@@ -119,20 +119,20 @@ module _ (x : StateSeen) (s : Seen) (is : OutNext x s) where
   waiting_less : (k r : ℕ) → is_waiting t k r ≡ (is_waiting s k r && not (gone (k, r)))
   waiting_less k r = waiting_by k r (r == row) refl
 
-  patient_same : (k : ℕ) → is_patient t k ≡ is_patient s k
-  patient_same k = holds_changed (base.noted x s is) c.number s.calls (λ (d : Call). waits_for_ready d s) (λ d. refl) k
+  wait_for_ready_same : (k : ℕ) → is_ready_waiter t k ≡ is_ready_waiter s k
+  wait_for_ready_same k = holds_changed (base.noted x s is) c.number s.calls (λ (d : Call). waits_for_ready d s) (λ d. refl) k
 
   in_queue : (k r : ℕ) → (is_in_queue s k r && not (gone (k, r))) ≡ is_in_queue t k r
   in_queue k r =
-      sym (ap (λ (q : Bool). q && not (is_patient t k)) (waiting_less k r)
-      ∙ ap (λ (q : Bool). (is_waiting s k r && not (gone (k, r))) && not q) (patient_same k)
-      ∙ out_and (is_waiting s k r) (gone (k, r)) (not (is_patient s k)))
+      sym (ap (λ (q : Bool). q && not (is_ready_waiter t k)) (waiting_less k r)
+      ∙ ap (λ (q : Bool). (is_waiting s k r && not (gone (k, r))) && not q) (wait_for_ready_same k)
+      ∙ out_and (is_waiting s k r) (gone (k, r)) (not (is_ready_waiter s k)))
 
-  in_patient : (k r : ℕ) → (is_in_patient s k r && not (gone (k, r))) ≡ is_in_patient t k r
-  in_patient k r =
-      sym (ap (λ (q : Bool). q && is_patient t k) (waiting_less k r)
-      ∙ ap (λ (q : Bool). (is_waiting s k r && not (gone (k, r))) && q) (patient_same k)
-      ∙ out_and (is_waiting s k r) (gone (k, r)) (is_patient s k))
+  in_ready_waiters : (k r : ℕ) → (is_in_ready_waiters s k r && not (gone (k, r))) ≡ is_in_ready_waiters t k r
+  in_ready_waiters k r =
+      sym (ap (λ (q : Bool). q && is_ready_waiter t k) (waiting_less k r)
+      ∙ ap (λ (q : Bool). (is_waiting s k r && not (gone (k, r))) && q) (wait_for_ready_same k)
+      ∙ out_and (is_waiting s k r) (gone (k, r)) (is_ready_waiter s k))
 
   -- who is outstanding
   outstanding_at : (link r : ℕ) (o : Option Attempt) → (r == row) ≡ false → numbered s.attempts r ≡ o
@@ -166,13 +166,13 @@ module _ (x : StateSeen) (s : Seen) (is : OutNext x s) where
   own_deadlines u d due e f m = ap (holds (λ (k : Call). is_number m (deadline_of u k))) e ∙ ap (is_number m) f
 
   -- calls without a config
-  bare_same : (z k : ℕ) → is_in_bare s z k ≡ is_in_bare t z k
-  bare_same z k =
+  unconfigured_same : (z k : ℕ) → is_awaiting_config s z k ≡ is_awaiting_config t z k
+  unconfigured_same z k =
       sym (ap (λ (q : Bool). (z == 0) && q) (holds_changed (base.noted x s is) c.number s.calls (λ (d : Call). is_open_call d && is_none d.config) (λ d. refl) k))
 
-  impatient_same : (z k : ℕ) → is_in_impatient s z k ≡ is_in_impatient t z k
-  impatient_same z k =
-      ap (λ (q : Bool). q && not (is_patient s k)) (bare_same z k) ∙ sym (ap (λ (q : Bool). is_in_bare t z k && not q) (patient_same k))
+  fail_fast_same : (z k : ℕ) → is_in_fail_fast s z k ≡ is_in_fail_fast t z k
+  fail_fast_same z k =
+      ap (λ (q : Bool). q && not (is_ready_waiter s k)) (unconfigured_same z k) ∙ sym (ap (λ (q : Bool). is_awaiting_config t z k && not q) (wait_for_ready_same k))
 
   module _ (laws : OutLaws) where
     others : SetsApart c.number s t
@@ -183,9 +183,9 @@ module _ (x : StateSeen) (s : Seen) (is : OutNext x s) where
       queue =
           exactly_by (remove_key (is_same (c.number, row)) x.queue) (λ k r. is_in_queue s k r && not (gone (k, r))) (is_in_queue t)
           (exactly_remove x.queue (is_in_queue s) (c.number, row) is.agrees.sets.queue) in_queue;
-      patient =
-          exactly_by (remove_key (is_same (c.number, row)) x.patient) (λ k r. is_in_patient s k r && not (gone (k, r))) (is_in_patient t)
-          (exactly_remove x.patient (is_in_patient s) (c.number, row) is.agrees.sets.patient) in_patient;
+      ready_waiters =
+          exactly_by (remove_key (is_same (c.number, row)) x.ready_waiters) (λ k r. is_in_ready_waiters s k r && not (gone (k, r))) (is_in_ready_waiters t)
+          (exactly_remove x.ready_waiters (is_in_ready_waiters s) (c.number, row) is.agrees.sets.ready_waiters) in_ready_waiters;
       dues =
           timers_exactly c.number x.dues (is_in_dues s) is.slot.due (base.slot2 x s is).due is.agrees.sets.dues (own_dues s c is.slot.due is.there is.sees.due) (is_in_dues t)
           (λ m k e. others.dues m k e) (own_dues t (base.c1 x s is) (base.slot2 x s is).due (base.own_now x s is) (own_due x s is laws));
@@ -193,8 +193,8 @@ module _ (x : StateSeen) (s : Seen) (is : OutNext x s) where
           timers_exactly c.number x.deadlines (is_in_deadlines s) is.slot.deadline (base.slot2 x s is).deadline is.agrees.sets.deadlines
           (own_deadlines s c is.slot.deadline is.there is.sees.deadline_is) (is_in_deadlines t) (λ m k e. others.deadlines m k e)
           (own_deadlines t (base.c1 x s is) (base.slot2 x s is).deadline (base.own_now x s is) (own_deadline x s is laws));
-      bare = exactly_by x.bare (is_in_bare s) (is_in_bare t) is.agrees.sets.bare bare_same;
-      impatient = exactly_by x.impatient (is_in_impatient s) (is_in_impatient t) is.agrees.sets.impatient impatient_same;
+      awaiting_config = exactly_by x.awaiting_config (is_awaiting_config s) (is_awaiting_config t) is.agrees.sets.awaiting_config unconfigured_same;
+      fail_fast = exactly_by x.fail_fast (is_in_fail_fast s) (is_in_fail_fast t) is.agrees.sets.fail_fast fail_fast_same;
       outstanding =
           exactly_by (insert_key pair_cmp x.outstanding (is.at.link, row)) (λ link r. is_same (link, r) (is.at.link, row) || is_in_outstanding s link r) (is_in_outstanding t)
           (exactly_insert x.outstanding (is_in_outstanding s) (is.at.link, row) is.agrees.sets.outstanding) (λ link r. outstanding_by link r (r == row) refl);

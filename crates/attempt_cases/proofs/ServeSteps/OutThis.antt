@@ -6,8 +6,8 @@ use Rattle.attempt_ledger.specs.declared.ledger.CallEnd.{CallEnd}
 use Rattle.attempt_ledger.specs.declared.row.RowEnd.{RowEnd}
 use Rattle.call_actions.proofs.Lists.{numbered_not}
 use Rattle.call_actions.proofs.Places.{place_is}
-use Rattle.call_actions.specs.Order.{AreNumbered, goes_on_followed}
-use Rattle.attempt_cases.proofs.MakingSteps.Calm.{two_off}
+use Rattle.call_actions.specs.Order.{AttemptsAreNumbered, goes_on_followed}
+use Rattle.attempt_cases.proofs.MakingSteps.Quiescent.{two_off}
 use Rattle.attempt_cases.proofs.ServeSteps.Lasts.{IsLast, any_at, index_is, last_is, lower, none_of, not_false, not_true, same_some, three_ways, unsome}
 use Rattle.session_actions.specs.Attempts.{call_of, commitment, is_commitment, is_followed, is_later_of, is_of, is_over, is_over_in, is_queued}
 use Rattle.session_actions.specs.Commitments.{is_inherited, is_inherited_by, is_inherited_in}
@@ -17,7 +17,7 @@ use Rattle.session_actions.specs.declared.call.Call.{Call}
 use Rattle.session_actions.specs.declared.seen.Seen.{Seen}
 
 module _ (s : Seen) (c : Call) (row : ℕ) (a : Attempt) (there : numbered s.calls c.number ≡ Some c) (here : numbered s.attempts row ≡ Some a) (own : is_of c a ≡ true)
-    (queued : is_queued a s ≡ true) (places : AreNumbered 1 s.attempts) (unfollowed : list_any (goes_on_followed s c) s.attempts ≡ false) (uninherited : list_any (is_inherited s) s.attempts ≡ false) where
+    (queued : is_queued a s ≡ true) (places : AttemptsAreNumbered 1 s.attempts) (unfollowed : list_any (goes_on_followed s c) s.attempts ≡ false) (uninherited : list_any (is_inherited s) s.attempts ≡ false) where
   -- it waits
   waits_parts : ((is_none a.row.placed && is_none a.row.ended) ≡ true) × (not (is_over a s) ≡ true)
   waits_parts = and_parts (is_none a.row.placed && is_none a.row.ended) (not (is_over a s)) queued
@@ -82,8 +82,8 @@ module _ (s : Seen) (c : Call) (row : ℕ) (a : Attempt) (there : numbered s.cal
         let off : is_inherited s a ≡ false = numbered_not (is_inherited s) s.attempts row a uninherited here in
         let bad : true ≡ false = sym inherits ∙ off in (cc)
 
-    behind_not : nat_lt row k.place ≡ true → ⊥
-    behind_not less =
+    after_not : nat_lt row k.place ≡ true → ⊥
+    after_not less =
         let calls : (k.row.call == a.row.call) ≡ true = eq-eqb k.row.call a.row.call (eqb-true k.row.call c.number k_parts.0 ∙ sym (eqb-true a.row.call c.number own)) in
         let later : is_later_of a k ≡ true
         = ap (λ (b : Bool). (b && (k.row.number == a.row.number)) && nat_lt a.place k.place) calls ∙ ap (λ (b : Bool). b && nat_lt a.place k.place) (number_same k e)
@@ -97,7 +97,7 @@ module _ (s : Seen) (c : Call) (row : ℕ) (a : Attempt) (there : numbered s.cal
     by_place : (k.place ≡ row) ⊎ ((nat_lt k.place row ≡ true) ⊎ (nat_lt row k.place ≡ true)) → k ≡ a
     by_place (inl same) = at_row last.index k last.here (eq-eqb k.place row same)
     by_place (inr (inl less)) = absurd (before_by a.row.committed refl less)
-    by_place (inr (inr less)) = absurd (behind_not less)
+    by_place (inr (inr less)) = absurd (after_not less)
 
     pub is_this : k ≡ a
     is_this = by_place (three_ways k.place row)

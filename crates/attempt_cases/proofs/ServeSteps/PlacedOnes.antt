@@ -10,7 +10,7 @@ use Rattle.attempt_ledger.specs.declared.row.Placed.{Placed}
 use Rattle.call_actions.specs.TakeActions.Serves.{drained_so_far}
 use Rattle.channel_actions.proofs.ActionsFit.Held.{linked_open}
 use Rattle.channel_actions.proofs.Gone.{all_numbered}
-use Rattle.channel_actions.proofs.Links.Greeted.Along.{greeted_begins}
+use Rattle.channel_actions.proofs.Links.Prefaced.Along.{prefaced_begins}
 use Rattle.channel_actions.proofs.HeldTexts.Fits.{unwritten_texts_are_whole}
 use Rattle.channel_actions.proofs.Calls.Kept.Along.{early_along, early_begins}
 use Rattle.channel_actions.proofs.KeptSessions.Along.{kept_along, kept_begins}
@@ -23,10 +23,10 @@ use Rattle.channel_actions.specs.Calls.{HasSlot}
 use Rattle.channel_actions.specs.FewCalls.Reached.{IsReached}
 use Rattle.channel_actions.specs.HeldTexts.Fits.{TextsFit}
 use Rattle.channel_actions.specs.KeptCalls.Early.{IsEarlyKept, is_linked_up, is_past}
-use Rattle.channel_actions.specs.OwnLinks.Own.{AreOwnLinks}
-use Rattle.channel_actions.specs.OwnStreams.Own.{AreOwnStreams, is_below_next, is_opened}
+use Rattle.channel_actions.specs.OwnLinks.Own.{LinksAreOwn}
+use Rattle.channel_actions.specs.OwnStreams.Own.{StreamsAreOwn, is_below_next, is_opened}
 use Rattle.channel_actions.specs.SoundBuffers.Held.{BuffersAreSound, HoldsSoundly}
-use Rattle.attempt_cases.proofs.MakingSteps.Calm.{two_off}
+use Rattle.attempt_cases.proofs.MakingSteps.Quiescent.{two_off}
 use Rattle.attempt_cases.proofs.ServeSteps.Lasts.{none_of, not_true, unsome}
 use Rattle.attempt_cases.proofs.ServeSteps.OutAgrees.{agrees_now, final_now}
 use Rattle.attempt_cases.proofs.ServeSteps.OutBase as base
@@ -55,7 +55,7 @@ use Rattle.session_actions.specs.declared.entry.OpenEntry.{OpenEntry}
 use Rattle.session_actions.specs.declared.policy.PolicyUse.{PolicyUse}
 use Rattle.session_actions.specs.declared.seen.Seen.{Seen}
 use Rattle.session_actions.specs.declared.subchannel.Subchannel.{Subchannel}
-use Rattle.session_order.specs.Calm.{IsStill}
+use Rattle.session_order.specs.Quiescent.{IsStill}
 use Rattle.session_order.specs.Stirs.{IsPlaceable}
 use Rattle.session_order.specs.declared.line.Line.TheVariants as line
 
@@ -94,12 +94,12 @@ module _ (p : ℕ × ℕ) (g : PolicyUse) (sub : ℕ) (a : Attempt) (x : StateSe
   early : IsEarlyKept s
   early = early_along reached.actions (new_session reached.setup) s (kept_begins reached.setup) (early_begins reached.setup) reached.does
 
-  own_links : AreOwnLinks s
+  own_links : LinksAreOwn s
   own_links = own_along kept_along reached.actions (new_session reached.setup) s (kept_begins reached.setup) (own_begins reached.setup) reached.does
 
-  streams : AreOwnStreams s
+  streams : StreamsAreOwn s
   streams =
-      streams_along reached.actions (new_session reached.setup) s (kept_begins reached.setup) (greeted_begins reached.setup) (streams_begin reached.setup) reached.does
+      streams_along reached.actions (new_session reached.setup) s (kept_begins reached.setup) (prefaced_begins reached.setup) (streams_begin reached.setup) reached.does
 
   -- its call
   pub its_call : (c : Call) × (numbered s.calls a.row.call ≡ Some c)
@@ -161,7 +161,7 @@ module _ (p : ℕ × ℕ) (g : PolicyUse) (sub : ℕ) (a : Attempt) (x : StateSe
   unwritten_by None e = ap (λ (o : Option Attempt). option_map_or (λ (z : Attempt). drained z s) o 0) e
   unwritten_by (Some z) e =
       let this : z ≡ a
-      = is_this s c p.1 a (ap (numbered s.calls) number_is ∙ at_call) there own queued has.sees.order.places has.sees.turn.unfollowed (asked.calm line.Inherited refl) z e in
+      = is_this s c p.1 a (ap (numbered s.calls) number_is ∙ at_call) there own queued has.sees.order.places has.sees.turn.unfollowed (asked.quiescent line.Inherited refl) z e in
       ap (λ (o : Option Attempt). option_map_or (λ (v : Attempt). drained v s) o 0) (e ∙ ap (λ (v : Attempt). Some v) this)
       ∙ ap (λ (o : Option ℕ). option_map_or (λ (stream : ℕ). option_map_or (used stream) (link_of a s) 0) o 0) streamless
 
@@ -207,8 +207,8 @@ module _ (p : ℕ × ℕ) (g : PolicyUse) (sub : ℕ) (a : Attempt) (x : StateSe
       link_there = k.there;
       up = k.up;
       alive = alive;
-      calm = asked.calm line.Transparent refl;
-      uninherited = asked.calm line.Inherited refl;
+      quiescent = asked.quiescent line.Transparent refl;
+      uninherited = asked.quiescent line.Inherited refl;
       next = k.next;
     }
 
@@ -247,7 +247,7 @@ module _ (p : ℕ × ℕ) (g : PolicyUse) (sub : ℕ) (a : Attempt) (x : StateSe
       agrees =
           subst (λ (v : StateSeen). Agrees v (attempt_placed p.1 at s)) (sym (ap (λ (m : Moved). m.state) k.channel ∙ is_z))
           (subst (λ (v : Seen). Agrees z v) (sym (base.placed_is x s goes)) (agrees_now laws x s goes));
-      final = subst (λ (v : Seen). IsStill line.Final o v) (sym (base.placed_is x s goes)) (final_now laws x s goes (asked.calm line.Final refl));
+      final = subst (λ (v : Seen). IsStill line.Final o v) (sym (base.placed_is x s goes)) (final_now laws x s goes (asked.quiescent line.Final refl));
     }
 
 pub placed_ones_agree : OutLaws → PlacedOnesAgree

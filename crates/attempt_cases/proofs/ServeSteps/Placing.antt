@@ -11,7 +11,7 @@ use Rattle.channel_actions.specs.FewCalls.Reached.{IsReached}
 use Rattle.channel_actions.proofs.Links.Settings.Firsts.{none_numbered}
 use Rattle.channel_actions.proofs.Settles.{is_with_open, with_open}
 use Rattle.channel_actions.specs.Agrees.{Agrees}
-use Rattle.channel_actions.specs.Calm.{IsAt}
+use Rattle.channel_actions.specs.Quiescent.{IsAt}
 use Rattle.attempt_cases.proofs.MakingSteps.Step.{none_at}
 use Rattle.attempt_cases.proofs.ServeSteps.Answering.{last_more}
 use Rattle.attempt_cases.specs.PassActions.Serves.{IsPassing}
@@ -40,8 +40,8 @@ use Rattle.session_actions.specs.declared.entry.OpenEntry.{OpenEntry}
 use Rattle.session_actions.specs.declared.entry.Stage.TheVariants as stage
 use Rattle.session_actions.specs.declared.policy.PolicyUse.{PolicyUse}
 use Rattle.session_actions.specs.declared.seen.Seen.{Seen}
-use Rattle.session_order.specs.Calm.{IsStill, can_follow, is_to_follow_pick, is_unplaced}
-use Rattle.session_order.specs.Laws.{AttemptsStir, CalmIsExact}
+use Rattle.session_order.specs.Quiescent.{IsStill, can_follow, is_to_follow_pick, is_unplaced}
+use Rattle.session_order.specs.Laws.{AttemptsStir, QuiescenceIsExact}
 use Rattle.session_order.specs.Lines.{is_line}
 use Rattle.session_order.specs.declared.line.Line.{Line}
 use Rattle.session_order.specs.declared.line.Line.TheVariants as line
@@ -53,7 +53,7 @@ call_there : (s : Seen) (n : ℕ) (q : Option Call) → numbered s.calls n ≡ q
 call_there s n None is e = absurd (let bad : false ≡ true = e in (cc))
 call_there s n (Some c) is e = (c, is)
 
-module _ (exact : CalmIsExact) (stir : AttemptsStir) (next : AnswersAreNext) (goes : PlacedOnesAgree) (p : ℕ × ℕ) (sub : ℕ) (x : StateSeen) (o : OpenEntry) (s0 : Seen) where
+module _ (exact : QuiescenceIsExact) (stir : AttemptsStir) (next : AnswersAreNext) (goes : PlacedOnesAgree) (p : ℕ × ℕ) (sub : ℕ) (x : StateSeen) (o : OpenEntry) (s0 : Seen) where
   abbrev s : Seen
   s = with_open o s0
 
@@ -124,7 +124,7 @@ module _ (exact : CalmIsExact) (stir : AttemptsStir) (next : AnswersAreNext) (go
     -- nothing follows
     leaves : (l : Line) → is_line l line.Final ≡ false → is_line l line.Pick ≡ false → IsStill l q v
     leaves l unfinal unpicked =
-        subst (λ (w : Seen). IsStill l q w) u_is (stir.placed p.1 at q t after.current out.fits l q current unfinal refl (after.calm l unpicked))
+        subst (λ (w : Seen). IsStill l q w) u_is (stir.placed p.1 at q t after.current out.fits l q current unfinal refl (after.quiescent l unpicked))
 
     unplaced : is_unplaced v p.1 ≡ false
     unplaced = ap (holds is_unfollowed) placed_here
@@ -163,7 +163,7 @@ module _ (exact : CalmIsExact) (stir : AttemptsStir) (next : AnswersAreNext) (go
     at_now = record {
       current = after.current;
       stage_is = after.stage_is;
-      calm = (let back = (exact q v).1 still in record { calls = back.0; links = back.1; policies = back.2 });
+      quiescent = (let back = (exact q v).1 still in record { calls = back.0; links = back.1; policies = back.2 });
     }
 
     agrees : Agrees z v
@@ -219,7 +219,7 @@ module _ (exact : CalmIsExact) (stir : AttemptsStir) (next : AnswersAreNext) (go
     pub follows : IsFollowed p (picked p.0 p.1 g.number (answer_for g s) y) q t
     follows = subst (λ (a : Pick). IsFollowed p (picked p.0 p.1 g.number a y) q t) (sym is) followed
 
-pub places_by_agreement : CalmIsExact → AttemptsStir → AnswersAreNext → PlacesByAgreement
+pub places_by_agreement : QuiescenceIsExact → AttemptsStir → AnswersAreNext → PlacesByAgreement
 places_by_agreement exact stir next goes p x o s h sound at k is agrees after =
     let P : Seen → Type 0 = λ w. IsSound x w → (k : AskNext p w) → IsPlace (answer_for k.policy w) → Agrees (asked_for p.1 k.policy w x) (request_made p k.policy w)
     → IsAsked p (passed_by p o) (request_made p k.policy w)

@@ -3,7 +3,7 @@ use Rattle.std.proofs.Common.{◌≡◌, ◌∷◌, ap, refl, subst, sym, true, 
 use Rattle.std.specs.Prelude.{Option}
 use Rattle.channel_actions.proofs.Settles.{is_with_open, with_open}
 use Rattle.channel_actions.specs.Agrees.{Agrees}
-use Rattle.channel_actions.specs.Calm.{IsAt}
+use Rattle.channel_actions.specs.Quiescent.{IsAt}
 use Rattle.channel_actions.specs.KeptCalls.Laws.{EarlyAlong}
 use Rattle.channel_actions.proofs.Calls.Going.Arms.{CallLaws}
 use Rattle.channel_actions.proofs.HeldTexts.Carried.{Trims, rests_trim}

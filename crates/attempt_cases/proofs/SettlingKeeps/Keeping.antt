@@ -12,10 +12,10 @@ use Rattle.channel_actions.specs.SoundCalls.Sound.{all_attempts}
 use Rattle.call_cases.specs.SettlingActions.Laws.{SettlingKeeps, queue_served_state}
 use Rattle.call_cases.specs.SettlingActions.Sound.{SoundStays}
 use Rattle.call_cases.specs.SettlingActions.Steps.{round_made_state}
-use Rattle.channel_core.proofs.RestingSteps.{clock, make_round, pass, serve_bare, settle_net}
+use Rattle.channel_core.proofs.RestingSteps.{clock, make_round, pass, serve_unconfigured, settle_net}
 use Rattle.channel_core.specs.Settling.{most, stays}
 use Rattle.channel_core.specs.States.{StateSeen}
-use Rattle.channel_core.specs.Steps.{bare_served, clocked, net_settled}
+use Rattle.channel_core.specs.Steps.{unconfigured_served, clocked, net_settled}
 use Rattle.session_actions.specs.declared.action.Action.{Action}
 use Rattle.session_actions.specs.declared.seen.Seen.{Seen}
 
@@ -45,7 +45,7 @@ pub settling_keeps : CallLaws → EarlyAlong → SettlingKeeps
 settling_keeps laws along = record {
   clocks = stays_by clocked (λ x. clock Settles (rests laws) x) (λ x. clock Stay (stay_rests laws) x) (λ x. clock Trims rests_trim x) along;
   nets = stays_by net_settled (λ x. settle_net Settles (rests laws) x) (λ x. settle_net Stay (stay_rests laws) x) (λ x. settle_net Trims rests_trim x) along;
-  configs = stays_by bare_served (λ x. serve_bare Settles (rests laws) x (configures laws)) (λ x. serve_bare Stay (stay_rests laws) x (go_chosen laws)) (λ x. serve_bare Trims rests_trim x chosen_trims) along;
+  configs = stays_by unconfigured_served (λ x. serve_unconfigured Settles (rests laws) x (configures laws)) (λ x. serve_unconfigured Stay (stay_rests laws) x (go_chosen laws)) (λ x. serve_unconfigured Trims rests_trim x chosen_trims) along;
   making = stays_by round_made_state (λ x. make_round Settles (rests laws) x) (λ x. make_round Stay (stay_rests laws) x) (λ x. make_round Trims rests_trim x) along;
   queue =
       stays_by queue_served_state (λ x. pass Settles (rests laws) most (0, 0) (stays x)) (λ x. pass Stay (stay_rests laws) most (0, 0) (stays x)) (λ x. pass Trims rests_trim most (0, 0) (stays x)) along;

@@ -12,7 +12,7 @@ use Rattle.call_core.specs.Steps.{Stepped}
 use Rattle.call_core.specs.declared.inbox.Inbox.{Inbox}
 use Rattle.channel_actions.specs.Agrees.{Agrees}
 use Rattle.call_cases.specs.CallEnds.Ends.{unowed}
-use Rattle.call_cases.specs.EndsFollow.Cuts.{AreUnreset}
+use Rattle.call_cases.specs.EndsFollow.Cuts.{NoStreamIsToReset}
 use Rattle.call_cases.specs.EndsFollow.Laws.{is_late}
 use Rattle.channel_core.specs.Books.{slot_at}
 use Rattle.channel_core.specs.States.{StateSeen}
@@ -32,7 +32,7 @@ use Rattle.session_actions.specs.declared.attempt.Attempt.{Attempt}
 use Rattle.session_actions.specs.declared.call.Call.{Call}
 use Rattle.session_actions.specs.declared.entry.OpenEntry.{OpenEntry}
 use Rattle.session_actions.specs.declared.seen.Seen.{Seen}
-use Rattle.session_order.specs.Calm.{IsStill}
+use Rattle.session_order.specs.Quiescent.{IsStill}
 use Rattle.session_order.specs.Lines.{is_line}
 use Rattle.session_order.specs.declared.line.Line.{Line}
 use Rattle.session_order.specs.declared.line.Line.TheVariants as line
@@ -47,7 +47,7 @@ pub record CommitsNext (waits : Line → Bool) (number : ℕ) (why : CommitCause
   pub late : (l : Line) → waits l ≡ true → is_late l ≡ true
   pub current : s.current ≡ Some o
   pub agrees : Agrees x s
-  pub unreset : AreUnreset s
+  pub unreset : NoStreamIsToReset s
   pub call : Call
   pub there : numbered s.calls number ≡ Some call
   pub slot : CallSlot
@@ -75,7 +75,7 @@ pub record HasCommitted (waits : Line → Bool) (number place : ℕ) (why : Comm
   pub setup : seen.setup ≡ s.setup
   pub current : seen.current ≡ Some o
   pub still : (l : Line) → waits l ≡ false → IsStill l o seen
-  pub unreset : AreUnreset seen
+  pub unreset : NoStreamIsToReset seen
   -- of the links nothing else changed than what is queued
   pub links : map unowed seen.links ≡ map unowed s.links
   pub agrees : Agrees (committed_state number place inbox x) seen

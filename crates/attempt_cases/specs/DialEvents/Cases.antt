@@ -1,4 +1,4 @@
--- What the environment tells of dials.
+-- What the environment reports of dials.
 -- Example: the dial of subchannel 2 was taken. DialFailed 2 and LinkUp 2 are of a dial that is under way; a second DialFailed 2 is not, and is refused.
 use Rattle.std.specs.Prelude.{None, Some, length, ℕ, ◌<◌, ◌≡◌}
 use Rattle.channel_core.specs.Applying as channel
@@ -6,7 +6,7 @@ use Rattle.channel_core.specs.States.{StateSeen}
 use Rattle.channel_net.specs.Steps.{dial_refusal}
 use Rattle.grpc_base.specs.declared.event.Event.{Event}
 use Rattle.grpc_base.specs.declared.event.Event.TheVariants as event
-use Rattle.net_actions.specs.Laws.{AreFewDials}
+use Rattle.net_actions.specs.Laws.{DialCountsFit}
 use Rattle.session_actions.specs.declared.seen.Seen.{Seen}
 use Rattle.subchannel.specs.Boards.{first_number, numbered}
 use Rattle.subchannel.specs.Records.{is_dialable}
@@ -17,7 +17,7 @@ pub record IsTakenDial (e : Event) (x : StateSeen) (s : Seen) : Type 0 where
   pub event_is : e ≡ event.TakeDial
   pub kept : channel.refusal_of e x ≡ None
   pub first : first_number is_dialable x.net.board ≡ Some sub
-  pub few : AreFewDials s.subs
+  pub few : DialCountsFit s.subs
 
 -- a dial that is under way fails
 pub record IsFailedDial (e : Event) (x : StateSeen) (s : Seen) : Type 0 where

@@ -1,4 +1,4 @@
--- What the environment tells of dials is answered alike by channel and session.
+-- What the environment reports of dials is answered alike by channel and session.
 -- Example: subchannel 1 is CONNECTING, and TakeDial is answered with Dial 1. At 3 s DialFailed 1: subchannel 1 is in TRANSIENT_FAILURE, in both, and its
 -- policies have noted it.
 use Rattle.channel_actions.specs.Stages.{EventsAnswered}

@@ -14,7 +14,7 @@ use Rattle.channel_core.specs.States.{StateSeen}
 use Rattle.channel_core.specs.Tables.{numbered}
 use Rattle.channel_core.specs.declared.state.book.Book.{Book}
 use Rattle.channel_core.specs.declared.state.links.LinkSlot.{LinkSlot}
-use Rattle.channel_actions.specs.DrainLends.Laws.{AreNear}
+use Rattle.channel_actions.specs.DrainLends.Laws.{DeadlinesAreClose}
 use Rattle.channel_actions.specs.DrainWrites.Laws.{IsDrainRun}
 use Rattle.grpc_base.specs.declared.event.Event.{Event}
 use Rattle.grpc_base.specs.declared.event.Event.TheVariants as event
@@ -31,7 +31,7 @@ pub record IsDrain (e : Event) (x : StateSeen) (s : Seen) : Type 0 where
   pub room : ℕ
   pub event_is : e ≡ event.Drain link room
   pub kept : channel.refusal_of e x ≡ None
-  pub near : AreNear s
+  pub near : DeadlinesAreClose s
   pub few : (y : StateSeen) (r : Reply) (slot : LinkSlot) → Applies e x y r → numbered y.links link ≡ Some slot → slot.link.link.wire.opened < 2 ^ 30
 
 -- the session has written what the channel did, and the link agrees after it, with the lines that the book lends then

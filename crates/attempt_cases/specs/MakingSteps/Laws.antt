@@ -9,7 +9,7 @@ use Rattle.std.specs.Prelude.{Bool, None, Some, false, true, ℕ, ◌≡◌}
 use Rattle.attempt_ledger.specs.declared.row.RowKind.{RowKind}
 use Rattle.channel_actions.specs.Agrees.{Agrees}
 use Rattle.channel_actions.specs.Calls.{HasSlot}
-use Rattle.channel_actions.specs.Calm.{IsAt}
+use Rattle.channel_actions.specs.Quiescent.{IsAt}
 use Rattle.channel_core.specs.States.{StateSeen}
 use Rattle.channel_core.specs.Steps.{made_one}
 use Rattle.session_actions.specs.Actions.{following}
@@ -33,7 +33,7 @@ pub record MakeNext (number : ℕ) (x : StateSeen) (o : OpenEntry) (s : Seen) : 
   pub agrees : Agrees x s
   pub sound : IsSound x s
   -- no attempt waits for its transparent retry
-  pub calm : next_transparent s ≡ None
+  pub quiescent : next_transparent s ≡ None
   pub call : Call
   pub there : numbered s.calls number ≡ Some call
   pub nth : ℕ

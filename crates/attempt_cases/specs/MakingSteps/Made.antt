@@ -22,7 +22,7 @@ made_slot due slot x = with_call (made_step due slot x).call slot
 abbrev pub with_attempt : ℕ → ℕ → CallSlot → StateSeen → StateSeen
 with_attempt due number slot x = record x {
   queue = if waits slot.call then x.queue else insert_key pair_cmp x.queue (number, next_place x.book.ledger);
-  patient = if waits slot.call then insert_key pair_cmp x.patient (number, next_place x.book.ledger) else x.patient;
+  ready_waiters = if waits slot.call then insert_key pair_cmp x.ready_waiters (number, next_place x.book.ledger) else x.ready_waiters;
   dues = timer_moved number slot.due (due_at (Some (made_slot due slot x))) x.dues;
   deadlines = timer_moved number slot.deadline (deadline_of (Some (made_slot due slot x))) x.deadlines;
   book = record x.book {

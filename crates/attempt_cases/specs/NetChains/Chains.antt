@@ -3,20 +3,20 @@
 use Rattle.std.specs.Prelude.{List, Some, [], false, length, ℕ, ◌≡◌, ◌≤◌}
 use Rattle.attempt_ledger.specs.declared.ledger.Ask.{Ask}
 use Rattle.grpc_base.specs.declared.kind.Pick.TheVariants as pick
-use Rattle.channel_actions.specs.BoardActions.Boards.{AreOfBoard}
+use Rattle.channel_actions.specs.BoardActions.Boards.{ActionsAreOfBoard}
 use Rattle.session_actions.specs.Laws.{posted_in}
 use Rattle.session_actions.specs.Sessions.{Does}
 use Rattle.session_actions.specs.Words.{last_of}
 use Rattle.session_actions.specs.declared.action.Action.{Action}
 use Rattle.session_actions.specs.declared.entry.OpenEntry.{OpenEntry}
 use Rattle.session_actions.specs.declared.seen.Seen.{Seen}
-use Rattle.session_order.specs.Calm.{IsCalm, IsStill}
+use Rattle.session_order.specs.Quiescent.{IsQuiescent, IsStill}
 use Rattle.session_order.specs.Lines.{is_of_policies}
 use Rattle.session_order.specs.declared.line.Line.{Line}
 
 -- no line gives anything but those of policies and their subchannels
-abbrev pub IsApartCalm : OpenEntry → Seen → Type 0
-IsApartCalm o s = (l : Line) → is_of_policies l ≡ false → IsStill l o s
+abbrev pub IsApartQuiescent : OpenEntry → Seen → Type 0
+IsApartQuiescent o s = (l : Line) → is_of_policies l ≡ false → IsStill l o s
 
 -- the last pick request was answered with a subchannel that was made, if with one
 abbrev pub IsPickThere : Seen → Type 0
@@ -25,7 +25,7 @@ IsPickThere s = (ask : Ask) (sub : ℕ) → last_of s.asks ≡ Some ask → ask.
 -- the session does these actions, of subchannels and policies alone, in the entry that is open; and then nothing follows at once
 pub record IsChained (actions : List Action) (o : OpenEntry) (s t : Seen) : Type 0 where
   pub does : Does actions s t
-  pub board : AreOfBoard actions
+  pub board : ActionsAreOfBoard actions
   pub posts : posted_in actions ≡ []
   pub current : t.current ≡ Some o
-  pub calm : IsCalm o t
+  pub quiescent : IsQuiescent o t

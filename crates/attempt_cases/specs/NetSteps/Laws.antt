@@ -5,19 +5,19 @@ use Rattle.channel_actions.specs.Agrees.{Agrees}
 use Rattle.channel_actions.specs.Links.{SeesLinks}
 use Rattle.channel_core.specs.States.{StateSeen}
 use Rattle.channel_actions.specs.KeptSessions.Kept.{IsKept}
-use Rattle.channel_actions.specs.LinkFrames.Alike.{CannotTell, IsLinkStill, Numbers}
+use Rattle.channel_actions.specs.LinkFrames.Alike.{CannotDistinguish, IsLinkStill, Numbers}
 use Rattle.channel_actions.specs.BoardActions.Boards.{IsBoarded}
 use Rattle.attempt_cases.specs.NetSteps.Steps.{IsNetStep}
 use Rattle.session_actions.specs.Words.{numbered}
 use Rattle.session_actions.specs.declared.link.Link.{Link}
 use Rattle.session_actions.specs.declared.seen.Seen.{Seen}
 
--- a link that is as it was cannot tell
-abbrev pub LinksCannotTell : Type 0
-LinksCannotTell =
+-- a link that is as it was cannot distinguish
+abbrev pub LinksCannotDistinguish : Type 0
+LinksCannotDistinguish =
     (touched : Numbers) (s t : Seen) → IsBoarded s t
     → ((link : ℕ) (m : Link) → touched link ≡ false → numbered t.links link ≡ Some m → (l : Link) × (numbered s.links link ≡ Some l) × IsLinkStill l m)
-    → CannotTell touched s t
+    → CannotDistinguish touched s t
 
 -- so where no link changed, all agree as before
 abbrev pub UntoldLinksAgree : Type 0

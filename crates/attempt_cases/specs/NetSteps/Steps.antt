@@ -12,7 +12,7 @@ use Rattle.channel_core.specs.declared.state.links.LinkSlot.{LinkSlot}
 use Rattle.channel_net.specs.Steps.{NetSeen}
 use Rattle.net_actions.specs.Runs.{IsOfCalls}
 use Rattle.net_actions.specs.Sees.{Sees}
-use Rattle.channel_actions.specs.BoardActions.Boards.{AreOfBoard}
+use Rattle.channel_actions.specs.BoardActions.Boards.{ActionsAreOfBoard}
 use Rattle.session_actions.specs.Policies.{current_policy}
 use Rattle.session_actions.specs.Sessions.{Does}
 use Rattle.session_actions.specs.declared.action.Action.{Action}
@@ -32,7 +32,7 @@ pub record IsNetStep (x y : StateSeen) (s t : Seen) : Type 0 where
   pub channel : y ≡ netted y.net y.drawn y.resolver y.links y.book.ledger.generations y.book.ledger.links x
   pub actions : List Action
   pub does : Does actions s t
-  pub board : AreOfBoard actions
+  pub board : ActionsAreOfBoard actions
   -- what both have after it
   pub clock : SeesClock y t
   pub generations : map (λ g. g.generation) t.policies ≡ y.book.ledger.generations

@@ -1,10 +1,10 @@
 -- A pass over the queue, attempt by attempt: each that can be served asks for a pick once, and is placed or ends. What is asked of one of these, and that a pass
 -- is all of them.
--- Example: the attempts 1 and 2 of call 1 wait, and the policy is READY. The pass begins behind no attempt; (1, 1) is served, and then (1, 2); behind that none
+-- Example: the attempts 1 and 2 of call 1 wait, and the policy is READY. The pass begins after no attempt; (1, 1) is served, and then (1, 2); after that none
 -- waits, and the pass is over.
 use Rattle.std.specs.Prelude.{Bool, None, Option, Some, false, suc, true, zero, ℕ, ◌≡◌, ◌⊎◌}
 use Rattle.channel_actions.specs.Agrees.{Agrees}
-use Rattle.channel_actions.specs.Calm.{IsAt}
+use Rattle.channel_actions.specs.Quiescent.{IsAt}
 use Rattle.channel_core.specs.Settling.{also, most, served, stays}
 use Rattle.channel_core.specs.States.{StateSeen}
 use Rattle.channel_core.specs.Steps.{Moved, next_served}
@@ -19,7 +19,7 @@ use Rattle.session_actions.specs.declared.seen.Seen.{Seen}
 use Rattle.call_cases.specs.SettlingActions.Sound.{IsSound}
 use Rattle.call_cases.specs.SettlingActions.Steps.{IsMade, Leads}
 
--- a pass is at its begin, or behind an attempt that asked last
+-- a pass is at its begin, or after an attempt that asked last
 abbrev pub turn_of : ℕ × ℕ → Turn
 turn_of p = record { call = p.0; row = p.1 }
 
@@ -56,7 +56,7 @@ PassesStop =
     (last : ℕ × ℕ) (x : StateSeen) (o : OpenEntry) (s : Seen) → Agrees x s → IsSound x s → IsAt stage.Settling o s → IsPassing last o s
     → next_served last x ≡ None → IsOver o s last
 
--- a pass ends before it served 2^64 - 1 attempts. (Each stands behind the one before, and an entry makes no more.)
+-- a pass ends before it served 2^64 - 1 attempts. (Each stands after the one before, and an entry makes no more.)
 abbrev pub is_passed_by : (ℕ × ℕ → Moved → Bool) → Option (ℕ × ℕ) → Moved → Bool
 is_passed_by further None m = true
 is_passed_by further (Some p) m = further p (also m.moved (served p.0 p.1 m.state))

@@ -10,7 +10,7 @@ use Rattle.std.specs.Prelude.{None, Some, [], false, nat_lt, option_map, true, �
 use Rattle.attempt_buffer.specs.Buffers.{Buffered, Committed, text_of}
 use Rattle.attempt_ledger.specs.declared.row.Placed.{Placed}
 use Rattle.channel_actions.specs.Agrees.{Agrees}
-use Rattle.channel_actions.specs.Calm.{IsAt}
+use Rattle.channel_actions.specs.Quiescent.{IsAt}
 use Rattle.channel_core.specs.Books.{limit_at, slot_at}
 use Rattle.channel_core.specs.Settling.{moves, offered, picked, place_at, placed, settled_in}
 use Rattle.channel_core.specs.States.{StateSeen}
@@ -38,7 +38,7 @@ use Rattle.session_actions.specs.declared.entry.Stage.TheVariants as stage
 use Rattle.session_actions.specs.declared.link.Link.{Link}
 use Rattle.session_actions.specs.declared.policy.PolicyUse.{PolicyUse}
 use Rattle.session_actions.specs.declared.seen.Seen.{Seen}
-use Rattle.session_order.specs.Calm.{IsStill}
+use Rattle.session_order.specs.Quiescent.{IsStill}
 use Rattle.session_order.specs.Lines.{is_line}
 use Rattle.session_order.specs.Stirs.{IsPlaceable}
 use Rattle.session_order.specs.declared.line.Line.{Line}
@@ -61,7 +61,7 @@ pub record IsAsked (p : ℕ × ℕ) (o : OpenEntry) (s : Seen) : Type 0 where
   pub current : s.current ≡ Some o
   pub stage_is : o.stage ≡ stage.Settling
   pub turn : o.turn ≡ Some (turn_of p)
-  pub calm : (l : Line) → is_line l line.Pick ≡ false → IsStill l o s
+  pub quiescent : (l : Line) → is_line l line.Pick ≡ false → IsStill l o s
   pub clock : next_of_clock s ≡ None
   pub take_over : next_take_over s ≡ None
   pub connected : next_connected s ≡ None

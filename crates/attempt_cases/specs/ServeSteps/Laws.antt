@@ -3,7 +3,7 @@
 -- Example: the attempts 1 of call 1 and 2 of call 2 wait, the policy is READY, and 1 was served. PickRequested 2, which is answered Place 1.
 use Rattle.std.specs.Prelude.{Some, nat_lt, true, ℕ, ◌≡◌}
 use Rattle.channel_actions.specs.Agrees.{Agrees}
-use Rattle.channel_actions.specs.Calm.{IsAt}
+use Rattle.channel_actions.specs.Quiescent.{IsAt}
 use Rattle.channel_core.specs.Settling.{asked}
 use Rattle.channel_core.specs.States.{StateSeen}
 use Rattle.channel_core.specs.Steps.{asked_by, next_served}

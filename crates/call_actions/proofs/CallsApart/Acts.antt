@@ -6,7 +6,7 @@ use Rattle.attempt_ledger.specs.declared.row.RowKind.{RowKind}
 use Rattle.call_actions.proofs.Ends.Tokens.{more_ends}
 use Rattle.call_actions.proofs.Places.{place_is}
 use Rattle.call_actions.proofs.Ranks.{numbered_more}
-use Rattle.call_actions.specs.Order.{AreNumbered}
+use Rattle.call_actions.specs.Order.{AttemptsAreNumbered}
 use Rattle.call_actions.proofs.CallsApart.Parts.{IsSame, attempt_apart, call_apart, config_apart, joins, marked_apart, more_apart, run_apart, runs_apart, same_apart, still_other, then_same}
 use Rattle.call_actions.proofs.CallsApart.Plain.{still, turned}
 use Rattle.call_actions.proofs.CallsApart.Seen.{all_numbered}
@@ -70,7 +70,7 @@ in_filter p [] j a got = absurd (cc)
 in_filter p (x ∷ xs) j a got = in_by p x xs (p x) a j got (λ i e. in_filter p xs i a e)
 
 -- an attempt stands at its place
-pub at_place : (xs : List Attempt) (a : Attempt) → AreNumbered 1 xs → IsIn xs a → numbered xs a.place ≡ Some a
+pub at_place : (xs : List Attempt) (a : Attempt) → AttemptsAreNumbered 1 xs → IsIn xs a → numbered xs a.place ≡ Some a
 at_place xs a places i =
     let there : a.place ≡ suc i.index = place_is (suc i.index) xs a places i.here in ap (numbered xs) there ∙ i.here
 

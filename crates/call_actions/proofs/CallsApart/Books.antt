@@ -82,16 +82,16 @@ not_both q a same has none = end_none a.row.ended (sym (ap (λ (z : Attempt). is
 -- marks
 module _ (s : Seen) (book : IsBook s) where
   -- of a call something is changed by which its number, config and request stay
-  told : (f : Call → Call) (n : ℕ) → ((d : Call) → (f d).number ≡ d.number) → ((d : Call) → (f d).config ≡ d.config) → ((d : Call) → (f d).request ≡ d.request)
+  reported : (f : Call → Call) (n : ℕ) → ((d : Call) → (f d).number ≡ d.number) → ((d : Call) → (f d).config ≡ d.config) → ((d : Call) → (f d).request ≡ d.request)
       → Moves s (with_call f n s) None
-  told f n number config request =
+  reported f n number config request =
       call_moves f n s book number (λ d has. ap (λ (o : Option ℕ). option_map_or (λ (k : ℕ). is_some (numbered s.configs k)) o true) (config d) ∙ has)
       (λ d has. ap (λ (o : Option ℕ). is_some o) (config d) ∙ has)
       (λ d got has. ap (λ (o : Option ℕ). (option_map_or (λ (h : HeldConfig). chosen_for h.config (f d).request.path) (option_and_then (numbered s.configs) o) no_choice).plan) (config d)
       ∙ ap (λ (q : RequestSeen). (option_map_or (λ (h : HeldConfig). chosen_for h.config q.path) (config_of_call d s) no_choice).plan) (request d))
 
   marks : (what : MarkKind) (n : ℕ) → Moves s (marked what n s) None
-  marks what n = told (λ (d : Call). record d { marks = d.marks ++ record { what = what; moment = now s } ∷ [] }) n (λ d. refl) (λ d. refl) (λ d. refl)
+  marks what n = reported (λ (d : Call). record d { marks = d.marks ++ record { what = what; moment = now s } ∷ [] }) n (λ d. refl) (λ d. refl) (λ d. refl)
 
   stays : Moves s s None
   stays = moves_same s s book (record { calls = refl; attempts = refl; configs = refl; runs = refl })
@@ -140,8 +140,8 @@ module _ (s : Seen) (book : IsBook s) where
   begun _ = stays s book
 
   accepted : (e : Event) (n : ℕ) → Moves s (with_call (with_message e) n s) None
-  accepted (event.Send call message) n = told s book (with_message (event.Send call message)) n (λ d. refl) (λ d. refl) (λ d. refl)
-  accepted _ n = told s book (λ (d : Call). d) n (λ d. refl) (λ d. refl) (λ d. refl)
+  accepted (event.Send call message) n = reported s book (with_message (event.Send call message)) n (λ d. refl) (λ d. refl) (λ d. refl)
+  accepted _ n = reported s book (λ (d : Call). d) n (λ d. refl) (λ d. refl) (λ d. refl)
 
   -- then it is marked, of a row or of a call
   row_changed : (f : Attempt → Attempt) → ((a : Attempt) → (f a).place ≡ a.place) → ((a : Attempt) → (f a).row.call ≡ a.row.call)
@@ -172,7 +172,7 @@ module _ (s : Seen) (book : IsBook s) where
       let z : Seen = marked mark.Closed n s in
       let one : Moves s z None = marks s book mark.Closed n in
       moves_on s z (call_ended n why s) None one
-      (told z one.book (λ (d : Call). record d { end = Some (record { entry = entry s; moment = now s; cause = why }) }) n (λ d. refl) (λ d. refl) (λ d. refl))
+      (reported z one.book (λ (d : Call). record d { end = Some (record { entry = entry s; moment = now s; cause = why }) }) n (λ d. refl) (λ d. refl) (λ d. refl))
 
   -- a config comes: the call had none
   none_then : (o : Option Call) (n config : ℕ) (d : Call) → ((c : Call) → o ≡ Some c → is_none c.config ≡ true)
@@ -290,11 +290,11 @@ module _ (s : Seen) (book : IsBook s) where
       moves_on s z (after_in o (action.MessageAccepted n) s) None one (moves_same z (after_in o (action.MessageAccepted n) s) one.book (record { calls = refl; attempts = refl; configs = refl; runs = refl }))
   act o (action.RequestFinished n) fair =
       let z : Seen = with_call (λ (d : Call). record d { finished = true }) n s in
-      let one : Moves s z None = told s book (λ (d : Call). record d { finished = true }) n (λ d. refl) (λ d. refl) (λ d. refl) in
+      let one : Moves s z None = reported s book (λ (d : Call). record d { finished = true }) n (λ d. refl) (λ d. refl) (λ d. refl) in
       moves_on s z (after_in o (action.RequestFinished n) s) None one (moves_same z (after_in o (action.RequestFinished n) s) one.book (record { calls = refl; attempts = refl; configs = refl; runs = refl }))
   act o (action.ItemTaken n item) fair =
       let z : Seen = with_call (λ (d : Call). record d { taken = d.taken + 1; end_taken = is_end item }) n s in
-      let one : Moves s z None = told s book (λ (d : Call). record d { taken = d.taken + 1; end_taken = is_end item }) n (λ d. refl) (λ d. refl) (λ d. refl) in
+      let one : Moves s z None = reported s book (λ (d : Call). record d { taken = d.taken + 1; end_taken = is_end item }) n (λ d. refl) (λ d. refl) (λ d. refl) in
       moves_on s z (after_in o (action.ItemTaken n item) s) None one (moves_same z (after_in o (action.ItemTaken n item) s) one.book (record { calls = refl; attempts = refl; configs = refl; runs = refl }))
   act o (action.CallEnds n why) fair = ended n why
   act o (action.ConfigRead x) fair = read x
@@ -320,21 +320,21 @@ pub books_stay : BooksStay
 books_stay s a book fair = let m : Moves s (after a s) (counts_in a s) = moves_after s book a fair in m.book
 
 -- the tokens of a run
-tokens_told : (s t : Seen) (u : ThrottleRun) → CountsAlike s t → list_all (is_there s) u.ends ≡ true → tokens_in u t ≡ tokens_in u s
-tokens_told s t u alike there =
+tokens_reported : (s t : Seen) (u : ThrottleRun) → CountsAlike s t → list_all (is_there s) u.ends ≡ true → tokens_in u t ≡ tokens_in u s
+tokens_reported s t u alike there =
     fold_where (λ (n at : ℕ). tokens_by u t n (numbered t.attempts at)) (λ (n at : ℕ). tokens_by u s n (numbered s.attempts at)) (is_there s)
-    (λ n at e. alike.told at e u n) u.throttle.start u.ends there
+    (λ n at e. alike.reported at e u n) u.throttle.start u.ends there
 
-bucket_told : (s t : Seen) (n : ℕ) (o : Option ThrottleRun) → numbered s.runs n ≡ o → CountsAlike s t → list_all (is_counted_there s) s.runs ≡ true
+bucket_reported : (s t : Seen) (n : ℕ) (o : Option ThrottleRun) → numbered s.runs n ≡ o → CountsAlike s t → list_all (is_counted_there s) s.runs ≡ true
     → option_map (bucket_of t) o ≡ option_map (bucket_of s) o
-bucket_told s t n None got alike all = refl
-bucket_told s t n (Some u) got alike all =
-    ap (λ (k : ℕ). Some (bucket_by u k)) (tokens_told s t u alike (all_numbered (is_counted_there s) s.runs n u all got))
+bucket_reported s t n None got alike all = refl
+bucket_reported s t n (Some u) got alike all =
+    ap (λ (k : ℕ). Some (bucket_by u k)) (tokens_reported s t u alike (all_numbered (is_counted_there s) s.runs n u all got))
 
 pub tokens_stay : TokensStay
 tokens_stay s a run book fair there off =
     let m : Moves s (after a s) (counts_in a s) = moves_after s book a fair in
-    ap (option_map (bucket_of (after a s))) (m.runs run there off) ∙ bucket_told s (after a s) run (numbered s.runs run) refl m.alike book.counted
+    ap (option_map (bucket_of (after a s))) (m.runs run there off) ∙ bucket_reported s (after a s) run (numbered s.runs run) refl m.alike book.counted
 
 pub tokens_are_shared : TokensAreShared
 tokens_are_shared t c d x y h k same =

@@ -5,8 +5,8 @@ use Rattle.attempt_ledger.specs.declared.row.RowEnd.{RowEnd}
 use Rattle.call_actions.proofs.CallsApart.Acts.{at_place, others_stay}
 use Rattle.call_actions.proofs.CallsApart.Books.{books_stay}
 use Rattle.call_actions.proofs.CallsApart.Parts.{joins, same_apart}
-use Rattle.call_actions.specs.CallsApart.Apart.{AreCalls, IsApart, IsBook, IsFair}
-use Rattle.call_actions.specs.CallsApart.Laws.{AreOfOthers, BooksAlong, LinesAreFair, OthersAlong}
+use Rattle.call_actions.specs.CallsApart.Apart.{CallsAreNumbered, IsApart, IsBook, IsFair}
+use Rattle.call_actions.specs.CallsApart.Laws.{ActionsAreOfOthers, BooksAlong, LinesAreFair, OthersAlong}
 use Rattle.grpc_base.specs.declared.address.Address.{Address}
 use Rattle.grpc_base.specs.declared.event.EndCause.TheVariants as ending
 use Rattle.grpc_base.specs.declared.event.EndCause.{EndCause}
@@ -87,7 +87,7 @@ fair_if s true o p f g = f
 fair_if s false o p f g = g
 
 -- the one at its number
-call_at_from : (k : ℕ) (xs : List Call) (i : ℕ) (c : Call) → AreCalls k xs → slice_get xs i ≡ Some c → c.number ≡ k + i
+call_at_from : (k : ℕ) (xs : List Call) (i : ℕ) (c : Call) → CallsAreNumbered k xs → slice_get xs i ≡ Some c → c.number ≡ k + i
 call_at_from k [] i c p got = absurd (cc)
 call_at_from k (x ∷ xs) zero c p got =
     let one : x ≡ c = (cc) in
@@ -95,7 +95,7 @@ call_at_from k (x ∷ xs) zero c p got =
     let same : c.number ≡ x.number = ap (λ (d : Call). d.number) (sym one) in omega arith
 call_at_from k (x ∷ xs) (suc i) c p got = let next : c.number ≡ suc k + i = call_at_from (suc k) xs i c p.1 got in omega arith
 
-pub call_at_number : (xs : List Call) (i : ℕ) (c : Call) → AreCalls 1 xs → slice_get xs i ≡ Some c → numbered xs c.number ≡ Some c
+pub call_at_number : (xs : List Call) (i : ℕ) (c : Call) → CallsAreNumbered 1 xs → slice_get xs i ≡ Some c → numbered xs c.number ≡ Some c
 call_at_number xs i c p got =
     let at : c.number ≡ 1 + i = call_at_from 1 xs i c p got in
     let number : c.number ≡ suc i = omega (arith, at) in ap (numbered xs) number ∙ got
@@ -346,7 +346,7 @@ books_along [] s t book does = subst IsBook (sym does) book
 books_along (a ∷ actions) s t book does = books_along actions (after a s) t (books_stay s a book (fair_next s a book does.0)) does.1
 
 -- a list of actions of which none is of a call
-others_by : (c : Call) (actions : List Action) (s t : Seen) → IsBook s → numbered s.calls c.number ≡ Some c → Does actions s t → AreOfOthers c actions s → IsApart s t c
+others_by : (c : Call) (actions : List Action) (s t : Seen) → IsBook s → numbered s.calls c.number ≡ Some c → Does actions s t → ActionsAreOfOthers c actions s → IsApart s t c
 others_by c [] s t book own does others = subst (λ (z : Seen). IsApart s z c) (sym does) (same_apart c s s (record { calls = refl; attempts = refl; configs = refl; runs = refl }))
 others_by c (a ∷ actions) s t book own does others =
     let first : IsApart s (after a s) c = others_stay s c a book own others.0 in

@@ -47,14 +47,14 @@ module _ (s t : Seen) (c : Call) (k : IsApart s t c) (own : numbered s.calls c.n
   call_then a mine = ap (numbered t.calls) (eqb-true a.row.call c.number mine) ∙ own_then
 
   -- its attempts
-  later_narrow : (a : Attempt) → is_of c a ≡ true → (q : Attempt) → is_of c q ≡ false → is_later_of a q ≡ false
-  later_narrow a mine q e =
+  later_restricted : (a : Attempt) → is_of c a ≡ true → (q : Attempt) → is_of c q ≡ false → is_later_of a q ≡ false
+  later_restricted a mine q e =
       ap (λ (n : ℕ). ((q.row.call == n) && (q.row.number == a.row.number)) && nat_lt a.place q.place) (eqb-true a.row.call c.number mine)
       ∙ ap (λ (b : Bool). (b && (q.row.number == a.row.number)) && nat_lt a.place q.place) e
 
   pub followed_same : (a : Attempt) → is_of c a ≡ true → is_followed a t ≡ is_followed a s
   followed_same a mine =
-      any_apart (is_of c) (is_later_of a) (is_later_of a) (later_narrow a mine) (later_narrow a mine) (λ q e. refl) s.attempts t.attempts k.attempts
+      any_apart (is_of c) (is_later_of a) (is_later_of a) (later_restricted a mine) (later_restricted a mine) (λ q e. refl) s.attempts t.attempts k.attempts
 
   pub commitment_same : commitment c t ≡ commitment c s
   commitment_same =
@@ -71,13 +71,13 @@ module _ (s t : Seen) (c : Call) (k : IsApart s t c) (own : numbered s.calls c.n
       ∙ ap (λ (o : Option Attempt). is_some c.end || holds (λ (q : Attempt). not (q.row.number == a.row.number)) o) commitment_same
       ∙ sym (ap (holds (λ (d : Call). is_over_in d a s)) (call_before a mine))
 
-  retried_narrow : (z : Seen) (q : Attempt) → is_of c q ≡ false → (is_of c q && was_refused q && is_followed q z) ≡ false
-  retried_narrow z q e = ap (λ (b : Bool). (b && was_refused q) && is_followed q z) e
+  retried_restricted : (z : Seen) (q : Attempt) → is_of c q ≡ false → (is_of c q && was_refused q && is_followed q z) ≡ false
+  retried_restricted z q e = ap (λ (b : Bool). (b && was_refused q) && is_followed q z) e
 
   pub retried_same : was_retried_so c t ≡ was_retried_so c s
   retried_same =
       any_apart (is_of c) (λ (q : Attempt). is_of c q && was_refused q && is_followed q t) (λ (q : Attempt). is_of c q && was_refused q && is_followed q s)
-      (retried_narrow t) (retried_narrow s) (λ q mine. ap (λ (b : Bool). (is_of c q && was_refused q) && b) (followed_same q mine)) s.attempts t.attempts k.attempts
+      (retried_restricted t) (retried_restricted s) (λ q mine. ap (λ (b : Bool). (is_of c q && was_refused q) && b) (followed_same q mine)) s.attempts t.attempts k.attempts
 
   pub follow_same : (why : RowCause) (unseen : Bool) → is_to_follow c why unseen t ≡ is_to_follow c why unseen s
   follow_same why unseen =
@@ -116,14 +116,14 @@ module _ (s t : Seen) (c : Call) (k : IsApart s t c) (own : numbered s.calls c.n
       ∙ ap (λ (b : Bool). is_licensed_by (plan_of c s) n code asks b) (allows_same tokens)
 
   -- when its next attempt is due
-  delayed_narrow : (n : ℕ) (z : Seen) (q : Attempt) → is_of c q ≡ false → was_delayed c n z q ≡ false
-  delayed_narrow n z q e =
+  delayed_restricted : (n : ℕ) (z : Seen) (q : Attempt) → is_of c q ≡ false → was_delayed c n z q ≡ false
+  delayed_restricted n z q e =
       ap (λ (b : Bool). ((b && nat_le q.row.number n) && is_counted q z) && holds (λ (d : RowEnd). is_some (delay_of d.pushback)) q.row.ended) e
 
   pub delayed_same : (n : ℕ) → last_delayed c n t ≡ last_delayed c n s
   delayed_same n =
       ap (fold (λ (j : ℕ) (a : Attempt). max j a.row.number) 0)
-      (filter_apart (is_of c) (was_delayed c n t) (was_delayed c n s) (delayed_narrow n t) (delayed_narrow n s)
+      (filter_apart (is_of c) (was_delayed c n t) (was_delayed c n s) (delayed_restricted n t) (delayed_restricted n s)
       (λ q mine. ap (λ (b : Bool). ((is_of c q && nat_le q.row.number n) && b) && holds (λ (d : RowEnd). is_some (delay_of d.pushback)) q.row.ended) (counted_same q mine))
       s.attempts t.attempts k.attempts)
 
@@ -198,15 +198,15 @@ module _ (s t : Seen) (c : Call) (k : IsApart s t c) (own : numbered s.calls c.n
       (λ m good. row_same m.what good) c.marks mine)
 
   -- its live rows, and its part of the ledger
-  live_narrow : (z : Seen) (q : Attempt) → is_of c q ≡ false → is_live z c q ≡ false
-  live_narrow z q e = ap (λ (b : Bool). b && (is_outstanding q || is_queued q z)) e
+  live_restricted : (z : Seen) (q : Attempt) → is_of c q ≡ false → is_live z c q ≡ false
+  live_restricted z q e = ap (λ (b : Bool). b && (is_outstanding q || is_queued q z)) e
 
   pub live_one : (q : Attempt) → is_of c q ≡ true → is_live t c q ≡ is_live s c q
   live_one q mine = ap (λ (x : Bool). is_of c q && (is_outstanding q || ((is_none q.row.placed && is_none q.row.ended) && not x))) (over_same q mine)
 
   pub live_same : live_rows t c ≡ live_rows s c
   live_same =
-      ap (map live_row) (filter_apart (is_of c) (is_live t c) (is_live s c) (live_narrow t) (live_narrow s) live_one s.attempts t.attempts k.attempts)
+      ap (map live_row) (filter_apart (is_of c) (is_live t c) (is_live s c) (live_restricted t) (live_restricted s) live_one s.attempts t.attempts k.attempts)
 
   pub seen_same : call_seen t c ≡ call_seen s c
   seen_same =

@@ -1,14 +1,14 @@
 -- What a session keeps in order of all its calls, kind of field by kind of field: calls, attempts, configs and runs that change or join. And which tokens
--- are as before: an end that was counted is told as before while its attempt and its call's config are the same.
+-- are as before: an end that was counted is reported as before while its attempt and its call's config are the same.
 use Rattle.attempt_ledger.specs.declared.row.RowEnd.{RowEnd}
 use Rattle.call_actions.proofs.Ends.Tokens.{more_ends}
 use Rattle.call_actions.proofs.Lists.{changed_away, changed_map}
 use Rattle.call_actions.proofs.Places.{numbered_snoc}
 use Rattle.call_actions.proofs.Ranks.{all_so, numbered_more}
-use Rattle.call_actions.specs.Order.{AreNumbered}
+use Rattle.call_actions.specs.Order.{AttemptsAreNumbered}
 use Rattle.call_actions.proofs.CallsApart.Parts.{IsSame, more_for}
 use Rattle.call_actions.proofs.CallsApart.Seen.{all_numbered}
-use Rattle.call_actions.specs.CallsApart.Apart.{AreCalls, IsBook, has_config, has_run, is_counted_there, is_end_there}
+use Rattle.call_actions.specs.CallsApart.Apart.{CallsAreNumbered, IsBook, has_config, has_run, is_counted_there, is_end_there}
 use Rattle.grpc_base.specs.declared.plan.CallPlan.TheVariants as plan
 use Rattle.grpc_base.specs.declared.plan.CallPlan.{CallPlan}
 use Rattle.service_config.specs.Choice.{chosen_for}
@@ -65,45 +65,45 @@ some_more xs y (Some k) e = some_at xs y k (numbered xs k) refl e
 
 -- numbers
 module _ (f : Call → Call) (keeps : (d : Call) → (f d).number ≡ d.number) where
-  calls_set : (k : ℕ) (xs : List Call) (i : ℕ) (a : Call) → slice_get xs i ≡ Some a → AreCalls k xs → AreCalls k (slice_set xs i (f a))
+  calls_set : (k : ℕ) (xs : List Call) (i : ℕ) (a : Call) → slice_get xs i ≡ Some a → CallsAreNumbered k xs → CallsAreNumbered k (slice_set xs i (f a))
   calls_set k [] i a got p = tt
   calls_set k (x ∷ xs) zero a got p = let one : x ≡ a = (cc) in (keeps a ∙ sym (ap (λ (d : Call). d.number) one) ∙ p.0, p.1)
   calls_set k (x ∷ xs) (suc i) a got p = (p.0, calls_set (suc k) xs i a got p.1)
 
-  calls_if : (k i : ℕ) (xs : List Call) (o : Option Call) → slice_get xs i ≡ o → AreCalls k xs → AreCalls k (changed_if f (suc i) xs o)
+  calls_if : (k i : ℕ) (xs : List Call) (o : Option Call) → slice_get xs i ≡ o → CallsAreNumbered k xs → CallsAreNumbered k (changed_if f (suc i) xs o)
   calls_if k i xs None got p = p
   calls_if k i xs (Some a) got p = calls_set k xs i a got p
 
-  pub calls_changed : (n : ℕ) (xs : List Call) → AreCalls 1 xs → AreCalls 1 (changed f n xs)
+  pub calls_changed : (n : ℕ) (xs : List Call) → CallsAreNumbered 1 xs → CallsAreNumbered 1 (changed f n xs)
   calls_changed zero xs p = p
   calls_changed (suc i) xs p = calls_if 1 i xs (slice_get xs i) refl p
 
-pub calls_snoc : (k : ℕ) (xs : List Call) (y : Call) → AreCalls k xs → y.number ≡ k + length xs → AreCalls k (xs ++ y ∷ [])
+pub calls_snoc : (k : ℕ) (xs : List Call) (y : Call) → CallsAreNumbered k xs → y.number ≡ k + length xs → CallsAreNumbered k (xs ++ y ∷ [])
 calls_snoc k [] y p e = let at : y.number ≡ k = omega arith in (at, tt)
 calls_snoc k (x ∷ xs) y p e =
     let next : y.number ≡ suc k + length xs = omega arith in (p.0, calls_snoc (suc k) xs y p.1 next)
 
 module _ (f : Attempt → Attempt) (keeps : (a : Attempt) → (f a).place ≡ a.place) where
-  places_set : (k : ℕ) (xs : List Attempt) (i : ℕ) (a : Attempt) → slice_get xs i ≡ Some a → AreNumbered k xs → AreNumbered k (slice_set xs i (f a))
+  places_set : (k : ℕ) (xs : List Attempt) (i : ℕ) (a : Attempt) → slice_get xs i ≡ Some a → AttemptsAreNumbered k xs → AttemptsAreNumbered k (slice_set xs i (f a))
   places_set k [] i a got p = tt
   places_set k (x ∷ xs) zero a got p = let one : x ≡ a = (cc) in (keeps a ∙ sym (ap (λ (q : Attempt). q.place) one) ∙ p.0, p.1)
   places_set k (x ∷ xs) (suc i) a got p = (p.0, places_set (suc k) xs i a got p.1)
 
-  places_if : (k i : ℕ) (xs : List Attempt) (o : Option Attempt) → slice_get xs i ≡ o → AreNumbered k xs → AreNumbered k (changed_if f (suc i) xs o)
+  places_if : (k i : ℕ) (xs : List Attempt) (o : Option Attempt) → slice_get xs i ≡ o → AttemptsAreNumbered k xs → AttemptsAreNumbered k (changed_if f (suc i) xs o)
   places_if k i xs None got p = p
   places_if k i xs (Some a) got p = places_set k xs i a got p
 
-  pub places_changed : (n : ℕ) (xs : List Attempt) → AreNumbered 1 xs → AreNumbered 1 (changed f n xs)
+  pub places_changed : (n : ℕ) (xs : List Attempt) → AttemptsAreNumbered 1 xs → AttemptsAreNumbered 1 (changed f n xs)
   places_changed zero xs p = p
   places_changed (suc i) xs p = places_if 1 i xs (slice_get xs i) refl p
 
--- what is told of an end that was counted
+-- what is reported of an end that was counted
 abbrev pub is_there : Seen → ℕ → Bool
 is_there s place = holds (is_end_there s) (numbered s.attempts place)
 
 pub record CountsAlike (s t : Seen) : Type 0 where
   pub there : (place : ℕ) → is_there s place ≡ true → is_there t place ≡ true
-  pub told : (place : ℕ) → is_there s place ≡ true → (u : ThrottleRun) (count : ℕ)
+  pub reported : (place : ℕ) → is_there s place ≡ true → (u : ThrottleRun) (count : ℕ)
       → tokens_by u t count (numbered t.attempts place) ≡ tokens_by u s count (numbered s.attempts place)
 
 -- a session that is in order goes on in order, and of its runs only one of a number changes
@@ -117,7 +117,7 @@ moves_on s t u n f g = record {
   book = g.book;
   alike = record {
     there = λ place e. g.alike.there place (f.alike.there place e);
-    told = λ place e run count. g.alike.told place (f.alike.there place e) run count ∙ f.alike.told place e run count;
+    reported = λ place e run count. g.alike.reported place (f.alike.there place e) run count ∙ f.alike.reported place e run count;
   };
   runs = λ k there off.
       (let first : numbered t.runs k ≡ numbered s.runs k = f.runs k there refl in
@@ -127,14 +127,14 @@ moves_on s t u n f g = record {
 pub widen : (s t : Seen) (n : Option ℕ) → Moves s t None → Moves s t n
 widen s t n f = record { book = f.book; alike = f.alike; runs = λ k there off. f.runs k there refl }
 
--- the plan of an attempt's call decides what its end is told as
-pub told_by_plan : (s t : Seen) (a : Attempt) → plan_of_attempt a t ≡ plan_of_attempt a s → (u : ThrottleRun) (count : ℕ) → tokens_by u t count (Some a) ≡ tokens_by u s count (Some a)
-told_by_plan s t a same u count = ap (λ (p : CallPlan). option_map_or (λ (e : RowEnd). tokens_after u.throttle p e.code e.pushback count) a.row.ended count) same
+-- the plan of an attempt's call decides what its end is reported as
+pub reported_by_plan : (s t : Seen) (a : Attempt) → plan_of_attempt a t ≡ plan_of_attempt a s → (u : ThrottleRun) (count : ℕ) → tokens_by u t count (Some a) ≡ tokens_by u s count (Some a)
+reported_by_plan s t a same u count = ap (λ (p : CallPlan). option_map_or (λ (e : RowEnd). tokens_after u.throttle p e.code e.pushback count) a.row.ended count) same
 
-told_of : (s t : Seen) → IsSame s t → (u : ThrottleRun) (count : ℕ) (o : Option Attempt) → tokens_by u t count o ≡ tokens_by u s count o
-told_of s t e u count None = refl
-told_of s t e u count (Some a) =
-    told_by_plan s t a
+reported_of : (s t : Seen) → IsSame s t → (u : ThrottleRun) (count : ℕ) (o : Option Attempt) → tokens_by u t count o ≡ tokens_by u s count o
+reported_of s t e u count None = refl
+reported_of s t e u count (Some a) =
+    reported_by_plan s t a
     (ap (λ (l : List Call). option_map_or (λ (c : Call). plan_of c t) (numbered l a.row.call) plan.None) e.calls
     ∙ ap (λ (l : List HeldConfig). option_map_or (λ (c : Call). (option_map_or (λ (h : HeldConfig). chosen_for h.config c.request.path) (option_and_then (numbered l) c.config) no_choice).plan) (numbered s.calls a.row.call) plan.None) e.configs)
     u count
@@ -148,8 +148,8 @@ counted_so s t so runs e =
 pub moves_same : (s t : Seen) → IsBook s → IsSame s t → Moves s t None
 moves_same s t book e = record {
   book = record {
-    calls = subst (AreCalls 1) (sym e.calls) book.calls;
-    places = subst (AreNumbered 1) (sym e.attempts) book.places;
+    calls = subst (CallsAreNumbered 1) (sym e.calls) book.calls;
+    places = subst (AttemptsAreNumbered 1) (sym e.attempts) book.places;
     configs = ap (list_all (has_config t)) e.calls
         ∙ ap (λ (l : List HeldConfig). list_all (λ (c : Call). option_map_or (λ (k : ℕ). is_some (numbered l k)) c.config true) s.calls) e.configs ∙ book.configs;
     runs = ap (list_all (has_run t)) e.configs
@@ -163,7 +163,7 @@ moves_same s t book e = record {
     there = λ place there. ap (λ (l : List Attempt). holds (λ (a : Attempt). is_some a.row.ended && holds (λ (c : Call). is_some c.config) (numbered t.calls a.row.call)) (numbered l place)) e.attempts
         ∙ ap (λ (l : List Call). holds (λ (a : Attempt). is_some a.row.ended && holds (λ (c : Call). is_some c.config) (numbered l a.row.call)) (numbered s.attempts place)) e.calls
         ∙ there;
-    told = λ place there u count. ap (λ (l : List Attempt). tokens_by u t count (numbered l place)) e.attempts ∙ told_of s t e u count (numbered s.attempts place);
+    reported = λ place there u count. ap (λ (l : List Attempt). tokens_by u t count (numbered l place)) e.attempts ∙ reported_of s t e u count (numbered s.attempts place);
   };
   runs = λ k there off. ap (λ (l : List ThrottleRun). numbered l k) e.runs;
 }
@@ -175,7 +175,7 @@ moves_then s t u n f e =
       book = g.book;
       alike = record {
         there = λ place has. g.alike.there place (f.alike.there place has);
-        told = λ place has run count. g.alike.told place (f.alike.there place has) run count ∙ f.alike.told place has run count;
+        reported = λ place has run count. g.alike.reported place (f.alike.there place has) run count ∙ f.alike.reported place has run count;
       };
       runs = λ k there off.
           (let first : numbered t.runs k ≡ numbered s.runs k = f.runs k there off in
@@ -210,14 +210,14 @@ module _ (s t : Seen) (attempts : t.attempts ≡ s.attempts)
       ap (λ (l : List Attempt). holds (is_end_there t) (numbered l place)) attempts ∙ ap (holds (is_end_there t)) k.here
       ∙ there_from t k.attempt k.ended (config k.attempt.row.call k.config)
 
-  alike_told : (place : ℕ) → is_there s place ≡ true → (u : ThrottleRun) (count : ℕ) → tokens_by u t count (numbered t.attempts place) ≡ tokens_by u s count (numbered s.attempts place)
-  alike_told place e u count =
+  alike_reported : (place : ℕ) → is_there s place ≡ true → (u : ThrottleRun) (count : ℕ) → tokens_by u t count (numbered t.attempts place) ≡ tokens_by u s count (numbered s.attempts place)
+  alike_reported place e u count =
       let k : IsEndOf s (numbered s.attempts place) = end_of_there s (numbered s.attempts place) e in
       ap (λ (l : List Attempt). tokens_by u t count (numbered l place)) attempts ∙ ap (tokens_by u t count) k.here
-      ∙ told_by_plan s t k.attempt (plans k.attempt.row.call k.config) u count ∙ ap (tokens_by u s count) (sym k.here)
+      ∙ reported_by_plan s t k.attempt (plans k.attempt.row.call k.config) u count ∙ ap (tokens_by u s count) (sym k.here)
 
   pub calls_alike : CountsAlike s t
-  calls_alike = record { there = alike_there; told = alike_told }
+  calls_alike = record { there = alike_there; reported = alike_reported }
 
 -- a call changes
 module _ (f : Call → Call) (n : ℕ) (s : Seen) (book : IsBook s) (keeps : (d : Call) → (f d).number ≡ d.number)
@@ -314,27 +314,27 @@ module _ (f : Attempt → Attempt) (n : ℕ) (s : Seen) (book : IsBook s) (keeps
       ∙ row_here (numbered s.attempts n) refl (ap (λ (j : ℕ). holds (is_end_there s) (numbered s.attempts j)) (sym same) ∙ has)
   row_by place false e has = ap (holds (is_end_there s)) (changed_away f n place s.attempts (eqb-false place n e)) ∙ has
 
-  told_here : (u : ThrottleRun) (count : ℕ) (o : Option Attempt) → numbered s.attempts n ≡ o → holds (is_end_there s) o ≡ true → tokens_by u s count (option_map f o) ≡ tokens_by u s count o
-  told_here u count None got e = refl
-  told_here u count (Some a) got e =
+  reported_here : (u : ThrottleRun) (count : ℕ) (o : Option Attempt) → numbered s.attempts n ≡ o → holds (is_end_there s) o ≡ true → tokens_by u s count (option_map f o) ≡ tokens_by u s count o
+  reported_here u count None got e = refl
+  reported_here u count (Some a) got e =
       let parts : (is_some a.row.ended ≡ true) × (holds (λ (c : Call). is_some c.config) (numbered s.calls a.row.call) ≡ true)
       = and_parts (is_some a.row.ended) (holds (λ (c : Call). is_some c.config) (numbered s.calls a.row.call)) e in
       ap (λ (k : ℕ). option_map_or (λ (e : RowEnd). tokens_after u.throttle (option_map_or (λ (c : Call). plan_of c s) (numbered s.calls k) plan.None) e.code e.pushback count) (f a).row.ended count) (keeps_call a)
       ∙ ap (λ (o : Option RowEnd). option_map_or (tokens_with u s count a) o count) (keeps_end a got parts.0)
 
-  told_by : (u : ThrottleRun) (count place : ℕ) (b : Bool) → (place == n) ≡ b → is_there s place ≡ true
+  reported_by : (u : ThrottleRun) (count place : ℕ) (b : Bool) → (place == n) ≡ b → is_there s place ≡ true
       → tokens_by u s count (numbered (changed f n s.attempts) place) ≡ tokens_by u s count (numbered s.attempts place)
-  told_by u count place true e has =
+  reported_by u count place true e has =
       let same : place ≡ n = eqb-true place n e in
       ap (λ (j : ℕ). tokens_by u s count (numbered (changed f n s.attempts) j)) same ∙ ap (tokens_by u s count) (changed_map f n s.attempts)
-      ∙ told_here u count (numbered s.attempts n) refl (ap (λ (j : ℕ). holds (is_end_there s) (numbered s.attempts j)) (sym same) ∙ has)
+      ∙ reported_here u count (numbered s.attempts n) refl (ap (λ (j : ℕ). holds (is_end_there s) (numbered s.attempts j)) (sym same) ∙ has)
       ∙ ap (λ (j : ℕ). tokens_by u s count (numbered s.attempts j)) (sym same)
-  told_by u count place false e has = ap (tokens_by u s count) (changed_away f n place s.attempts (eqb-false place n e))
+  reported_by u count place false e has = ap (tokens_by u s count) (changed_away f n place s.attempts (eqb-false place n e))
 
   attempt_alike : CountsAlike s (with_attempt f n s)
   attempt_alike = record {
     there = λ place has. row_by place (place == n) refl has;
-    told = λ place has u count. told_by u count place (place == n) refl has;
+    reported = λ place has u count. reported_by u count place (place == n) refl has;
   }
 
   pub attempt_moves : Moves s (with_attempt f n s) None
@@ -362,7 +362,7 @@ module _ (y : Attempt) (s : Seen) (book : IsBook s) (place : y.place ≡ length 
   made_alike : CountsAlike s made_seen
   made_alike = record {
     there = λ n has. ap (holds (is_end_there s)) (row_there n (numbered s.attempts n) refl has) ∙ has;
-    told = λ n has u count. ap (tokens_by u s count) (row_there n (numbered s.attempts n) refl has);
+    reported = λ n has u count. ap (tokens_by u s count) (row_there n (numbered s.attempts n) refl has);
   }
 
   pub made_moves : Moves s made_seen None
@@ -429,7 +429,7 @@ module _ (u : ThrottleRun) (s : Seen) (book : IsBook s) (none : u.ends ≡ []) w
       runs = all_so (has_run s) (has_run run_seen) (λ h has. some_more s.runs u h.run has) s.configs book.runs;
       counted = all_snoc (is_counted_there s) s.runs u book.counted (ap (list_all (is_there s)) none);
     };
-    alike = record { there = λ place e. e; told = λ place e v count. refl };
+    alike = record { there = λ place e. e; reported = λ place e v count. refl };
     runs = λ k there off. run_there k (numbered s.runs k) refl there;
   }
 
@@ -463,6 +463,6 @@ module _ (place run : ℕ) (s : Seen) (book : IsBook s) (there : is_there s plac
       runs = all_so (has_run s) (has_run counted_seen) (λ h has. run_by h.run has) s.configs book.runs;
       counted = all_changed (is_counted_there s) (more_ends place) (λ u all. all_snoc (is_there s) u.ends place all there) run s.runs book.counted;
     };
-    alike = record { there = λ at e. e; told = λ at e v count. refl };
+    alike = record { there = λ at e. e; reported = λ at e v count. refl };
     runs = λ k is off. changed_away (more_ends place) run k s.runs (λ e. eqb-false run k off (sym e));
   }

@@ -1,7 +1,7 @@
 -- Where nothing changed of a call, session and channel agree of it as before, and what a session keeps in order of it is so still.
 use Rattle.call_actions.proofs.Ranks.{all_so}
 use Rattle.call_actions.specs.Order.{goes_on_followed, goes_on_older, has_ended, is_beyond, is_retried}
-use Rattle.call_actions.specs.Sees.{AreAttempts, AreDue, KeepsDelay}
+use Rattle.call_actions.specs.Sees.{AttemptsAgree, DuesAgree, KeepsDelay}
 use Rattle.call_actions.proofs.CallsApart.Kept.{commitment_same, delayed_same, due_same, followed_same, last_same, live_same, made_same, marks_same, own_then, plan_same, retried_same, seen_same}
 use Rattle.call_actions.proofs.CallsApart.Through.{any_apart, holds_left}
 use Rattle.call_actions.specs.CallsApart.Apart.{is_counted_there, is_end_there, run_number}
@@ -26,11 +26,11 @@ use Rattle.std.specs.Option.{option_map_or}
 -- session and channel agree
 pub others_are_seen : OthersAreSeen
 others_are_seen s t c x ledger acts k h order recorded =
-    let a : AreAttempts s c x.call.attempts = h.attempts in
+    let a : AttemptsAgree s c x.call.attempts = h.attempts in
     let due : due_state c t ≡ due_state c s = due_same s t c k h.own order.marks in
-    let attempts : AreAttempts t c x.call.attempts = record {
+    let attempts : AttemptsAgree t c x.call.attempts = record {
       sent = made_same s t c k h.own ∙ a.sent;
-      due = subst (λ (z : DueState). AreDue z x.call.attempts) (sym due) a.due;
+      due = subst (λ (z : DueState). DuesAgree z x.call.attempts) (sym due) a.due;
       unplaced = a.unplaced;
       delayed = λ keeps free. delayed_same s t c k h.own x.call.attempts.sent
           ∙ a.delayed (subst (λ (p : CallPlan). KeepsDelay c.config p) (plan_same s t c k h.own) keeps) free;
@@ -64,8 +64,8 @@ ledgers_are_shared s t c d x y k h g same = record {
 }
 
 -- in order
-beyond_narrow : (z : Seen) (c : Call) (q : Attempt) → is_of c q ≡ false → is_beyond z c q ≡ false
-beyond_narrow z c q e = ap (λ (b : Bool). b && nat_lt (attempts_made c z) q.row.number) e
+beyond_restricted : (z : Seen) (c : Call) (q : Attempt) → is_of c q ≡ false → is_beyond z c q ≡ false
+beyond_restricted z c q e = ap (λ (b : Bool). b && nat_lt (attempts_made c z) q.row.number) e
 
 pub others_are_in_order : OthersAreInOrder
 others_are_in_order s t c k book own order =
@@ -74,7 +74,7 @@ others_are_in_order s t c k book own order =
     record {
       places = book.places;
       marks = marks_same s t c k own order.marks;
-      numbers = any_apart (is_of c) (is_beyond t c) (is_beyond s c) (beyond_narrow t c) (beyond_narrow s c)
+      numbers = any_apart (is_of c) (is_beyond t c) (is_beyond s c) (beyond_restricted t c) (beyond_restricted s c)
           (λ q mine. ap (λ (n : ℕ). is_of c q && nat_lt n q.row.number) made) s.attempts t.attempts k.attempts ∙ order.numbers;
       first = λ none. ap (λ (d : DueState). d.newest) due ∙ order.first (sym made ∙ none);
       stops = λ over. ap (λ (d : DueState). d.stopped) due
@@ -82,11 +82,11 @@ others_are_in_order s t c k book own order =
     }
 
 -- in turn
-on_followed_narrow : (z : Seen) (c : Call) (q : Attempt) → is_of c q ≡ false → goes_on_followed z c q ≡ false
-on_followed_narrow z c q e = ap (λ (b : Bool). (b && is_none q.row.ended) && is_followed q z) e
+on_followed_restricted : (z : Seen) (c : Call) (q : Attempt) → is_of c q ≡ false → goes_on_followed z c q ≡ false
+on_followed_restricted z c q e = ap (λ (b : Bool). (b && is_none q.row.ended) && is_followed q z) e
 
-on_older_narrow : (z : Seen) (c : Call) (q : Attempt) → is_of c q ≡ false → goes_on_older z c q ≡ false
-on_older_narrow z c q e =
+on_older_restricted : (z : Seen) (c : Call) (q : Attempt) → is_of c q ≡ false → goes_on_older z c q ≡ false
+on_older_restricted z c q e =
     ap (λ (b : Bool). ((b && is_none q.row.ended) && is_retried (plan_of c z)) && not (q.row.number == attempts_made c z)) e
 
 all_there : (t : Seen) (places : List ℕ) → list_all (λ (place : ℕ). holds (is_end_there t) (numbered t.attempts place)) places ≡ true → list_all (has_ended t) places ≡ true
@@ -119,9 +119,9 @@ pub others_are_in_turn : OthersAreInTurn
 others_are_in_turn s t c k book own order turn =
     let made : attempts_made c t ≡ attempts_made c s = made_same s t c k own in
     record {
-      unfollowed = any_apart (is_of c) (goes_on_followed t c) (goes_on_followed s c) (on_followed_narrow t c) (on_followed_narrow s c)
+      unfollowed = any_apart (is_of c) (goes_on_followed t c) (goes_on_followed s c) (on_followed_restricted t c) (on_followed_restricted s c)
           (λ q mine. ap (λ (b : Bool). (is_of c q && is_none q.row.ended) && b) (followed_same s t c k own q mine)) s.attempts t.attempts k.attempts ∙ turn.unfollowed;
-      latest = any_apart (is_of c) (goes_on_older t c) (goes_on_older s c) (on_older_narrow t c) (on_older_narrow s c)
+      latest = any_apart (is_of c) (goes_on_older t c) (goes_on_older s c) (on_older_restricted t c) (on_older_restricted s c)
           (λ q mine. ap (λ (p : CallPlan). ((is_of c q && is_none q.row.ended) && is_retried p) && not (q.row.number == attempts_made c t)) (plan_same s t c k own)
           ∙ ap (λ (n : ℕ). ((is_of c q && is_none q.row.ended) && is_retried (plan_of c s)) && not (q.row.number == n)) made) s.attempts t.attempts k.attempts ∙ turn.latest;
       numbers = any_apart (is_of c) (λ (a : Attempt). is_of c a && (a.row.number == 0)) (λ (a : Attempt). is_of c a && (a.row.number == 0))

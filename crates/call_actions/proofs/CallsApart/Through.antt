@@ -4,10 +4,10 @@ use Rattle.std.proofs.Common.{Bool, List, None, Option, Some, [], ap, arith, con
 use Rattle.std.specs.List.{list_any}
 use Rattle.std.specs.Option.{option_or}
 
-module _ {X : Type 0} (own p : X → Bool) (narrow : (x : X) → own x ≡ false → p x ≡ false) where
+module _ {X : Type 0} (own p : X → Bool) (restricted : (x : X) → own x ≡ false → p x ≡ false) where
   any_by : (x : X) (xs : List X) (b : Bool) → own x ≡ b → list_any p xs ≡ list_any p (filter own xs) → (p x || list_any p xs) ≡ list_any p (cond b (x ∷ filter own xs) (filter own xs))
   any_by x xs true e rest = ap (λ (z : Bool). p x || z) rest
-  any_by x xs false e rest = ap (λ (z : Bool). z || list_any p xs) (narrow x e) ∙ rest
+  any_by x xs false e rest = ap (λ (z : Bool). z || list_any p xs) (restricted x e) ∙ rest
 
   pub any_through : (xs : List X) → list_any p xs ≡ list_any p (filter own xs)
   any_through [] = refl
@@ -16,7 +16,7 @@ module _ {X : Type 0} (own p : X → Bool) (narrow : (x : X) → own x ≡ false
   filter_by : (x : X) (xs : List X) (b : Bool) → own x ≡ b → filter p xs ≡ filter p (filter own xs)
       → cond (p x) (x ∷ filter p xs) (filter p xs) ≡ filter p (cond b (x ∷ filter own xs) (filter own xs))
   filter_by x xs true e rest = ap (λ (l : List X). cond (p x) (x ∷ l) l) rest
-  filter_by x xs false e rest = ap (λ (z : Bool). cond z (x ∷ filter p xs) (filter p xs)) (narrow x e) ∙ rest
+  filter_by x xs false e rest = ap (λ (z : Bool). cond z (x ∷ filter p xs) (filter p xs)) (restricted x e) ∙ rest
 
   pub filter_through : (xs : List X) → filter p xs ≡ filter p (filter own xs)
   filter_through [] = refl
@@ -28,7 +28,7 @@ module _ {X : Type 0} (own p : X → Bool) (narrow : (x : X) → own x ≡ false
   count_by_one k x xs true e rest = rest (k + cond (p x) 1 0)
   count_by_one k x xs false e rest =
       let same : k + 0 ≡ k = omega arith in
-      ap (λ (z : Bool). fold (λ n y. n + cond (p y) 1 0) (k + cond z 1 0) xs) (narrow x e)
+      ap (λ (z : Bool). fold (λ n y. n + cond (p y) 1 0) (k + cond z 1 0) xs) (restricted x e)
       ∙ ap (λ (j : ℕ). fold (λ n y. n + cond (p y) 1 0) j xs) same ∙ rest k
 
   count_from : (k : ℕ) (xs : List X) → fold (λ n y. n + cond (p y) 1 0) k xs ≡ fold (λ n y. n + cond (p y) 1 0) k (filter own xs)
@@ -46,7 +46,7 @@ module _ {X : Type 0} (own p : X → Bool) (narrow : (x : X) → own x ≡ false
       → option_or (find_last p xs) (if p x then Some x else None) ≡ find_last p (cond b (x ∷ filter own xs) (filter own xs))
   last_by x xs true e rest = ap (λ (o : Option X). option_or o (if p x then Some x else None)) rest
   last_by x xs false e rest =
-      ap (λ (z : Bool). option_or (find_last p xs) (if z then Some x else None)) (narrow x e) ∙ or_none (find_last p xs) ∙ rest
+      ap (λ (z : Bool). option_or (find_last p xs) (if z then Some x else None)) (restricted x e) ∙ or_none (find_last p xs) ∙ rest
 
   pub last_through : (xs : List X) → find_last p xs ≡ find_last p (filter own xs)
   last_through [] = refl
@@ -64,27 +64,27 @@ module _ {X : Type 0} (p q : X → Bool) (same : (x : X) → p x ≡ q x) where
       ap (λ (b : Bool). cond b (x ∷ filter p xs) (filter p xs)) (same x) ∙ ap (λ (l : List X). cond (q x) (x ∷ l) l) (filter_alike xs)
 
 -- and of two lists with the same of them
-module _ {X : Type 0} (own p q : X → Bool) (narrow_p : (x : X) → own x ≡ false → p x ≡ false) (narrow_q : (x : X) → own x ≡ false → q x ≡ false)
+module _ {X : Type 0} (own p q : X → Bool) (restricted_p : (x : X) → own x ≡ false → p x ≡ false) (restricted_q : (x : X) → own x ≡ false → q x ≡ false)
     (agree : (x : X) → own x ≡ true → p x ≡ q x) (xs ys : List X) (same : filter own ys ≡ filter own xs) where
   each_by : (x : X) (b : Bool) → own x ≡ b → p x ≡ q x
   each_by x true e = agree x e
-  each_by x false e = narrow_p x e ∙ sym (narrow_q x e)
+  each_by x false e = restricted_p x e ∙ sym (restricted_q x e)
 
   each : (x : X) → p x ≡ q x
   each x = each_by x (own x) refl
 
   pub any_apart : list_any p ys ≡ list_any q xs
-  any_apart = any_through own p narrow_p ys ∙ ap (list_any p) same ∙ sym (any_through own p narrow_p xs) ∙ any_alike p q each xs
+  any_apart = any_through own p restricted_p ys ∙ ap (list_any p) same ∙ sym (any_through own p restricted_p xs) ∙ any_alike p q each xs
 
   pub filter_apart : filter p ys ≡ filter q xs
-  filter_apart = filter_through own p narrow_p ys ∙ ap (filter p) same ∙ sym (filter_through own p narrow_p xs) ∙ filter_alike p q each xs
+  filter_apart = filter_through own p restricted_p ys ∙ ap (filter p) same ∙ sym (filter_through own p restricted_p xs) ∙ filter_alike p q each xs
 
-module _ {X : Type 0} (own p : X → Bool) (narrow : (x : X) → own x ≡ false → p x ≡ false) (xs ys : List X) (same : filter own ys ≡ filter own xs) where
+module _ {X : Type 0} (own p : X → Bool) (restricted : (x : X) → own x ≡ false → p x ≡ false) (xs ys : List X) (same : filter own ys ≡ filter own xs) where
   pub count_apart : count_by p ys ≡ count_by p xs
-  count_apart = count_through own p narrow ys ∙ ap (count_by p) same ∙ sym (count_through own p narrow xs)
+  count_apart = count_through own p restricted ys ∙ ap (count_by p) same ∙ sym (count_through own p restricted xs)
 
   pub last_apart : find_last p ys ≡ find_last p xs
-  last_apart = last_through own p narrow ys ∙ ap (find_last p) same ∙ sym (last_through own p narrow xs)
+  last_apart = last_through own p restricted ys ∙ ap (find_last p) same ∙ sym (last_through own p restricted xs)
 
 -- one that does not pass is changed to one that does not
 pub filter_set : {X : Type 0} (own : X → Bool) (xs : List X) (i : ℕ) (a z : X) → slice_get xs i ≡ Some a → own a ≡ false → own z ≡ false

@@ -171,9 +171,9 @@ module _ (s t : Seen) (c : Call) (marks : List Mark) (pl : Attempt → Option Pl
     counted = counted_by t book.counted (run_number d t);
   }
 
-  pub calm_now : waits t d (f a) ≡ false → list_any (waits t d) t.attempts ≡ false
-  calm_now here =
-      ap (list_any (waits t d)) attempts ∙ none_keep (waits s c) (waits t d) f a waits_so (λ e. here) s.attempts place got steady.calm
+  pub quiescent_now : waits t d (f a) ≡ false → list_any (waits t d) t.attempts ≡ false
+  quiescent_now here =
+      ap (list_any (waits t d)) attempts ∙ none_keep (waits s c) (waits t d) f a waits_so (λ e. here) s.attempts place got steady.quiescent
 
   -- at the attempt itself: where its end, if it has one, is as it was; or where no retry is to follow its end
   pub waits_here : en a ≡ a.row.ended → waits s c a ≡ false → waits t d (f a) ≡ false

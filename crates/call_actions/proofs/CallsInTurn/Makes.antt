@@ -332,9 +332,9 @@ module _ (s : Seen) (c : Call) (x : Stepped) (number : ℕ) (why : RowKind) (due
           (and_right (is_of c new) (number == 0) (ne_eqb number 0 number_some));
       counted = counted_by (with_turn None t) book_t.counted (run_number d t);
     };
-    calm = none_more (waits t d) s.attempts new
+    quiescent = none_more (waits t d) s.attempts new
         (any_where (waits t d) (waits s c) (is_beyond s c)
-        (λ q good. own_two (is_of c q) (wants_follower q t) (wants_follower q s) (λ mine. wants_same q mine good q.row.ended)) s.attempts order.numbers ∙ steady.calm)
+        (λ q good. own_two (is_of c q) (wants_follower q t) (wants_follower q s) (λ mine. wants_same q mine good q.row.ended)) s.attempts order.numbers ∙ steady.quiescent)
         (and_right (is_of c new) false refl);
   }
 

@@ -3,7 +3,7 @@ use Rattle.attempt_ledger.specs.declared.ledger.CallEnd.{CallEnd}
 use Rattle.attempt_ledger.specs.declared.row.RowEnd.{RowEnd}
 use Rattle.call_actions.proofs.Frames.{then_seen, due_same, retold, wants_same}
 use Rattle.call_actions.proofs.Lists.{changed_here, changed_twice}
-use Rattle.call_actions.proofs.Told.{fold_last}
+use Rattle.call_actions.proofs.Report.{fold_last}
 use Rattle.call_actions.specs.Order.{IsInOrder, IsInTurn, is_own_mark}
 use Rattle.call_actions.proofs.CallsApart.Through.{any_alike}
 use Rattle.call_actions.specs.CallsInTurn.Laws.{FinishesKeep, MessagesKeep, TakesKeep, WithheldKeep, EndsKeep}
@@ -30,29 +30,29 @@ use Rattle.std.specs.List.{list_all}
 
 module _ (s : Seen) (c : Call) (messages : Call → List (List ℕ)) (finished : Call → Bool) (taken : Call → ℕ) (end_taken : Call → Bool) (marks : Call → List Mark)
     (end : Call → Option CallEnd) (current : Option OpenEntry) (own : numbered s.calls c.number ≡ Some c) where
-  abbrev told : Call → Call
-  told k = retold messages finished taken end_taken marks end k
+  abbrev reported : Call → Call
+  reported k = retold messages finished taken end_taken marks end k
 
   abbrev t : Seen
   t = then_seen s c.number messages finished taken end_taken marks end current
 
-  pub own_now : numbered t.calls c.number ≡ Some (told c)
-  own_now = changed_here told c.number s.calls c own
+  pub own_now : numbered t.calls c.number ≡ Some (reported c)
+  own_now = changed_here reported c.number s.calls c own
 
   wants_one : (q : Attempt) (o : Option RowEnd) → holds (wants_follower_by q t) o ≡ holds (wants_follower_by q s) o
   wants_one q None = refl
   wants_one q (Some e) = wants_same s c.number messages finished taken end_taken marks end current q e
 
-  pub steady_now : IsSteady s c → IsSteady t (told c)
+  pub steady_now : IsSteady s c → IsSteady t (reported c)
   steady_now k =
       let turn : IsInTurn s c = k.turn in
       record {
         turn = record { unfollowed = turn.unfollowed; latest = turn.latest; numbers = turn.numbers; counted = turn.counted };
-        calm = any_alike (waits t (told c)) (waits s c) (λ q. ap (λ (b : Bool). is_of c q && b) (wants_one q q.row.ended)) s.attempts ∙ k.calm;
+        quiescent = any_alike (waits t (reported c)) (waits s c) (λ q. ap (λ (b : Bool). is_of c q && b) (wants_one q q.row.ended)) s.attempts ∙ k.quiescent;
       }
 
   -- the marks so far say of the next attempt what they did
-  pub marks_now : fold (λ (z : DueState) (m : Mark). due_after_mark (told c) t m.what m.moment z) no_due c.marks ≡ due_state c s
+  pub marks_now : fold (λ (z : DueState) (m : Mark). due_after_mark (reported c) t m.what m.moment z) no_due c.marks ≡ due_state c s
   marks_now = due_same s c.number messages finished taken end_taken marks end current c no_due c.marks
 
 -- without a mark

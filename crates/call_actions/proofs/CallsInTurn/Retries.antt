@@ -9,7 +9,7 @@ use Rattle.call_actions.proofs.Again.{any_here}
 use Rattle.call_actions.proofs.Lists.{any_none, changed_here, numbered_not}
 use Rattle.call_actions.proofs.Places.{none_later, only_here, place_is, places_below}
 use Rattle.call_actions.proofs.Ranks.{any_either, find_last_more}
-use Rattle.call_actions.specs.Order.{AreNumbered, IsInTurn, goes_on_followed, goes_on_older, is_retried}
+use Rattle.call_actions.specs.Order.{AttemptsAreNumbered, IsInTurn, goes_on_followed, goes_on_older, is_retried}
 use Rattle.call_actions.proofs.CallsApart.Seen.{counted_by}
 use Rattle.call_actions.proofs.CallsApart.Through.{any_alike}
 use Rattle.call_actions.specs.CallsApart.Apart.{IsBook, run_number}
@@ -84,10 +84,10 @@ off_both true true e = absurd (cc)
 off_both true false e = absurd (cc)
 off_both false b e = refl
 
-module _ (y : Seen) (c : Call) (place : ℕ) (a : Attempt) (due : ℕ) (own : numbered y.calls c.number ≡ Some c) (places : AreNumbered 1 y.attempts) (got : numbered y.attempts place ≡ Some a)
+module _ (y : Seen) (c : Call) (place : ℕ) (a : Attempt) (due : ℕ) (own : numbered y.calls c.number ≡ Some c) (places : AttemptsAreNumbered 1 y.attempts) (got : numbered y.attempts place ≡ Some a)
     (mine : is_of c a ≡ true) (turn : IsInTurn y c)
     (alone : list_any (λ (q : Attempt). (is_of c q && is_none q.row.ended) && (q.row.number == a.row.number)) y.attempts ≡ false)
-    (calm : list_any (λ (q : Attempt). waits y c q && not (q.place == place)) y.attempts ≡ false)
+    (quiescent : list_any (λ (q : Attempt). waits y c q && not (q.place == place)) y.attempts ≡ false)
     (latest : is_retried (plan_of c y) ≡ true → (a.row.number == attempts_made c y) ≡ true) (some : (a.row.number == 0) ≡ false)
     (book_then : IsBook (attempt_made c.number a.row.number kind.Transparent due y)) where
   abbrev new : Attempt
@@ -185,13 +185,13 @@ module _ (y : Seen) (c : Call) (place : ℕ) (a : Attempt) (due : ℕ) (own : nu
   followed_here =
       let below : place ≤ length y.attempts = places_below y.attempts place a got in
       let at : a.place ≡ place = place_is place y.attempts a places got in
-      let behind : a.place < length y.attempts + 1 = omega arith in
+      let afterwards : a.place < length y.attempts + 1 = omega arith in
       followed_then a
       ∙ or_right (is_followed a y) (is_later_of a new || false)
       (ap (λ (b : Bool). b || false)
       (and_from ((c.number == a.row.call) && (a.row.number == a.row.number)) (nat_lt a.place (length y.attempts + 1))
       (and_from (c.number == a.row.call) (a.row.number == a.row.number) (eq-eqb c.number a.row.call (sym (eqb-true a.row.call c.number mine))) (eq-eqb a.row.number a.row.number refl))
-      (lt-ltb a.place (length y.attempts + 1) behind)))
+      (lt-ltb a.place (length y.attempts + 1) afterwards)))
 
   waits_at : (o : Option RowEnd) → (is_of c a && holds (wants_follower_by a t) o) ≡ false
   waits_at None = and_right (is_of c a) false refl
@@ -211,11 +211,11 @@ module _ (y : Seen) (c : Call) (place : ℕ) (a : Attempt) (due : ℕ) (own : nu
   waits_here : waits t d a ≡ false
   waits_here = waits_at a.row.ended
 
-  calm_then : list_any (waits t d) y.attempts ≡ false
-  calm_then =
+  quiescent_then : list_any (waits t d) y.attempts ≡ false
+  quiescent_then =
       any_none (waits t d) (λ (q : Attempt). waits_else q || ((q.place == place) && waits t d q)) both_off y.attempts
       (any_either waits_else (λ (q : Attempt). (q.place == place) && waits t d q) y.attempts
-      (any_none waits_else (λ (q : Attempt). waits y c q && not (q.place == place)) waits_one y.attempts calm)
+      (any_none waits_else (λ (q : Attempt). waits y c q && not (q.place == place)) waits_one y.attempts quiescent)
       (only_here (waits t d) place a waits_here y.attempts places got))
 
   pub again_steady : StaysSteady (attempt_made c.number a.row.number kind.Transparent due y) c.number
@@ -235,7 +235,7 @@ module _ (y : Seen) (c : Call) (place : ℕ) (a : Attempt) (due : ℕ) (own : nu
         numbers = none_more (λ (q : Attempt). is_of c q && (q.row.number == 0)) y.attempts new turn.numbers (and_right (is_of c new) (a.row.number == 0) some);
         counted = counted_by (attempt_made c.number a.row.number kind.Transparent due y) book_then.counted (run_number d t);
       };
-      calm = none_more (waits t d) y.attempts new calm_then (and_right (is_of c new) false refl);
+      quiescent = none_more (waits t d) y.attempts new quiescent_then (and_right (is_of c new) false refl);
     };
   }
 
@@ -303,7 +303,7 @@ module _ (s : Seen) (c : Call) (place : ℕ) (a : Attempt) (e : RowEnd) (due : �
   got_y : numbered y_seen.attempts place ≡ Some a_then
   got_y = changed_here (column pl en co) place s.attempts a k.there
 
-  places_y : AreNumbered 1 y_seen.attempts
+  places_y : AttemptsAreNumbered 1 y_seen.attempts
   places_y = (let b : IsBook y_seen = subst IsBook is book_y in b.places)
 
   -- no other of its number goes on
@@ -360,12 +360,12 @@ module _ (s : Seen) (c : Call) (place : ℕ) (a : Attempt) (e : RowEnd) (due : �
       (only_here same_number place a_then (ap (λ (b : Bool). b && (a.row.number == a.row.number)) (and_right (is_of c a) false refl)) y_seen.attempts places_y got_y))
 
   -- none but it waits
-  calm_y : list_any (λ (q : Attempt). waits y_seen y_call q && not (q.place == place)) y_seen.attempts ≡ false
-  calm_y =
+  quiescent_y : list_any (λ (q : Attempt). waits y_seen y_call q && not (q.place == place)) y_seen.attempts ≡ false
+  quiescent_y =
       none_keep (waits s c) (λ (q : Attempt). waits y_seen y_call q && not (q.place == place)) (column pl en co) a
       (λ q off. ap (λ (b : Bool). b && not (q.place == place))
       (waits_so s y_seen c y_marks pl en co place a (subst IsBook is book_y) k.own own_y refl refl k.there k.mine (λ none. unended) refused (λ was. was) steady q off))
-      (λ off. and_right (waits y_seen y_call a_then) (not (a.place == place)) (ap (λ (b : Bool). not b) (eq-eqb a.place place its_place))) s.attempts place k.there steady.calm
+      (λ off. and_right (waits y_seen y_call a_then) (not (a.place == place)) (ap (λ (b : Bool). not b) (eq-eqb a.place place its_place))) s.attempts place k.there steady.quiescent
 
   latest_y : is_retried (plan_of y_call y_seen) ≡ true → (a.row.number == attempts_made y_call y_seen) ≡ true
   latest_y retried =
@@ -383,7 +383,7 @@ module _ (s : Seen) (c : Call) (place : ℕ) (a : Attempt) (e : RowEnd) (due : �
   pub retried_steady : StaysSteady (attempt_made c.number a.row.number kind.Transparent due (attempt_ended place e s)) c.number
   retried_steady =
       subst (λ (z : Seen). StaysSteady (attempt_made c.number a.row.number kind.Transparent due z) c.number) (sym is)
-      (again_steady y_seen y_call place a_then due own_y places_y got_y k.mine turn_y alone_y calm_y latest_y number_some
+      (again_steady y_seen y_call place a_then due own_y places_y got_y k.mine turn_y alone_y quiescent_y latest_y number_some
       (subst (λ (z : Seen). IsBook (attempt_made c.number a.row.number kind.Transparent due z)) is book_t))
 
 pub retrying_keeps : RetryingKeeps

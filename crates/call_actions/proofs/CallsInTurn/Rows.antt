@@ -8,7 +8,7 @@ use Rattle.call_actions.proofs.Lists.{changed_here, changed_map, numbered_not}
 use Rattle.call_actions.proofs.Places.{place_is}
 use Rattle.call_actions.specs.Order.{IsInTurn, goes_on_followed}
 use Rattle.call_actions.specs.CallsApart.Apart.{IsBook}
-use Rattle.call_actions.proofs.CallsInTurn.Columns.{calm_now, ends_here, turn_now, waits_here, with_marks, column}
+use Rattle.call_actions.proofs.CallsInTurn.Columns.{quiescent_now, ends_here, turn_now, waits_here, with_marks, column}
 use Rattle.call_actions.specs.CallsInTurn.Laws.{CommittingKeeps, EndingKeeps, IsOwn, PlacingKeeps}
 use Rattle.call_actions.specs.CallsInTurn.Turns.{StaysSteady, waits}
 use Rattle.session_actions.specs.AttemptEnds.{attempt_ended, attempt_ended_as, with_end, with_end_in_run}
@@ -75,9 +75,9 @@ placing_keeps s c place a at book k steady =
       own = own;
       steady = record {
         turn = turn_now s t c marks_then pl en co place a (subst IsBook is book) k.own own refl refl k.there k.mine (λ e. e) refl (λ e. e) steady;
-        calm = calm_now s t c marks_then pl en co place a (subst IsBook is book) k.own own refl refl k.there k.mine (λ e. e) refl (λ e. e) steady
+        quiescent = quiescent_now s t c marks_then pl en co place a (subst IsBook is book) k.own own refl refl k.there k.mine (λ e. e) refl (λ e. e) steady
             (waits_here s t c marks_then pl en co place a (subst IsBook is book) k.own own refl refl k.there k.mine (λ e. e) refl (λ e. e) steady
-            refl (numbered_not (waits s c) s.attempts place a steady.calm k.there));
+            refl (numbered_not (waits s c) s.attempts place a steady.quiescent k.there));
       };
     })
 
@@ -96,9 +96,9 @@ committing_keeps s c place a book k steady =
       own = own;
       steady = record {
         turn = turn_now s t c marks_then pl en co place a (subst IsBook is book) k.own own refl refl k.there k.mine (λ e. e) refl (λ e. refl) steady;
-        calm = calm_now s t c marks_then pl en co place a (subst IsBook is book) k.own own refl refl k.there k.mine (λ e. e) refl (λ e. refl) steady
+        quiescent = quiescent_now s t c marks_then pl en co place a (subst IsBook is book) k.own own refl refl k.there k.mine (λ e. e) refl (λ e. refl) steady
             (waits_here s t c marks_then pl en co place a (subst IsBook is book) k.own own refl refl k.there k.mine (λ e. e) refl (λ e. refl) steady
-            refl (numbered_not (waits s c) s.attempts place a steady.calm k.there));
+            refl (numbered_not (waits s c) s.attempts place a steady.quiescent k.there));
       };
     })
 
@@ -163,7 +163,7 @@ ending_keeps s c place a e book book_then k unended free steady =
       own = own;
       steady = record {
         turn = turn_now s t c marks_then pl en co place a (subst IsBook is book_then) k.own own refl refl k.there k.mine (λ none. unended) refused (λ was. was) steady;
-        calm = calm_now s t c marks_then pl en co place a (subst IsBook is book_then) k.own own refl refl k.there k.mine (λ none. unended) refused (λ was. was) steady
+        quiescent = quiescent_now s t c marks_then pl en co place a (subst IsBook is book_then) k.own own refl refl k.there k.mine (λ none. unended) refused (λ was. was) steady
             (ends_here s t c marks_then pl en co place a (subst IsBook is book_then) k.own own refl refl k.there k.mine (λ none. unended) refused (λ was. was) steady e refl free);
       };
     })

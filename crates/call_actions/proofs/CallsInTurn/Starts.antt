@@ -26,9 +26,9 @@ use Rattle.std.proofs.Common.{Bool, List, None, Option, Some, [], ap, false, fol
 use Rattle.std.proofs.lemmas.Bool.{and_parts}
 use Rattle.std.specs.List.{list_all, list_any}
 
--- none of a narrower test
+-- none of a stronger test
 none_own : (p : Attempt → Bool) (c : Call) → ((q : Attempt) → is_of c q ≡ false → p q ≡ false) → (xs : List Attempt) → list_any (is_of c) xs ≡ false → list_any p xs ≡ false
-none_own p c narrow xs none = any_none p (is_of c) narrow xs none
+none_own p c restricted xs none = any_none p (is_of c) restricted xs none
 
 -- marks that name no attempt leave that there is no newest one
 rowless_newest : (c : Call) (s : Seen) (w : MarkKind) (moment : ℕ) (d : DueState) → is_rowless w ≡ true → (due_after_mark c s w moment d).newest ≡ d.newest
@@ -81,8 +81,8 @@ calls_start s c book none marks is_open =
       numbers = none_own (λ (q : Attempt). is_of c q && (q.row.number == 0)) c (λ q e. ap (λ (b : Bool). b && (q.row.number == 0)) e) s.attempts none;
       counted = counted_by s book.counted (run_number c s);
     } in
-    let calm : list_any (waits s c) s.attempts ≡ false = none_own (waits s c) c (λ q e. ap (λ (b : Bool). b && wants_follower q s) e) s.attempts none in
-    (order, record { turn = turn; calm = calm })
+    let quiescent : list_any (waits s c) s.attempts ≡ false = none_own (waits s c) c (λ q e. ap (λ (b : Bool). b && wants_follower q s) e) s.attempts none in
+    (order, record { turn = turn; quiescent = quiescent })
 
 -- of another call
 wants_alike : (s t : Seen) (c : Call) (k : IsApart s t c) (own : numbered s.calls c.number ≡ Some c) (q : Attempt) → is_of c q ≡ true → (o : Option RowEnd)
@@ -93,6 +93,6 @@ wants_alike s t c k own q mine (Some e) = wants_same s t c k own q mine e
 pub others_are_steady : OthersAreSteady
 others_are_steady s t c k book own order steady = record {
   turn = others_are_in_turn s t c k book own order steady.turn;
-  calm = any_apart (is_of c) (waits t c) (waits s c) (λ q e. ap (λ (b : Bool). b && wants_follower q t) e) (λ q e. ap (λ (b : Bool). b && wants_follower q s) e)
-      (λ q mine. ap (λ (b : Bool). is_of c q && b) (wants_alike s t c k own q mine q.row.ended)) s.attempts t.attempts k.attempts ∙ steady.calm;
+  quiescent = any_apart (is_of c) (waits t c) (waits s c) (λ q e. ap (λ (b : Bool). b && wants_follower q t) e) (λ q e. ap (λ (b : Bool). b && wants_follower q s) e)
+      (λ q mine. ap (λ (b : Bool). is_of c q && b) (wants_alike s t c k own q mine q.row.ended)) s.attempts t.attempts k.attempts ∙ steady.quiescent;
 }

@@ -12,12 +12,12 @@ use Rattle.call_actions.proofs.Ends.Frames as ending
 use Rattle.call_actions.proofs.Ends.Frames.{AreLike, with_end_at}
 use Rattle.call_actions.proofs.Ends.Rows as endrows
 use Rattle.call_actions.proofs.Ends.Tokens.{bucket_now, run_now}
-use Rattle.call_actions.proofs.Ending.{base, counted_is, d, due_then, e, ends, is_ended, its_call, its_end, its_place, lent_then, like_then, marks_then, order_so, rest_is, runs, t, tokens_same, told}
+use Rattle.call_actions.proofs.Ending.{base, counted_is, d, due_then, e, ends, is_ended, its_call, its_end, its_place, lent_then, like_then, marks_then, order_so, rest_is, runs, t, tokens_same, reported}
 use Rattle.call_actions.proofs.Frames as frames
 use Rattle.call_actions.proofs.Lists.{changed_here, filter_none}
 use Rattle.call_actions.specs.Laws.{CommittedEndsClose, IsCounting, IsEnding, news_of}
 use Rattle.call_actions.specs.Order.{IsInOrder, IsInTurn, Keeps, is_retried}
-use Rattle.call_actions.specs.Sees.{AreAttempts, AreDue, Sees, bucket_of, is_live, live_row}
+use Rattle.call_actions.specs.Sees.{AttemptsAgree, DuesAgree, Sees, bucket_of, is_live, live_row}
 use Rattle.call_core.specs.Parts as parts
 use Rattle.call_core.specs.Parts.{without}
 use Rattle.call_core.specs.Steps as steps
@@ -58,7 +58,7 @@ module _ (s : Seen) (c : Call) (x : Stepped) (place : ℕ) (a k : Attempt) (out 
   there = its_end s c x place a out h o turn g n
 
   abbrev lent : Stepped
-  lent = told s c x place a out h o turn g n
+  lent = reported s c x place a out h o turn g n
 
   abbrev put : Attempt → Attempt
   put q = with_end_at place its q
@@ -115,12 +115,12 @@ module _ (s : Seen) (c : Call) (x : Stepped) (place : ℕ) (a k : Attempt) (out 
   taken_up free =
       let both : Some k.place ≡ None = ap (option_map (λ (q : Attempt). q.place)) (sym committed) ∙ h.attempts.committed ∙ free in absurd (cc)
 
-  attempts_now : AreAttempts then_seen then_call x.call.attempts
+  attempts_now : AttemptsAgree then_seen then_call x.call.attempts
   attempts_now =
-      let was : AreAttempts s c x.call.attempts = h.attempts in
+      let was : AttemptsAgree s c x.call.attempts = h.attempts in
       record {
         sent = ending.made_same s c place a its (runs s c x place a out h o turn g n) (ends s c x place a out h o turn g n) ∙ was.sent;
-        due = subst (λ (z : DueState). AreDue z x.call.attempts) (sym due_is)
+        due = subst (λ (z : DueState). DuesAgree z x.call.attempts) (sym due_is)
             (record {
               newest = like.newest ∙ was.due.newest;
               placed = like.placed ∙ was.due.placed;
@@ -150,7 +150,7 @@ module _ (s : Seen) (c : Call) (x : Stepped) (place : ℕ) (a k : Attempt) (out 
     attempts = attempts_now;
     live = endrows.live_then s c x place a its (runs s c x place a out h o turn g n) h o (ends s c x place a out h o turn g n) g.own
         ∙ ap (λ (p : ℕ). without p x.call.live) (sym (its_place s c x place a out h o turn g n));
-    tokens = frames.bucket_told then_base c.number (λ q. q.messages) (λ q. q.finished) (λ q. q.taken) (λ q. q.end_taken) (λ q. q.marks ++ w ∷ []) (λ q. q.end)
+    tokens = frames.bucket_reported then_base c.number (λ q. q.messages) (λ q. q.finished) (λ q. q.taken) (λ q. q.end_taken) (λ q. q.marks ++ w ∷ []) (λ q. q.end)
         (endrows.now_open s c x place a its (runs s c x place a out h o turn g n) h o (ends s c x place a out h o turn g n) g.own) (run_of c then_base)
         ∙ ap (option_map (bucket_of then_base)) (run_now place c s)
         ∙ bucket_now s c place a its (runs s c x place a out h o turn g n) (ends s c x place a out h o turn g n) (its_call s c x place a out h o turn g n) (run_of c s) refl turn.counted

@@ -17,7 +17,7 @@ use Rattle.call_actions.proofs.Frames.{holds_same}
 use Rattle.call_actions.proofs.Lists.{numbered_not}
 use Rattle.call_actions.proofs.Places.{only_here, place_is}
 use Rattle.call_actions.proofs.Ranks.{filter_map_where, fold_map, numbered_map}
-use Rattle.call_actions.specs.Order.{AreNumbered, is_own_mark, is_retried}
+use Rattle.call_actions.specs.Order.{AttemptsAreNumbered, is_own_mark, is_retried}
 use Rattle.grpc_base.specs.Codes.{has_code}
 use Rattle.grpc_base.specs.declared.plan.CallPlan.{CallPlan}
 use Rattle.grpc_base.specs.declared.plan.CallPlan.TheVariants as plan
@@ -53,7 +53,7 @@ ended_seen runs place e s = record (written_seen placed_before (ended_by place e
 
 -- the attempt of a call that ends, and what of its bucket stays
 pub record Ends (s : Seen) (c : Call) (place : ℕ) (a : Attempt) (runs : List ThrottleRun) : Type 0 where
-  pub places : AreNumbered 1 s.attempts
+  pub places : AttemptsAreNumbered 1 s.attempts
   pub got : numbered s.attempts place ≡ Some a
   pub unended : a.row.ended ≡ None
   pub unfollowed : is_followed a s ≡ false

@@ -8,7 +8,7 @@ use Rattle.std.specs.Prelude.{fold}
 use Rattle.attempt_ledger.specs.declared.ledger.CallSeen.{CallSeen}
 use Rattle.attempt_ledger.specs.declared.row.Row.{Row}
 use Rattle.attempt_ledger.specs.declared.row.RowEnd.{RowEnd}
-use Rattle.call_actions.proofs.Bare.{some_still}
+use Rattle.call_actions.proofs.Unconfigured.{some_still}
 use Rattle.call_actions.proofs.Columns as columns
 use Rattle.call_actions.proofs.Ends.Frames as ending
 use Rattle.call_actions.proofs.Ends.Frames.{AreLike, Ends, ended_by, ended_seen, with_end_at}
@@ -16,7 +16,7 @@ use Rattle.call_actions.proofs.Frames as frames
 use Rattle.call_actions.proofs.PlacedFrames.{none_bad}
 use Rattle.call_actions.proofs.Places.{changed_is, numbered_written, place_is, rows_are}
 use Rattle.call_actions.proofs.Ranks.{all_so, any_map_all, filter_both, filter_mapped, map_through, numbered_map}
-use Rattle.call_actions.proofs.Told.{fold_last}
+use Rattle.call_actions.proofs.Report.{fold_last}
 use Rattle.call_actions.specs.Order.{IsInOrder, is_beyond, is_own_mark, is_retried}
 use Rattle.call_actions.specs.Sees.{Sees, is_live, live_row, live_rows}
 use Rattle.call_core.specs.Parts as parts

@@ -4,7 +4,7 @@ use Rattle.std.proofs.lemmas.Bool.{and_parts, both_ways}
 use Rattle.std.proofs.lemmas.List.Folds.{list_all-append}
 use Rattle.std.specs.List.{list_all}
 use Rattle.std.specs.Option.{option_map}
-use Rattle.call_actions.specs.Order.{AreNumbered, IsInOrder, is_beyond, is_own_mark}
+use Rattle.call_actions.specs.Order.{AttemptsAreNumbered, IsInOrder, is_beyond, is_own_mark}
 use Rattle.call_core.specs.Steps.{Stepped, closed_by}
 use Rattle.call_actions.proofs.CallsApart.Acts.{at_place, in_filter}
 use Rattle.call_actions.specs.EndsInOrder.Laws.{EndsInOrder, EndsStayInOrder}
@@ -25,7 +25,7 @@ use Rattle.call_actions.proofs.TakeActions.CutAttempts.{end_by_cut, ended_mark, 
 use Rattle.call_actions.proofs.TakeActions.EndSees.{all_gone, due_now, end_call, end_seen, final_at, first, own_stamp, serves_ended, tokens_now}
 use Rattle.call_actions.proofs.TakeActions.Ends.{end_walked, point, put}
 use Rattle.call_actions.proofs.TakeActions.Maps.{any_map, numbered_each}
-use Rattle.call_actions.specs.TakeActions.Cuts.{AreCut}
+use Rattle.call_actions.specs.TakeActions.Cuts.{AttemptsAreCut}
 use Rattle.call_actions.specs.TakeActions.Serves.{Serves}
 
 all_get : {X : Type 0} (p : X → Bool) (xs : List X) → ((i : ℕ) (x : X) → slice_get xs i ≡ Some x → p x ≡ true) → list_all p xs ≡ true
@@ -77,7 +77,7 @@ module _ (s : Seen) (c : Call) (x : Stepped) (why : EndCause) (h : Serves s c x)
   abbrev is_off : Attempt → Bool
   is_off a = is_cut_off c.number gone a
 
-  placed : (n : ℕ) (xs : List Attempt) → AreNumbered n xs → AreNumbered n (map f xs)
+  placed : (n : ℕ) (xs : List Attempt) → AttemptsAreNumbered n xs → AttemptsAreNumbered n (map f xs)
   placed n [] p = tt
   placed n (a ∷ xs) p = (p.0, placed (suc n) xs p.1)
 
@@ -159,7 +159,7 @@ module _ (s : Seen) (c : Call) (x : Stepped) (why : EndCause) (h : Serves s c x)
         ended = record {
           cuts = w.actions;
           seen = last;
-          cut = subst (AreCut c.number w.actions (call_ended c.number why s)) same w.cuts;
+          cut = subst (AttemptsAreCut c.number w.actions (call_ended c.number why s)) same w.cuts;
           agrees = record {
             call = end_call s c x why h open_now (Some w.entry_now) still;
             number_is = refl;

@@ -40,19 +40,19 @@ use Rattle.call_actions.proofs.TakeActions.CutAttempts.{becomes, ended_mark, fin
 use Rattle.call_actions.proofs.TakeActions.CutOne.{changed_like, marked_also}
 use Rattle.call_actions.proofs.TakeActions.CutSees.{tokens_are}
 use Rattle.call_actions.proofs.TakeActions.CutWalk.{Walked, at_point, half_of, is_gone, number_of, walked}
-use Rattle.call_actions.specs.TakeActions.Cuts.{AreCut}
-use Rattle.call_actions.specs.TakeActions.Serves.{ArePlaced, is_ended_at}
+use Rattle.call_actions.specs.TakeActions.Cuts.{AttemptsAreCut}
+use Rattle.call_actions.specs.TakeActions.Serves.{AttemptsStandInPlace, is_ended_at}
 
 pub record ClosesSo (s : Seen) (c : Call) (k : Attempt) (x : Stepped) : Type 0 where
   pub cuts : List Action
   pub seen : Seen
-  pub cut : AreCut c.number cuts (call_committed k.place s) seen
+  pub cut : AttemptsAreCut c.number cuts (call_committed k.place s) seen
   pub closes : Keeps (call_ended c.number endcause.Row seen) c.number x
 
 module _ (s : Seen) (c : Call) (x : Stepped) (k : Attempt) (known : Attempts) (h : Sees s c x) (alike : KnowsAlike x.call.attempts known) (o : IsInOrder s c) (can : CanClose s c k)
     (links : map link_seen s.links ≡ x.ledger.links)
     (counted : option_map_or (λ (run : ThrottleRun). list_all (is_ended_at s) run.ends) (run_of c s) true ≡ true) where
-  places : ArePlaced 1 s.attempts
+  places : AttemptsStandInPlace 1 s.attempts
   places = places_of 1 s.attempts o.places
 
   abbrev pub tokens_now : Option ℕ
@@ -88,8 +88,8 @@ module _ (s : Seen) (c : Call) (x : Stepped) (k : Attempt) (known : Attempts) (h
       places refl can.at
 
   abbrev pub point : List Attempt → List Attempt → Option OpenEntry → Seen
-  point front rest current =
-      at_point s c h.own (stamp_of (entry s) k) (gone_by k) c.end first gone_is gone_same tokens_now count_now counted front rest current
+  point prefix rest current =
+      at_point s c h.own (stamp_of (entry s) k) (gone_by k) c.end first gone_is gone_same tokens_now count_now counted prefix rest current
 
   pub committed_is : call_committed k.place s ≡ point [] s.attempts s.current
   committed_is =
@@ -100,10 +100,10 @@ module _ (s : Seen) (c : Call) (x : Stepped) (k : Attempt) (known : Attempts) (h
       ∙ ap (λ (l : List Call). record s { attempts = map half_at s.attempts; calls = l })
       (changed_like (marked_also first) (becomes c.end (first ∷ [])) c.number s.calls c h.own refl)
 
-  abbrev pub Walks : Seen → Type 0
-  Walks u = Walked s c h.own (stamp_of (entry s) k) (gone_by k) c.end first gone_is gone_same tokens_now count_now counted u
+  abbrev pub CutAll : Seen → Type 0
+  CutAll u = Walked s c h.own (stamp_of (entry s) k) (gone_by k) c.end first gone_is gone_same tokens_now count_now counted u
 
-  pub commit_walked : (o : OpenEntry) → s.current ≡ Some o → Walks (call_committed k.place s)
+  pub commit_walked : (o : OpenEntry) → s.current ≡ Some o → CutAll (call_committed k.place s)
   commit_walked o opened =
       walked s c h.own (stamp_of (entry s) k) (gone_by k) c.end first gone_is gone_same tokens_now count_now counted o (call_committed k.place s) opened places committed_is
 
@@ -143,11 +143,11 @@ module _ (s : Seen) (c : Call) (x : Stepped) (k : Attempt) (known : Attempts) (h
       → ClosesSo s c k (steps.ended_by_row k.place (now s) (record x { call = record x.call { attempts = known } }))
   closes_by None opened some = absurd (let none : is_some s.current ≡ false = ap (λ (z : Option OpenEntry). is_some z) opened in both_ways (is_some s.current) none some)
   closes_by (Some q) opened some =
-      let w : Walks (call_committed k.place s) = commit_walked q opened in
+      let w : CutAll (call_committed k.place s) = commit_walked q opened in
       let still : is_some (Some w.entry_now) ≡ is_some s.current = sym (ap (λ (z : Option OpenEntry). is_some z) opened) in
       let same : point s.attempts [] (Some w.entry_now) ≡ last (Some w.entry_now) still
       = ap (put (Some w.entry_now)) (append-nil (map (finally (entry s) (now s) tokens_now s c k) s.attempts)) in
-      let cut : AreCut c.number w.actions (call_committed k.place s) (last (Some w.entry_now) still) = subst (AreCut c.number w.actions (call_committed k.place s)) same w.cuts in
+      let cut : AttemptsAreCut c.number w.actions (call_committed k.place s) (last (Some w.entry_now) still) = subst (AttemptsAreCut c.number w.actions (call_committed k.place s)) same w.cuts in
       let moment : now (last (Some w.entry_now) still) ≡ now s = cuts_moment c.number w.actions (call_committed k.place s) (last (Some w.entry_now) still) cut ∙ committed_moment in
       record { cuts = w.actions; seen = last (Some w.entry_now) still; cut = cut; closes = ends_so (Some w.entry_now) still moment }
 

@@ -8,11 +8,11 @@ use Rattle.attempt_ledger.specs.declared.row.Row.{Row}
 use Rattle.attempt_ledger.specs.declared.row.RowEnd.{RowEnd}
 use Rattle.call_actions.proofs.Lists.{changed_here}
 use Rattle.call_actions.proofs.Ranks.{all_so}
-use Rattle.call_actions.specs.Order.{AreNumbered, IsInOrder, is_beyond, is_own_mark}
-use Rattle.call_actions.specs.Sees.{AreAttempts, Sees}
+use Rattle.call_actions.specs.Order.{AttemptsAreNumbered, IsInOrder, is_beyond, is_own_mark}
+use Rattle.call_actions.specs.Sees.{AttemptsAgree, Sees}
 use Rattle.call_core.specs.Parts.{committed_attempts, count_of, kept_alone}
 use Rattle.call_core.specs.Steps as steps
-use Rattle.call_core.specs.Steps.{Stepped, commit_stamped, cut_all, told_all}
+use Rattle.call_core.specs.Steps.{Stepped, commit_stamped, cut_all, reported_all}
 use Rattle.call_core.specs.declared.attempts.Attempts.{Attempts}
 use Rattle.call_core.specs.declared.live.LiveRow.{LiveRow}
 use Rattle.call_actions.proofs.LastEnds.EndedLive.{commitment_is, cuts_are, live_cut, none_alone}
@@ -39,7 +39,7 @@ use Rattle.call_actions.proofs.TakeActions.CutSees.{all_at, uncommitted_by}
 use Rattle.call_actions.proofs.TakeActions.CutTokens.{bucket_cut}
 use Rattle.call_actions.proofs.TakeActions.EndCounts.{all_placed, kept_all}
 use Rattle.call_actions.proofs.TakeActions.Maps.{all_from, any_map, kept_map, map_map, numbered_each}
-use Rattle.call_actions.specs.TakeActions.Serves.{ArePlaced, is_ended_at}
+use Rattle.call_actions.specs.TakeActions.Serves.{AttemptsStandInPlace, is_ended_at}
 
 of_own : (test : Attempt → Bool) (f : Attempt → Attempt) → ((a : Attempt) → test a ≡ true → test (f a) ≡ true) → (o : Option Attempt) → holds test o ≡ true
     → holds test (option_map f o) ≡ true
@@ -55,11 +55,11 @@ own_of_cut : (mine rest : Bool) → (mine && rest) ≡ true → mine ≡ true
 own_of_cut true rest e = refl
 own_of_cut false rest e = absurd (cc)
 
-placed_still : (f : Attempt → Attempt) → ((a : Attempt) → (f a).place ≡ a.place) → (n : ℕ) (xs : List Attempt) → AreNumbered n xs → AreNumbered n (map f xs)
+placed_still : (f : Attempt → Attempt) → ((a : Attempt) → (f a).place ≡ a.place) → (n : ℕ) (xs : List Attempt) → AttemptsAreNumbered n xs → AttemptsAreNumbered n (map f xs)
 placed_still f same n [] p = tt
 placed_still f same n (a ∷ xs) p = (same a ∙ p.0, placed_still f same (suc n) xs p.1)
 
-pub places_of : (n : ℕ) (xs : List Attempt) → AreNumbered n xs → ArePlaced n xs
+pub places_of : (n : ℕ) (xs : List Attempt) → AttemptsAreNumbered n xs → AttemptsStandInPlace n xs
 places_of n [] p = tt
 places_of n (a ∷ xs) p = (p.0, places_of (suc n) xs p.1)
 
@@ -73,7 +73,7 @@ pub record KnowsAlike (a b : Attempts) : Type 0 where
 module _ (s : Seen) (c : Call) (x : Stepped) (k : Attempt) (known : Attempts) (h : Sees s c x) (alike : KnowsAlike x.call.attempts known) (o : IsInOrder s c) (can : CanClose s c k) (links : map link_seen s.links ≡ x.ledger.links)
     (counted : option_map_or (λ (run : ThrottleRun). list_all (is_ended_at s) run.ends) (run_of c s) true ≡ true) (current : Option OpenEntry)
     (still : is_some current ≡ is_some s.current) where
-  places : ArePlaced 1 s.attempts
+  places : AttemptsStandInPlace 1 s.attempts
   places = places_of 1 s.attempts o.places
 
   abbrev pub tokens_now : Option ℕ
@@ -125,7 +125,7 @@ module _ (s : Seen) (c : Call) (x : Stepped) (k : Attempt) (known : Attempts) (h
     call = record x.call { live = kept_alone k.place x.call.live; attempts = committed_attempts k.place known };
     ledger = ledger;
     tokens = x.tokens;
-    acts = told_all (Some k.place) x.call.live x.acts;
+    acts = reported_all (Some k.place) x.call.live x.acts;
   }
 
   pub step_is : steps.committed k.place (now s) with_known ≡ cut_step cut_ledger
@@ -139,9 +139,9 @@ module _ (s : Seen) (c : Call) (x : Stepped) (k : Attempt) (known : Attempts) (h
       × ((due_state cut_call cut_seen).stopped ≡ true)
   due_now = due_stopped s cut_seen c cut_call final_at (λ a. refl) (λ a. refl) refl mark.Committed (now s) cuts_now (λ z. refl) refl
 
-  pub attempts_now : AreAttempts cut_seen cut_call (committed_attempts k.place known)
+  pub attempts_now : AttemptsAgree cut_seen cut_call (committed_attempts k.place known)
   attempts_now =
-      let a : AreAttempts s c x.call.attempts = h.attempts in
+      let a : AttemptsAgree s c x.call.attempts = h.attempts in
       record {
         sent = made_still (entry s) (now s) tokens_now s c (stamp_of (entry s) k) (gone_by k) ∙ a.sent ∙ alike.sent;
         due = record { newest = due_now.0 ∙ a.due.newest ∙ alike.newest; placed = due_now.1 ∙ a.due.placed ∙ alike.placed; stopped = due_now.2; forced = λ e. absurd (true≢false e) };

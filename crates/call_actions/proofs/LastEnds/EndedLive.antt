@@ -20,7 +20,7 @@ use Rattle.call_actions.proofs.TakeActions.CutAttempts.{becomes, end_by_cut, fin
 use Rattle.call_actions.proofs.TakeActions.CutLive.{all_fail, committed_if, holds_of, last_it, last_map, none_any, none_if, only_it}
 use Rattle.call_actions.proofs.TakeActions.Maps.{all_both, all_by, kept_map}
 use Rattle.call_actions.specs.TakeActions.Cuts.{is_twin}
-use Rattle.call_actions.specs.TakeActions.Serves.{ArePlaced}
+use Rattle.call_actions.specs.TakeActions.Serves.{AttemptsStandInPlace}
 
 -- tests: whether an attempt is placed, has not ended, has the number, has the place
 cut_bools : (ps en nu pl : Bool) → (pl ≡ true → nu ≡ true) → (((ps && en) || ((not ps && en) && true)) && nu && not pl) ≡ false
@@ -65,7 +65,7 @@ none_if_all : (p : Attempt → Bool) (xs : List Attempt) → AllByRecursion (λ 
 none_if_all p [] all = refl
 none_if_all p (a ∷ xs) all = ap (λ (b : Bool). cond b (a ∷ filter p xs) (filter p xs)) all.0 ∙ none_if_all p xs all.1
 
-module _ (s : Seen) (c : Call) (k : Attempt) (h : CanClose s c k) (places : ArePlaced 1 s.attempts) (entry : ℕ) where
+module _ (s : Seen) (c : Call) (k : Attempt) (h : CanClose s c k) (places : AttemptsStandInPlace 1 s.attempts) (entry : ℕ) where
   pub committed_last : (f : Attempt → Attempt) → ((a : Attempt) → (f a).row.call ≡ a.row.call) → ((a : Attempt) → (f a).row.committed ≡ stamp_of entry k a)
       → find_last (is_commitment c) (map f s.attempts) ≡ Some (f k)
   committed_last f call stamp =
@@ -82,7 +82,7 @@ module _ (s : Seen) (c : Call) (k : Attempt) (h : CanClose s c k) (places : AreP
   pub half_commitment : find_last (is_commitment c) (map (λ (a : Attempt). record a { row = half (stamp_of entry k) a }) s.attempts) ≡ Some (record k { row = half (stamp_of entry k) k })
   half_commitment = committed_last (λ (a : Attempt). record a { row = half (stamp_of entry k) a }) (λ a. refl) (λ a. refl)
 
-module _ (s : Seen) (c : Call) (k : Attempt) (h : CanClose s c k) (own : numbered s.calls c.number ≡ Some c) (places : ArePlaced 1 s.attempts)
+module _ (s : Seen) (c : Call) (k : Attempt) (h : CanClose s c k) (own : numbered s.calls c.number ≡ Some c) (places : AttemptsStandInPlace 1 s.attempts)
     (entry moment : ℕ) (tokens : Option ℕ) (marks : List Mark) (current : Option OpenEntry) where
   abbrev pub made_final : Attempt → Attempt
   made_final a = finally entry moment tokens s c k a

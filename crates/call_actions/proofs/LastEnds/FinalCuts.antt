@@ -8,7 +8,7 @@ use Rattle.std.specs.Prelude.{option_and_then}
 use Rattle.attempt_ledger.specs.Ends.{delay_of}
 use Rattle.attempt_ledger.specs.Throttling.{codes_of}
 use Rattle.attempt_ledger.specs.declared.row.RowEnd.{RowEnd}
-use Rattle.call_actions.proofs.Bare.{some_still}
+use Rattle.call_actions.proofs.Unconfigured.{some_still}
 use Rattle.call_actions.proofs.Columns as columns
 use Rattle.call_actions.proofs.Ends.Committed.{moment_by}
 use Rattle.call_actions.proofs.Committing.{IsSameAttempt, plan_same, same_if}
@@ -17,7 +17,7 @@ use Rattle.call_actions.proofs.Ends.Frames.{ended_by, with_end_at}
 use Rattle.call_actions.proofs.Ends.Rows as endrows
 use Rattle.call_actions.proofs.Ends.Rows.{unended_by}
 use Rattle.call_actions.proofs.Ends.Tokens.{bucket_now, more_ends, run_now}
-use Rattle.call_actions.proofs.Ending.{after, base, channel_is, d, due_then, e, ends, is_ended, its_call, its_end, its_place, judges, last_then, lent_then, like_then, marks_then, order_then, runs, t, tokens_same, told}
+use Rattle.call_actions.proofs.Ending.{after, base, channel_is, d, due_then, e, ends, is_ended, its_call, its_end, its_place, judges, last_then, lent_then, like_then, marks_then, order_then, runs, t, tokens_same, reported}
 use Rattle.call_actions.proofs.Final.{ClosesNow}
 use Rattle.call_actions.proofs.Frames as frames
 use Rattle.call_actions.proofs.LastOnes.{closes_now, not_licensed}
@@ -25,7 +25,7 @@ use Rattle.call_actions.proofs.Lists.{changed_here, numbered_not}
 use Rattle.call_actions.proofs.Ranks.{all_so, numbered_map}
 use Rattle.call_actions.specs.Laws.{IsCounting, IsEnding, news_of}
 use Rattle.call_actions.specs.Order.{IsInOrder, IsInTurn, Keeps, goes_on_followed, has_ended}
-use Rattle.call_actions.specs.Sees.{AreAttempts, Sees, bucket_of, is_live}
+use Rattle.call_actions.specs.Sees.{AttemptsAgree, Sees, bucket_of, is_live}
 use Rattle.call_core.specs.Parts as parts
 use Rattle.call_core.specs.Parts.{lasted_attempts, without}
 use Rattle.call_core.specs.Steps as steps
@@ -59,7 +59,7 @@ use Rattle.session_actions.specs.declared.response.Outcome.{Outcome}
 use Rattle.session_actions.specs.declared.seen.Seen.{Seen}
 use Rattle.call_actions.proofs.TakeActions.CutLive.{none_any}
 use Rattle.call_actions.proofs.TakeActions.Maps.{all_both}
-use Rattle.call_actions.specs.TakeActions.Cuts.{AreCut, is_twin}
+use Rattle.call_actions.specs.TakeActions.Cuts.{AttemptsAreCut, is_twin}
 use Rattle.call_actions.specs.TakeActions.Serves.{is_ended_at}
 
 still_ended : (f : Attempt → Attempt) → ((a : Attempt) → is_some a.row.ended ≡ true → is_some (f a).row.ended ≡ true) → (o : Option Attempt)
@@ -95,7 +95,7 @@ module _ (s : Seen) (c : Call) (x : Stepped) (place : ℕ) (a : Attempt) (out : 
   there = its_end s c x place a out h o turn g n
 
   abbrev lent : Stepped
-  lent = told s c x place a out h o turn g n
+  lent = reported s c x place a out h o turn g n
 
   abbrev put : Attempt → Attempt
   put q = with_end_at place its q
@@ -155,7 +155,7 @@ module _ (s : Seen) (c : Call) (x : Stepped) (place : ℕ) (a : Attempt) (out : 
     delayed = last_delayed then_call known.sent then_seen;
   }
 
-  attempts_then : AreAttempts then_seen then_call mid
+  attempts_then : AttemptsAgree then_seen then_call mid
   attempts_then = record {
     sent = ending.made_same s c place a its (runs s c x place a out h o turn g n) (ends s c x place a out h o turn g n) ∙ h.attempts.sent;
     due = record {
@@ -195,7 +195,7 @@ module _ (s : Seen) (c : Call) (x : Stepped) (place : ℕ) (a : Attempt) (out : 
     ended = h.ended;
     attempts = attempts_then;
     live = endrows.live_then s c x place a its (runs s c x place a out h o turn g n) h o (ends s c x place a out h o turn g n) g.own;
-    tokens = frames.bucket_told then_base c.number (λ q. q.messages) (λ q. q.finished) (λ q. q.taken) (λ q. q.end_taken) (λ q. q.marks ++ w ∷ []) (λ q. q.end)
+    tokens = frames.bucket_reported then_base c.number (λ q. q.messages) (λ q. q.finished) (λ q. q.taken) (λ q. q.end_taken) (λ q. q.marks ++ w ∷ []) (λ q. q.end)
         (endrows.now_open s c x place a its (runs s c x place a out h o turn g n) h o (ends s c x place a out h o turn g n) g.own) (run_of c then_base)
         ∙ ap (option_map (bucket_of then_base)) (run_now place c s)
         ∙ bucket_now s c place a its (runs s c x place a out h o turn g n) (ends s c x place a out h o turn g n) (its_call s c x place a out h o turn g n) (run_of c s) refl turn.counted
@@ -324,7 +324,7 @@ module _ (s : Seen) (c : Call) (x : Stepped) (place : ℕ) (a : Attempt) (out : 
       record {
         cuts = w.cuts;
         seen = w.seen;
-        cut = subst (λ (u : Seen). AreCut c.number w.cuts u w.seen)
+        cut = subst (λ (u : Seen). AttemptsAreCut c.number w.cuts u w.seen)
             (ap (λ (p : ℕ). call_committed p then_seen) (its_place s c x place a out h o turn g n) ∙ ap (call_committed place) (sym (is_ended s c x place a out h o turn g n))) w.cut;
         closes = subst (λ (k : Stepped). Keeps (call_ended c.number endcause.Row w.seen) c.number k) same w.closes;
       }

@@ -19,9 +19,9 @@ use Rattle.call_actions.proofs.Frames as frames
 use Rattle.call_actions.proofs.Lists.{changed_here, numbered_last, numbered_not, stamped_here}
 use Rattle.call_actions.proofs.Places.{numbered_snoc}
 use Rattle.call_actions.proofs.Ranks.{all_so}
-use Rattle.call_actions.proofs.Told.{fold_last}
+use Rattle.call_actions.proofs.Report.{fold_last}
 use Rattle.call_actions.specs.Order.{IsInOrder, is_own_mark}
-use Rattle.call_actions.specs.Sees.{AreAttempts, AreDue, Sees, is_live, live_rows}
+use Rattle.call_actions.specs.Sees.{AttemptsAgree, DuesAgree, Sees, is_live, live_rows}
 use Rattle.call_core.specs.Steps as steps
 use Rattle.call_core.specs.Steps.{Stepped, next_place, row_added, with_attempts}
 use Rattle.call_core.specs.declared.live.LiveRow.{LiveRow}
@@ -58,7 +58,7 @@ pub record IsTaken (s : Seen) (c : Call) (place : ℕ) (a : Attempt) (e : RowEnd
   pub follows : is_to_follow c e.cause e.unseen s ≡ true
   pub goes_on : c.end ≡ None
   pub held : commitment c s ≡ Some a
-  pub calm : list_any (λ (q : Attempt). is_of c q && not (q.place == place) && wants_follower q s) s.attempts ≡ false
+  pub quiescent : list_any (λ (q : Attempt). is_of c q && not (q.place == place) && wants_follower q s) s.attempts ≡ false
 
 module _ (s : Seen) (c : Call) (x : Stepped) (place : ℕ) (a : Attempt) (e : RowEnd) (due : ℕ) (refusal : Bool) (h : Sees s c x) (o : IsInOrder s c)
     (f : IsTaken s c place a e) (same_refusal : was_refused a ≡ refusal) where
@@ -66,10 +66,10 @@ module _ (s : Seen) (c : Call) (x : Stepped) (place : ℕ) (a : Attempt) (e : Ro
   new = record { place = length s.attempts + 1; row = new_row c.number a.row.number kind.Transparent due; made = entry s; reset = false }
 
   abbrev odd : Attempt → Bool
-  odd q = again.odd s c place a new e o.places f.got f.own h.own f.ended f.unfollowed f.follows refl refl refl refl refl f.calm q
+  odd q = again.odd s c place a new e o.places f.got f.own h.own f.ended f.unfollowed f.follows refl refl refl refl refl f.quiescent q
 
   left : Leaves s c new odd
-  left = again.left s c place a new e o.places f.got f.own h.own f.ended f.unfollowed f.follows refl refl refl refl refl f.calm
+  left = again.left s c place a new e o.places f.got f.own h.own f.ended f.unfollowed f.follows refl refl refl refl refl f.quiescent
 
   pub own_new : is_of c new ≡ true
   own_new = eq-eqb c.number c.number refl
@@ -120,18 +120,18 @@ module _ (s : Seen) (c : Call) (x : Stepped) (place : ℕ) (a : Attempt) (e : Ro
   taken : x.call.attempts.committed ≡ None → ⊥
   taken free = (let both : Some a.place ≡ None = sym (ap (option_map (λ (q : Attempt). q.place)) f.held) ∙ h.attempts.committed ∙ free in cc)
 
-  attempts_now : AreAttempts t d after.call.attempts
+  attempts_now : AttemptsAgree t d after.call.attempts
   attempts_now =
-      let k : AreAttempts s c x.call.attempts = h.attempts in
+      let k : AttemptsAgree s c x.call.attempts = h.attempts in
       record {
         sent = made_now ∙ k.sent;
-        due = subst (λ (z : DueState). AreDue z after.call.attempts) (sym due_now)
+        due = subst (λ (z : DueState). DuesAgree z after.call.attempts) (sym due_now)
             (record { newest = k.due.newest; placed = k.due.placed; stopped = k.due.stopped; forced = k.due.forced });
         unplaced = k.unplaced;
         delayed = λ keeps free. absurd (taken free);
         last = λ free. absurd (taken free);
         refused =
-            again.retried_now s c place a new e o.places f.got f.own h.own f.ended f.unfollowed f.follows refl refl refl refl refl f.calm
+            again.retried_now s c place a new e o.places f.got f.own h.own f.ended f.unfollowed f.follows refl refl refl refl refl f.quiescent
             ∙ ap (λ (b : Bool). b || was_refused a) k.refused ∙ ap (λ (b : Bool). x.call.attempts.is_refusal_followed || b) same_refusal;
         committed = ap (option_map (λ (q : Attempt). q.place)) (commitment_more s c new odd left c) ∙ h.attempts.committed;
       }
@@ -173,7 +173,7 @@ module _ (s : Seen) (c : Call) (x : Stepped) (place : ℕ) (a : Attempt) (e : Ro
     ended = h.ended;
     attempts = attempts_now;
     live = live_now;
-    tokens = frames.bucket_told more c.number (λ k. k.messages) (λ k. k.finished) (λ k. k.taken) (λ k. k.end_taken) (λ k. k.marks ++ w ∷ []) (λ k. k.end) s.current (run_of c s)
+    tokens = frames.bucket_reported more c.number (λ k. k.messages) (λ k. k.finished) (λ k. k.taken) (λ k. k.end_taken) (λ k. k.marks ++ w ∷ []) (λ k. k.end) s.current (run_of c s)
         ∙ bucket_more s c new odd left (run_of c s) ∙ h.tokens;
     entry_is = h.entry_is;
     rows = map-append (λ (q : Attempt). q.row) s.attempts (new ∷ []) ∙ ap (λ (l : List Row). l ++ new.row ∷ []) h.rows ∙ ap (λ (r : Row). x.ledger.rows ++ r ∷ []) row_now;

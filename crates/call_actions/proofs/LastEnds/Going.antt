@@ -3,12 +3,12 @@ use Rattle.attempt_ledger.specs.Ends.{delay_of}
 use Rattle.attempt_ledger.specs.declared.row.RowEnd.{RowEnd}
 use Rattle.call_actions.proofs.Ends.Frames as ending
 use Rattle.call_actions.proofs.Ends.Rows as endrows
-use Rattle.call_actions.proofs.Ending.{KeepsRest, after, channel_is, d, e, ends, is_ended, its_call, its_end, like_then, order_then, runs, sees_then, t, told}
+use Rattle.call_actions.proofs.Ending.{KeepsRest, after, channel_is, d, e, ends, is_ended, its_call, its_end, like_then, order_then, runs, sees_then, t, reported}
 use Rattle.call_actions.proofs.Hedged as hedged
 use Rattle.call_actions.proofs.Lists.{changed_here, numbered_not}
 use Rattle.call_actions.specs.Laws.{IsCounting, IsEnding, ends_alike, news_of}
 use Rattle.call_actions.specs.Order.{IsInOrder, IsInTurn, Keeps, is_beyond}
-use Rattle.call_actions.specs.Sees.{AreDue, KeepsDelay, Sees}
+use Rattle.call_actions.specs.Sees.{DuesAgree, KeepsDelay, Sees}
 use Rattle.call_core.specs.Parts as parts
 use Rattle.call_core.specs.Parts.{has_none, hedge_after, from_one}
 use Rattle.call_core.specs.Steps as steps
@@ -72,7 +72,7 @@ module _ (s : Seen) (c : Call) (x : Stepped) (place : ℕ) (a : Attempt) (out : 
   there = its_end s c x place a out h o turn g n
 
   abbrev lent : Stepped
-  lent = told s c x place a out h o turn g n
+  lent = reported s c x place a out h o turn g n
 
   abbrev known : Attempts
   known = x.call.attempts
@@ -113,7 +113,7 @@ module _ (s : Seen) (c : Call) (x : Stepped) (place : ℕ) (a : Attempt) (out : 
       (max-eq_left some_sent ∙ sym h.attempts.sent ∙ sym (ending.made_same s c place a its (runs s c x place a out h o turn g n) (ends s c x place a out h o turn g n)))
       ∙ sym (ap (λ (q : CallPlan). is_some (due_by q (attempts_made then_call then_seen) later)) hp) ∙ due_some
 
-  due_judged : AreDue later judge.attempts
+  due_judged : DuesAgree later judge.attempts
   due_judged = hedged.due_now s c x place a out p h o turn g n free hp says
 
   sent_some : (from_one known.sent == 0) ≡ false
@@ -159,7 +159,7 @@ module _ (s : Seen) (c : Call) (x : Stepped) (place : ℕ) (a : Attempt) (out : 
   sees_now : Sees then_seen then_call (after s c x place a out h o turn g n)
   sees_now =
       sees_then s c x place a out h o turn g n (subst (λ (j : Judged). KeepsRest j.attempts known) (sym (hedged.judged_is s c x place a out p h o turn g n free hp says)) kept)
-      (subst (λ (j : Judged). AreDue later j.attempts) (sym (hedged.judged_is s c x place a out p h o turn g n free hp says)) due_judged)
+      (subst (λ (j : Judged). DuesAgree later j.attempts) (sym (hedged.judged_is s c x place a out p h o turn g n free hp says)) due_judged)
       (λ keeps. absurd (keeps_not c.config refl keeps))
       (word_same ∙ ap (λ (j : Judged). j.word) (sym (hedged.judged_is s c x place a out p h o turn g n free hp says)))
 

@@ -14,9 +14,9 @@ use Rattle.call_actions.proofs.Lists.{changed_here}
 use Rattle.call_actions.proofs.PlacedFrames.{none_bad}
 use Rattle.call_actions.proofs.Places.{changed_is, numbered_written, place_is, rows_are}
 use Rattle.call_actions.proofs.Ranks.{all_so, any_map_all, filter_mapped, fold_map, map_through, numbered_map}
-use Rattle.call_actions.proofs.Told.{fold_last}
+use Rattle.call_actions.proofs.Report.{fold_last}
 use Rattle.call_actions.specs.Order.{IsInOrder, is_beyond, is_own_mark}
-use Rattle.call_actions.specs.Sees.{AreAttempts, AreDue, Sees, bucket_of, is_live, live_row, live_rows}
+use Rattle.call_actions.specs.Sees.{AttemptsAgree, DuesAgree, Sees, bucket_of, is_live, live_row, live_rows}
 use Rattle.call_core.specs.Parts.{committed_attempts}
 use Rattle.call_core.specs.Steps as steps
 use Rattle.call_core.specs.Steps.{Stepped}
@@ -156,12 +156,12 @@ module _ (s : Seen) (c : Call) (x : Stepped) (place : ℕ) (a : Attempt) (h : Se
   abbrev then_attempts : Attempts
   then_attempts = committed_attempts place x.call.attempts
 
-  attempts_now : AreAttempts t d then_attempts
+  attempts_now : AttemptsAgree t d then_attempts
   attempts_now =
-      let was : AreAttempts s c x.call.attempts = h.attempts in
+      let was : AttemptsAgree s c x.call.attempts = h.attempts in
       record {
         sent = made_same ∙ was.sent;
-        due = subst (λ (z : DueState). AreDue z then_attempts) (sym due_now)
+        due = subst (λ (z : DueState). DuesAgree z then_attempts) (sym due_now)
             (record { newest = same_attempt.newest ∙ was.due.newest; placed = same_attempt.placed ∙ was.due.placed; stopped = refl; forced = λ z. absurd (cc) });
         unplaced = was.unplaced;
         delayed = λ keeps none. absurd (cc);
@@ -230,7 +230,7 @@ module _ (s : Seen) (c : Call) (x : Stepped) (place : ℕ) (a : Attempt) (h : Se
     ended = h.ended;
     attempts = attempts_now;
     live = live_now;
-    tokens = frames.bucket_told more c.number (λ k. k.messages) (λ k. k.finished) (λ k. k.taken) (λ k. k.end_taken) (λ k. k.marks ++ w ∷ []) (λ k. k.end) s.current (run_of c s)
+    tokens = frames.bucket_reported more c.number (λ k. k.messages) (λ k. k.finished) (λ k. k.taken) (λ k. k.end_taken) (λ k. k.marks ++ w ∷ []) (λ k. k.end) s.current (run_of c s)
         ∙ bucket_same (run_of c s) ∙ h.tokens;
     entry_is = h.entry_is;
     rows = sym (rows_are (with_commitment (entry s)) g place a here away (stamps.committed_row x.ledger.entry) row_here s.attempts o.places got)

@@ -17,7 +17,7 @@ use Rattle.session_actions.specs.declared.config.HeldConfig.{HeldConfig}
 use Rattle.session_actions.specs.declared.config.ThrottleRun.{ThrottleRun}
 use Rattle.session_actions.specs.declared.entry.OpenEntry.{OpenEntry}
 use Rattle.session_actions.specs.declared.seen.Seen.{Seen}
-use Rattle.call_actions.specs.TakeActions.Cuts.{AreCut}
+use Rattle.call_actions.specs.TakeActions.Cuts.{AttemptsAreCut}
 
 drawn_moment : (more : ℕ) (o : Option OpenEntry) (last : ℕ)
     → option_map_or (λ (z : OpenEntry). z.moment) (option_map (λ (z : OpenEntry). record z { drawn = z.drawn + more }) o) last ≡ option_map_or (λ (z : OpenEntry). z.moment) o last
@@ -64,7 +64,7 @@ cut_moment : (u : Seen) (list : List Attempt) (a : Action) → first_of (cut u) 
 cut_moment u [] a e = absurd (cc)
 cut_moment u (q ∷ list) a e = cut_by u q (first_of (cut u) list) a (is_outstanding q && is_over q u) e (cut_moment u list a)
 
-pub cuts_moment : (number : ℕ) (actions : List Action) (u v : Seen) → AreCut number actions u v → now v ≡ now u
+pub cuts_moment : (number : ℕ) (actions : List Action) (u v : Seen) → AttemptsAreCut number actions u v → now v ≡ now u
 cuts_moment number [] u v cuts = ap now cuts.1
 cuts_moment number (a ∷ actions) u v cuts =
     cuts_moment number actions (after a u) v cuts.1 ∙ cut_moment u (filter (λ (q : Attempt). q.row.call == number) u.attempts) a cuts.0

@@ -25,7 +25,7 @@ use Rattle.call_actions.proofs.LastEnds.Following as following
 use Rattle.call_actions.proofs.LastEnds.Following.{IsTaken}
 use Rattle.call_actions.proofs.LastEnds.Inheriting as inheriting
 use Rattle.call_actions.specs.LastEnds.Laws.{CommittedAreRetried}
-use Rattle.call_actions.proofs.TakeActions.CutRows.{changed_front}
+use Rattle.call_actions.proofs.TakeActions.CutRows.{changed_prefix}
 use Rattle.call_actions.proofs.Committing.{committed_at}
 use Rattle.call_actions.proofs.Lists.{numbered_last}
 use Rattle.ledger_stamps.specs.Steps as stamps
@@ -77,16 +77,16 @@ refusal_is cause.Goaway false free retried e = absurd (cc)
 refusal_is _ unseen free retried e = and_right unseen false refl
 
 waits_if : (mine wants before : Bool) → wants ≡ before → (mine && before) ≡ false → (mine && true && wants) ≡ false
-waits_if true wants before same calm = same ∙ calm
-waits_if false wants before same calm = refl
+waits_if true wants before same quiescent = same ∙ quiescent
+waits_if false wants before same quiescent = refl
 
 waits_by : (b mine : Bool) (wants before : Bool) → (b ≡ false → wants ≡ before) → (mine && before) ≡ false → (mine && not b && wants) ≡ false
-waits_by true mine wants before same calm = and_left (mine && false) wants (and_right mine false refl)
-waits_by false mine wants before same calm = waits_if mine wants before (same refl) calm
+waits_by true mine wants before same quiescent = and_left (mine && false) wants (and_right mine false refl)
+waits_by false mine wants before same quiescent = waits_if mine wants before (same refl) quiescent
 
 module _ (s : Seen) (c : Call) (x : Stepped) (place : ℕ) (a : Attempt) (out : Outcome) (h : Sees s c x) (o : IsInOrder s c) (turn : IsInTurn s c)
     (g : IsEnding s c place a out) (goes_on : c.end ≡ None) (held : commitment c s ≡ Some a) (follows : is_to_follow c out.cause out.unseen s ≡ true)
-    (calm : list_any (λ (q : Attempt). is_of c q && wants_follower q s) s.attempts ≡ false) where
+    (quiescent : list_any (λ (q : Attempt). is_of c q && wants_follower q s) s.attempts ≡ false) where
   unended : a.row.ended ≡ None
   unended = none_of a.row.ended (unended_by (is_of c a) (is_some a.row.placed) (is_none a.row.placed) (is_none a.row.ended) (is_over a s) g.lives)
 
@@ -126,12 +126,12 @@ module _ (s : Seen) (c : Call) (x : Stepped) (place : ℕ) (a : Attempt) (out : 
       (endrows.now_open s c x place a e s.runs h o ends g.own) (put q) z
       ∙ columns.wants_same s ending.placed_before (ended_by place e) there (ending.writes s c place a e s.runs ends) q z) q.row.ended
 
-  calm_then : list_any (λ (q : Attempt). is_of d q && not (q.place == place) && wants_follower q t) t.attempts ≡ false
-  calm_then =
+  quiescent_then : list_any (λ (q : Attempt). is_of d q && not (q.place == place) && wants_follower q t) t.attempts ≡ false
+  quiescent_then =
       any_map_all (λ (q : Attempt). is_of d q && not (q.place == place) && wants_follower q t) (λ (q : Attempt). is_of c q && not (q.place == place) && wants_follower (put q) t) put
       (λ q. refl) s.attempts
       ∙ any_none (λ (q : Attempt). is_of c q && not (q.place == place) && wants_follower (put q) t) (λ (q : Attempt). is_of c q && wants_follower q s)
-      (λ q good. waits_by (q.place == place) (is_of c q) (wants_follower (put q) t) (wants_follower q s) (wants_same q) good) s.attempts calm
+      (λ q good. waits_by (q.place == place) (is_of c q) (wants_follower (put q) t) (wants_follower q s) (wants_same q) good) s.attempts quiescent
 
   is_taken_then : IsTaken t d place (put a) e
   is_taken_then = record {
@@ -143,7 +143,7 @@ module _ (s : Seen) (c : Call) (x : Stepped) (place : ℕ) (a : Attempt) (out : 
     follows = columns.follow_same s ending.placed_before (ended_by place e) there (ending.writes s c place a e s.runs ends) out.cause out.unseen c ∙ follows;
     goes_on = goes_on;
     held = columns.commitment_same s ending.placed_before (ended_by place e) there (ending.writes s c place a e s.runs ends) c ∙ ap (option_map put) held;
-    calm = calm_then;
+    quiescent = quiescent_then;
   }
 
   abbrev refusal : Bool
@@ -288,13 +288,13 @@ module _ (s : Seen) (c : Call) (x : Stepped) (place : ℕ) (a : Attempt) (out : 
   with_place n =
       let z : Stepped = built place e true (Some n) None in record z { ledger = record z.ledger { rows = stamps.changed_at (stamps.committed_row x.ledger.entry) (before.ledger.rows ++ new_row_with None ∷ []) n } }
 
-  behind : next_at place e ≡ suc (length before.ledger.rows)
-  behind = omega arith
+  afterwards : next_at place e ≡ suc (length before.ledger.rows)
+  afterwards = omega arith
 
   virtual : last_channel ≡ built place e true (Some (next_at place e)) (Some x.ledger.entry)
   virtual =
       ap with_place (sym place_same)
-      ∙ ap with_rows (changed_front (stamps.committed_row x.ledger.entry) before.ledger.rows (new_row_with None) [] (next_at place e) behind)
+      ∙ ap with_rows (changed_prefix (stamps.committed_row x.ledger.entry) before.ledger.rows (new_row_with None) [] (next_at place e) afterwards)
 
   pub is_taken_over : Keeps (call_committed (length s.attempts + 1) (attempt_made c.number a.row.number kind.Transparent (now s) (attempt_ended place e s))) c.number
       (steps.ended_at place (news_of a out s) (now s) (next_word s) x)
@@ -309,4 +309,4 @@ module _ (s : Seen) (c : Call) (x : Stepped) (place : ℕ) (a : Attempt) (out : 
       (subst (λ (z : Stepped). Keeps last_seen c.number z) (virtual ∙ sym channel_is) keeps_there)
 
 pub committed_are_retried : CommittedAreRetried
-committed_are_retried s c x place a out h o turn g goes_on held follows calm = is_taken_over s c x place a out h o turn g goes_on held follows calm
+committed_are_retried s c x place a out h o turn g goes_on held follows quiescent = is_taken_over s c x place a out h o turn g goes_on held follows quiescent

@@ -8,15 +8,15 @@ use Rattle.std.specs.List.{list_all}
 use Rattle.std.specs.Option.{option_map_or}
 use Rattle.std.specs.Prelude.{filter_map}
 use Rattle.attempt_ledger.specs.declared.ledger.CallEnd.{CallEnd}
-use Rattle.call_actions.proofs.Bare.{some_still}
+use Rattle.call_actions.proofs.Unconfigured.{some_still}
 use Rattle.call_actions.proofs.Closing.{quiet_calls_end}
 use Rattle.call_actions.proofs.Committing as committing
 use Rattle.call_actions.proofs.Ended.{none_due}
-use Rattle.call_actions.proofs.Frames.{bucket_told, counted_rows_same, delayed_same, due_same, live_same}
+use Rattle.call_actions.proofs.Frames.{bucket_reported, counted_rows_same, delayed_same, due_same, live_same}
 use Rattle.call_actions.proofs.Lists.{changed_here}
-use Rattle.call_actions.proofs.Told.{fold_last}
+use Rattle.call_actions.proofs.Report.{fold_last}
 use Rattle.call_actions.specs.Order.{IsInOrder, Keeps, is_own_mark}
-use Rattle.call_actions.specs.Sees.{AreAttempts, AreDue, Sees}
+use Rattle.call_actions.specs.Sees.{AttemptsAgree, DuesAgree, Sees}
 use Rattle.call_core.specs.Parts.{stopped_attempts}
 use Rattle.call_core.specs.Steps as steps
 use Rattle.call_core.specs.Steps.{Stepped, ended_by_last}
@@ -82,13 +82,13 @@ module _ (s : Seen) (c : Call) (x : Stepped) (place : ℕ) (a : Attempt) (h : Se
       ap last_of (filter_map-append (λ (m : Mark). counted_row t m.what) c.marks (w ∷ []) ∙ append-nil (filter_map (λ (m : Mark). counted_row t m.what) c.marks)
       ∙ counted_rows_same s n (λ k. k.messages) (λ k. k.finished) (λ k. k.taken) (λ k. k.end_taken) (λ k. k.marks ++ w ∷ []) (λ k. k.end) now_open c.marks)
 
-  was : AreAttempts s c x.call.attempts
+  was : AttemptsAgree s c x.call.attempts
   was = h.attempts
 
-  attempts_then : AreAttempts t d (stopped_attempts x.call.attempts)
+  attempts_then : AttemptsAgree t d (stopped_attempts x.call.attempts)
   attempts_then = record {
     sent = was.sent;
-    due = subst (λ (z : DueState). AreDue z (stopped_attempts x.call.attempts)) (sym due_then) (none_due (due_state c s) x.call.attempts was.due.newest was.due.placed);
+    due = subst (λ (z : DueState). DuesAgree z (stopped_attempts x.call.attempts)) (sym due_then) (none_due (due_state c s) x.call.attempts was.due.newest was.due.placed);
     unplaced = was.unplaced;
     delayed = λ keeps alone. delayed_same s n (λ k. k.messages) (λ k. k.finished) (λ k. k.taken) (λ k. k.end_taken) (λ k. k.marks ++ w ∷ []) (λ k. k.end) now_open c x.call.attempts.sent
         ∙ was.delayed keeps alone;
@@ -109,7 +109,7 @@ module _ (s : Seen) (c : Call) (x : Stepped) (place : ℕ) (a : Attempt) (h : Se
     ended = h.ended;
     attempts = attempts_then;
     live = live_same s n (λ k. k.messages) (λ k. k.finished) (λ k. k.taken) (λ k. k.end_taken) (λ k. k.marks ++ w ∷ []) now_open c ∙ h.live ∙ none;
-    tokens = bucket_told s n (λ k. k.messages) (λ k. k.finished) (λ k. k.taken) (λ k. k.end_taken) (λ k. k.marks ++ w ∷ []) (λ k. k.end) now_open (run_of c s) ∙ h.tokens;
+    tokens = bucket_reported s n (λ k. k.messages) (λ k. k.finished) (λ k. k.taken) (λ k. k.end_taken) (λ k. k.marks ++ w ∷ []) (λ k. k.end) now_open (run_of c s) ∙ h.tokens;
     entry_is = ap (λ (b : Bool). length s.entries + (if b then 1 else 0)) (some_still (λ (z : OpenEntry). record z { turn = None }) s.current) ∙ h.entry_is;
     rows = h.rows;
     call_is = h.call_is;

@@ -36,35 +36,35 @@ use Rattle.session_actions.specs.Words.{changed_if}
 use Rattle.std.proofs.Common.{arith, Bool, List, None, Option, Some, [], false, if◌then◌else◌, is_none, length, map, refl, slice_get, slice_set, suc, sym, true, zero, ℕ, ◌&&◌, ◌++◌, ◌+◌, ◌∙◌, ◌∷◌, ◌≡◌, ap, subst}
 use Rattle.std.specs.Option.{option_map_or}
 use Rattle.call_actions.proofs.ReadsInOrder.Order.{frames_come_after, links_of_addresses, links_of_config, links_of_dial, links_of_end, links_of_event, links_of_mark, links_of_opened, links_of_policy, links_of_sub, links_of_turn}
-use Rattle.call_actions.specs.ReadsInOrder.Laws.{AreLinks, LinksBegin, LinksStay, NextReadsOn}
+use Rattle.call_actions.specs.ReadsInOrder.Laws.{LinksAreNumbered, LinksBegin, LinksStay, NextReadsOn}
 
-set_links : (f : Link → Link) → ((l : Link) → (f l).number ≡ l.number) → (n : ℕ) (xs : List Link) (i : ℕ) (x : Link) → AreLinks n xs → slice_get xs i ≡ Some x → AreLinks n (slice_set xs i (f x))
+set_links : (f : Link → Link) → ((l : Link) → (f l).number ≡ l.number) → (n : ℕ) (xs : List Link) (i : ℕ) (x : Link) → LinksAreNumbered n xs → slice_get xs i ≡ Some x → LinksAreNumbered n (slice_set xs i (f x))
 set_links f k n [] i x e got = e
 set_links f k n (y ∷ xs) zero x e got = let one : y ≡ x = (cc) in (k x ∙ ap (λ (l : Link). l.number) (sym one) ∙ e.0, e.1)
 set_links f k n (y ∷ xs) (suc i) x e got = (e.0, set_links f k (suc n) xs i x e.1 got)
 
-links_if : (f : Link → Link) → ((l : Link) → (f l).number ≡ l.number) → (xs : List Link) (i : ℕ) (o : Option Link) → AreLinks 1 xs → slice_get xs i ≡ o → AreLinks 1 (changed_if f (suc i) xs o)
+links_if : (f : Link → Link) → ((l : Link) → (f l).number ≡ l.number) → (xs : List Link) (i : ℕ) (o : Option Link) → LinksAreNumbered 1 xs → slice_get xs i ≡ o → LinksAreNumbered 1 (changed_if f (suc i) xs o)
 links_if f k xs i None e got = e
 links_if f k xs i (Some x) e got = set_links f k 1 xs i x e got
 
-links_changed : (f : Link → Link) → ((l : Link) → (f l).number ≡ l.number) → (n : ℕ) (xs : List Link) → AreLinks 1 xs → AreLinks 1 (changed f n xs)
+links_changed : (f : Link → Link) → ((l : Link) → (f l).number ≡ l.number) → (n : ℕ) (xs : List Link) → LinksAreNumbered 1 xs → LinksAreNumbered 1 (changed f n xs)
 links_changed f k zero xs e = e
 links_changed f k (suc i) xs e = links_if f k xs i (slice_get xs i) e refl
 
-links_mapped : (f : Link → Link) → ((l : Link) → (f l).number ≡ l.number) → (n : ℕ) (xs : List Link) → AreLinks n xs → AreLinks n (map f xs)
+links_mapped : (f : Link → Link) → ((l : Link) → (f l).number ≡ l.number) → (n : ℕ) (xs : List Link) → LinksAreNumbered n xs → LinksAreNumbered n (map f xs)
 links_mapped f k n [] e = e
 links_mapped f k n (x ∷ xs) e = (k x ∙ e.0, links_mapped f k (suc n) xs e.1)
 
-links_snoc : (n : ℕ) (xs : List Link) (y : Link) → AreLinks n xs → y.number ≡ n + length xs → AreLinks n (xs ++ y ∷ [])
+links_snoc : (n : ℕ) (xs : List Link) (y : Link) → LinksAreNumbered n xs → y.number ≡ n + length xs → LinksAreNumbered n (xs ++ y ∷ [])
 links_snoc n [] y e at = (let here : y.number ≡ n = omega (arith, at) in (here, tt))
 links_snoc n (x ∷ xs) y e at = let next : y.number ≡ suc n + length xs = omega (arith, at) in (e.0, links_snoc (suc n) xs y e.1 next)
 
-number_from : (n i : ℕ) (xs : List Link) (l : Link) → AreLinks n xs → slice_get xs i ≡ Some l → l.number ≡ n + i
+number_from : (n i : ℕ) (xs : List Link) (l : Link) → LinksAreNumbered n xs → slice_get xs i ≡ Some l → l.number ≡ n + i
 number_from n i [] l e got = absurd (cc)
 number_from n zero (x ∷ xs) l e got = let one : x ≡ l = (cc) in let at : x.number ≡ n = e.0 in let same : l.number ≡ n = ap (λ (z : Link). z.number) (sym one) ∙ at in omega (arith, same)
 number_from n (suc i) (x ∷ xs) l e got = let rest : l.number ≡ suc n + i = number_from (suc n) i xs l e.1 got in omega (arith, rest)
 
-number_at : (k : ℕ) (xs : List Link) (l : Link) → AreLinks 1 xs → numbered xs k ≡ Some l → l.number ≡ k
+number_at : (k : ℕ) (xs : List Link) (l : Link) → LinksAreNumbered 1 xs → numbered xs k ≡ Some l → l.number ≡ k
 number_at zero xs l e got = absurd (cc)
 number_at (suc i) xs l e got = let at : l.number ≡ 1 + i = number_from 1 i xs l e got in omega (arith, at)
 
@@ -77,13 +77,13 @@ gone_if s l true = refl
 gone_if s l false = refl
 
 abbrev AreNumberedIn : Seen → Type 0
-AreNumberedIn t = AreLinks 1 t.links
+AreNumberedIn t = LinksAreNumbered 1 t.links
 
-module _ (s : Seen) (e : AreLinks 1 s.links) where
-  same_then : (t : Seen) → t.links ≡ s.links → AreLinks 1 t.links
-  same_then t f = subst (AreLinks 1) (sym f) e
+module _ (s : Seen) (e : LinksAreNumbered 1 s.links) where
+  same_then : (t : Seen) → t.links ≡ s.links → LinksAreNumbered 1 t.links
+  same_then t f = subst (LinksAreNumbered 1) (sym f) e
 
-  kept_then : (f : Link → Link) → ((l : Link) → (f l).number ≡ l.number) → (n : ℕ) → AreLinks 1 (changed f n s.links)
+  kept_then : (f : Link → Link) → ((l : Link) → (f l).number ≡ l.number) → (n : ℕ) → LinksAreNumbered 1 (changed f n s.links)
   kept_then f k n = links_changed f k n s.links e
 
   over_by : (o : Option ℕ) → AreNumberedIn (option_map_or (λ (link : ℕ). link_over over.TimedOut link s) o s)
@@ -105,7 +105,7 @@ module _ (s : Seen) (e : AreLinks 1 s.links) where
   written_by : (x : Sent) (o : Option Link) → AreNumberedIn (option_map_or (frame_written_on x s) o s)
   written_by x None = e
   written_by x (Some l) =
-      subst (λ (ls : List Link). AreLinks 1 (changed (λ (k : Link). record k { traffic = k.traffic ++ traffic.Written x ∷ [] }) l.number ls)) (sym (links_of_opened x l s))
+      subst (λ (ls : List Link). LinksAreNumbered 1 (changed (λ (k : Link). record k { traffic = k.traffic ++ traffic.Written x ∷ [] }) l.number ls)) (sym (links_of_opened x l s))
       (kept_then (λ (k : Link). record k { traffic = k.traffic ++ traffic.Written x ∷ [] }) (λ k. refl) l.number)
 
   up_number : length s.links + 1 ≡ 1 + length s.links
@@ -129,11 +129,11 @@ module _ (s : Seen) (e : AreLinks 1 s.links) where
   act o (action.DialTaken sub again until) = same_then (dial_taken sub again until s) (links_of_dial again until s (numbered s.subs sub))
   act o (action.DialFails sub) = same_then (dial_failed sub s) (links_of_sub (without_link conn.Failure) sub (wants_resolution s))
   act o (action.ConnectTimesOut sub) =
-      subst (AreLinks 1)
+      subst (LinksAreNumbered 1)
       (sym (links_of_sub (without_link conn.Failure) sub (wants_resolution (option_map_or (λ (b : Subchannel). link_timed_out b s) (numbered s.subs sub) s)))) (timed_out_by (numbered s.subs sub))
   act o (action.BackoffEnds sub) = same_then (after_in o (action.BackoffEnds sub) s) (links_of_sub (in_state conn.Idle) sub s)
   act o (action.LinkUp sub) =
-      subst (AreLinks 1)
+      subst (LinksAreNumbered 1)
       (sym (links_of_sub (λ (b : Subchannel). record b { link = Some (length s.links + 1) }) sub (record s { links = s.links ++ new_link (length s.links + 1) sub s ∷ [] })))
       (links_snoc 1 s.links (new_link (length s.links + 1) sub s) e up_number)
   act o (action.SettingsArrive sub) = same_then (settings_arrived sub s) (links_of_sub (λ (b : Subchannel). record b { state = conn.Ready; dials = 0; until = None }) sub s)

@@ -49,7 +49,7 @@ use Rattle.session_actions.specs.declared.policy.PolicyUse.{PolicyUse}
 use Rattle.session_actions.specs.declared.seen.Seen.{Seen}
 use Rattle.session_actions.specs.declared.subchannel.Subchannel.{Subchannel}
 use Rattle.call_actions.proofs.Lists.{numbered_last}
-use Rattle.call_actions.specs.ReadsInOrder.Laws.{AreReadInOrder, FramesComeAfter, ReadsBegin, ReadsOn, ReadsStay, is_read_in_order}
+use Rattle.call_actions.specs.ReadsInOrder.Laws.{LinksAreReadInOrder, FramesComeAfter, ReadsBegin, ReadsOn, ReadsStay, is_read_in_order}
 use Rattle.session_actions.specs.Links.{read_bytes, read_in}
 use Rattle.session_actions.specs.Reading.{block_read, block_with, frame_read_by, is_last_of_block, is_long_block, is_of_block, link_error, next_fields, next_read, next_read_by, open_block, part_read, plain_read}
 use Rattle.h2_frame.specs.Readings.{Fault, Partial, Reading, Whole, reading_of}
@@ -235,27 +235,27 @@ gone_if : (s : Seen) (l : Link) (b : Bool) → (if b then record l { gone = Some
 gone_if s l true = refl
 gone_if s l false = refl
 
-module _ (s : Seen) (e : AreReadInOrder s) where
-  same_then : (t : Seen) → t.links ≡ s.links → AreReadInOrder t
+module _ (s : Seen) (e : LinksAreReadInOrder s) where
+  same_then : (t : Seen) → t.links ≡ s.links → LinksAreReadInOrder t
   same_then t f = ap (list_all is_read_in_order) f ∙ e
 
   kept_then : (f : Link → Link) → Keeps f → (n : ℕ) → list_all is_read_in_order (changed f n s.links) ≡ true
   kept_then f k n = all_changed is_read_in_order f n s.links e (λ l got. ap ordered (k.traffic_is l) ∙ all_at is_read_in_order s.links n l e got)
 
-  over_by : (o : Option ℕ) → AreReadInOrder (option_map_or (λ (link : ℕ). link_over over.TimedOut link s) o s)
+  over_by : (o : Option ℕ) → LinksAreReadInOrder (option_map_or (λ (link : ℕ). link_over over.TimedOut link s) o s)
   over_by None = e
   over_by (Some n) = kept_then (λ (l : Link). record l { over = Some over.TimedOut }) (record { traffic_is = λ l. refl }) n
 
-  timed_out_by : (o : Option Subchannel) → AreReadInOrder (option_map_or (λ (b : Subchannel). link_timed_out b s) o s)
+  timed_out_by : (o : Option Subchannel) → LinksAreReadInOrder (option_map_or (λ (b : Subchannel). link_timed_out b s) o s)
   timed_out_by None = e
   timed_out_by (Some b) = over_by b.link
 
-  reset_by : (number : ℕ) (o : Option Attempt) → AreReadInOrder (option_map_or (stream_reset_of number s) o s)
+  reset_by : (number : ℕ) (o : Option Attempt) → LinksAreReadInOrder (option_map_or (stream_reset_of number s) o s)
   reset_by number None = e
   reset_by number (Some q) = kept_then (λ (l : Link). record l { owed = l.owed ++ rst_stream_frame (stream_number q) number ∷ [] }) (record { traffic_is = λ l. refl }) (link_number q)
 
   read_by : (r : ReadFrame) (link : ℕ) (o : Option Link) → numbered s.links link ≡ o → ((l : Link) → o ≡ Some l → (l.number ≡ link) × (read_bytes l ≤ r.end))
-      → AreReadInOrder (option_map_or (frame_read_on r s) o s)
+      → LinksAreReadInOrder (option_map_or (frame_read_on r s) o s)
   read_by r link None got so = e
   read_by r link (Some l) got so =
       let both : (l.number ≡ link) × (read_bytes l ≤ r.end) = so l refl in
@@ -265,14 +265,14 @@ module _ (s : Seen) (e : AreReadInOrder s) where
       let one : l ≡ k = (cc) in
       more_read k.traffic r (subst (λ (z : Link). read_bytes z ≤ r.end) one both.1) (all_at is_read_in_order s.links l.number k e at)))
 
-  written_by : (x : Sent) (o : Option Link) → AreReadInOrder (option_map_or (frame_written_on x s) o s)
+  written_by : (x : Sent) (o : Option Link) → LinksAreReadInOrder (option_map_or (frame_written_on x s) o s)
   written_by x None = e
   written_by x (Some l) =
       ap (λ (ls : List Link). list_all is_read_in_order (changed (λ (k : Link). record k { traffic = k.traffic ++ traffic.Written x ∷ [] }) l.number ls)) (links_of_opened x l s)
       ∙ all_changed is_read_in_order (λ (k : Link). record k { traffic = k.traffic ++ traffic.Written x ∷ [] }) l.number s.links e
       (λ k got. more_written k.traffic x (all_at is_read_in_order s.links l.number k e got))
 
-  act : (o : OpenEntry) (x : Action) → ReadsOn x s → AreReadInOrder (after_in o x s)
+  act : (o : OpenEntry) (x : Action) → ReadsOn x s → LinksAreReadInOrder (after_in o x s)
   act o action.CallBegins off = same_then (call_begun_by o.event s) (links_of_event o.event s)
   act o (action.ConfigRead x) off = same_then (config_read x s) (links_of_config x s)
   act o (action.AttemptMade n number k due) off = same_then (attempt_made n number k due s) (links_of_turn (is_transparent k) (marked (mark.Made (length s.attempts + 1)) n (with_row (new_row n number k due) s)))
@@ -307,7 +307,7 @@ module _ (s : Seen) (e : AreReadInOrder s) where
   act o (action.PingQueued link) off = kept_then (λ (l : Link). record l { owed = l.owed ++ ping_of o.event }) (record { traffic_is = λ l. refl }) link
   act o x off = same_then (after_in o x s) refl
 
-  act_if : (o : Option OpenEntry) (x : Action) → ReadsOn x s → AreReadInOrder (after_if o x s)
+  act_if : (o : Option OpenEntry) (x : Action) → ReadsOn x s → LinksAreReadInOrder (after_if o x s)
   act_if (Some o) x on = act o x on
   act_if None (action.EntryOpens posted word e) on = same_then (opened posted word e s) refl
   act_if None x on = same_then s refl

@@ -22,7 +22,7 @@ use Rattle.session_actions.specs.declared.attempt.Attempt.{Attempt}
 use Rattle.session_actions.specs.declared.call.Call.{Call}
 use Rattle.session_actions.specs.declared.seen.Seen.{Seen}
 use Rattle.call_actions.specs.TakeActions.Laws.{CallsBeginAlike}
-use Rattle.call_actions.specs.TakeActions.Serves.{AreFed, Holds, IsAt, Serves}
+use Rattle.call_actions.specs.TakeActions.Serves.{AttemptsAreFed, Holds, IsAt, Serves}
 
 pub same_some : {X : Type 0} (o : Option X) (x y : X) → o ≡ Some x → o ≡ Some y → x ≡ y
 same_some o x y e f = let both : ◌≡◌ {A = Option _} (Some x) (Some y) = sym e ∙ f in (cc)
@@ -41,7 +41,7 @@ calls_begin_alike s request ledger acts here rows same none places links reads =
     let none_of_it : filter (is_of c) s.attempts ≡ [] = filter_none (is_of c) (is_of c) (λ a e. e) s.attempts none in
     let start : IsAt 0 [] 0 [] = record { left = refl; within = omega arith; within_all = omega arith } in
     let holds : Holds t c fresh_buffer = record {
-      fed = subst (AreFed t c fresh_buffer) (sym none_of_it) tt;
+      fed = subst (AttemptsAreFed t c fresh_buffer) (sym none_of_it) tt;
       held = subst (λ (n : ℕ). IsAt 0 [] n []) (sym (ap (λ (o : Option Attempt). option_map_or (λ (k : Attempt). drained k t) o 0) free)) start;
       committed = sym (ap (λ (o : Option Attempt). is_some o) free);
     } in
@@ -58,7 +58,7 @@ calls_begin_alike s request ledger acts here rows same none places links reads =
         end_taken = refl;
         going = λ e. refl;
         left = λ e. record {
-          front = [];
+          prefix = [];
           count = refl;
           joined = ap (λ (o : Option Attempt). option_map_or (λ (k : Attempt). response_items (response k t)) o []) free;
         };

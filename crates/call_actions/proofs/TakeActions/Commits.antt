@@ -29,13 +29,13 @@ use Rattle.call_actions.proofs.TakeActions.CutLive.{half_commitment}
 use Rattle.call_actions.proofs.TakeActions.CutOne.{changed_like, marked_also}
 use Rattle.call_actions.proofs.TakeActions.CutSees.{cut_call, cut_seen, serves_cut, tokens_are}
 use Rattle.call_actions.proofs.TakeActions.CutWalk.{Walked, at_point, half_of, is_gone, number_of, walked}
-use Rattle.call_actions.specs.TakeActions.Cuts.{AreCut, CanCommit}
+use Rattle.call_actions.specs.TakeActions.Cuts.{AttemptsAreCut, CanCommit}
 use Rattle.call_actions.specs.TakeActions.Laws.{CommitsCutOthers, IsCommitted}
-use Rattle.call_actions.specs.TakeActions.Serves.{ArePlaced, Serves}
+use Rattle.call_actions.specs.TakeActions.Serves.{AttemptsStandInPlace, Serves}
 
 -- one attempt changes, and the others stay
 module _ (k : Attempt) where
-  pub stay_past : (g : Attempt → Attempt) (m : ℕ) (xs : List Attempt) → ((a : Attempt) → (k.place ≡ a.place → ⊥) → g a ≡ a) → ArePlaced m xs → k.place < m → map g xs ≡ xs
+  pub stay_past : (g : Attempt → Attempt) (m : ℕ) (xs : List Attempt) → ((a : Attempt) → (k.place ≡ a.place → ⊥) → g a ≡ a) → AttemptsStandInPlace m xs → k.place < m → map g xs ≡ xs
   stay_past g m [] off p l = refl
   stay_past g m (x ∷ xs) off p l =
       let at : x.place ≡ m = p.0 in
@@ -43,7 +43,7 @@ module _ (k : Attempt) where
       let away : k.place ≡ x.place → ⊥ = λ z. omega (arith, z, at, l) in
       ap (λ (z : Attempt). z ∷ map g xs) (off x away) ∙ ap (λ (rest : List Attempt). x ∷ rest) (stay_past g (suc m) xs off p.1 next)
 
-  pub change_here : (f g : Attempt → Attempt) (n i : ℕ) (xs : List Attempt) → g k ≡ f k → ((a : Attempt) → (k.place ≡ a.place → ⊥) → g a ≡ a) → ArePlaced n xs
+  pub change_here : (f g : Attempt → Attempt) (n i : ℕ) (xs : List Attempt) → g k ≡ f k → ((a : Attempt) → (k.place ≡ a.place → ⊥) → g a ≡ a) → AttemptsStandInPlace n xs
       → k.place ≡ n + i → slice_get xs i ≡ Some k → slice_set xs i (f k) ≡ map g xs
   change_here f g n i [] same off p e got = absurd (cc)
   change_here f g n zero (x ∷ xs) same off p e got =
@@ -56,7 +56,7 @@ module _ (k : Attempt) where
       let away : k.place ≡ x.place → ⊥ = λ z. omega (arith, z, at, e) in
       ap (λ (z : Attempt). z ∷ slice_set xs i (f k)) (sym (off x away)) ∙ ap (λ (l : List Attempt). g x ∷ l) (change_here f g (suc n) i xs same off p.1 next got)
 
-  pub change_by : (f g : Attempt → Attempt) (m : ℕ) (xs : List Attempt) → g k ≡ f k → ((a : Attempt) → (k.place ≡ a.place → ⊥) → g a ≡ a) → ArePlaced 1 xs
+  pub change_by : (f g : Attempt → Attempt) (m : ℕ) (xs : List Attempt) → g k ≡ f k → ((a : Attempt) → (k.place ≡ a.place → ⊥) → g a ≡ a) → AttemptsStandInPlace 1 xs
       → k.place ≡ m → numbered xs m ≡ Some k → changed f m xs ≡ map g xs
   change_by f g zero xs same off p e got = absurd (cc)
   change_by f g (suc i) xs same off p e got =
@@ -97,8 +97,8 @@ module _ (s : Seen) (c : Call) (x : Stepped) (k : Attempt) (h : Serves s c x) (c
       h.places refl can.at
 
   abbrev pub point : List Attempt → List Attempt → Option OpenEntry → Seen
-  point front rest current =
-      at_point s c h.sees.own (stamp_of (entry s) k) (gone_by k) c.end first gone_is gone_same tokens_now count_now h.counted front rest current
+  point prefix rest current =
+      at_point s c h.sees.own (stamp_of (entry s) k) (gone_by k) c.end first gone_is gone_same tokens_now count_now h.counted prefix rest current
 
   pub committed_is : call_committed k.place s ≡ point [] s.attempts s.current
   committed_is =
@@ -109,10 +109,10 @@ module _ (s : Seen) (c : Call) (x : Stepped) (k : Attempt) (h : Serves s c x) (c
       ∙ ap (λ (l : List Call). record s { attempts = map half_at s.attempts; calls = l })
       (changed_like (marked_also first) (becomes c.end (first ∷ [])) c.number s.calls c h.sees.own refl)
 
-  abbrev pub Walks : Seen → Type 0
-  Walks u = Walked s c h.sees.own (stamp_of (entry s) k) (gone_by k) c.end first gone_is gone_same tokens_now count_now h.counted u
+  abbrev pub CutAll : Seen → Type 0
+  CutAll u = Walked s c h.sees.own (stamp_of (entry s) k) (gone_by k) c.end first gone_is gone_same tokens_now count_now h.counted u
 
-  pub commit_walked : (o : OpenEntry) → s.current ≡ Some o → Walks (call_committed k.place s)
+  pub commit_walked : (o : OpenEntry) → s.current ≡ Some o → CutAll (call_committed k.place s)
   commit_walked o opened =
       walked s c h.sees.own (stamp_of (entry s) k) (gone_by k) c.end first gone_is gone_same tokens_now count_now h.counted o (call_committed k.place s) opened h.places committed_is
 
@@ -129,7 +129,7 @@ module _ (s : Seen) (c : Call) (x : Stepped) (k : Attempt) (h : Serves s c x) (c
       → IsCommitted s c k (steps.committed k.place (now s) (record x { call = record x.call { buffer = committed_buffer k.place x.call.buffer; inbox = inbox } }))
   commits_by None opened some inbox taken items = absurd (let none : is_some s.current ≡ false = ap (λ (z : Option OpenEntry). is_some z) opened in both_ways (is_some s.current) none some)
   commits_by (Some o) opened some inbox taken items =
-      let w : Walks (call_committed k.place s) = commit_walked o opened in
+      let w : CutAll (call_committed k.place s) = commit_walked o opened in
       let still : is_some (Some w.entry_now) ≡ is_some s.current = sym (ap (λ (z : Option OpenEntry). is_some z) opened) in
       let last : Seen = cut_seen s c x k h can (Some w.entry_now) still in
       let same : point s.attempts [] (Some w.entry_now) ≡ last
@@ -137,7 +137,7 @@ module _ (s : Seen) (c : Call) (x : Stepped) (k : Attempt) (h : Serves s c x) (c
       record {
         cuts = w.actions;
         seen = last;
-        cut = subst (AreCut c.number w.actions (call_committed k.place s)) same w.cuts;
+        cut = subst (AttemptsAreCut c.number w.actions (call_committed k.place s)) same w.cuts;
         agrees = record {
           call = cut_call s c x k h can (Some w.entry_now) still;
           number_is = refl;

@@ -18,18 +18,18 @@ use Rattle.session_actions.specs.declared.seen.Seen.{Seen}
 use Rattle.call_actions.proofs.TakeActions.CutAttempts.{becomes, end_by_cut, finally, gone_by, half, is_cut_off, stamp_of}
 use Rattle.call_actions.proofs.TakeActions.Maps.{all_both, all_by, kept_map}
 use Rattle.call_actions.specs.TakeActions.Cuts.{CanCommit, is_twin}
-use Rattle.call_actions.specs.TakeActions.Serves.{ArePlaced}
+use Rattle.call_actions.specs.TakeActions.Serves.{AttemptsStandInPlace}
 
 -- the one of a place
 module _ (k : Attempt) where
-  pub past : (m : ℕ) (xs : List Attempt) → ArePlaced m xs → k.place < m → AllByRecursion (λ (a : Attempt). (k.place == a.place) ≡ true → a ≡ k) xs
+  pub past : (m : ℕ) (xs : List Attempt) → AttemptsStandInPlace m xs → k.place < m → AllByRecursion (λ (a : Attempt). (k.place == a.place) ≡ true → a ≡ k) xs
   past m [] p l = tt
   past m (x ∷ xs) p l =
       let at : x.place ≡ m = p.0 in
       let next : k.place < suc m = omega (arith, l) in
       ((λ e. absurd (let same : k.place ≡ x.place = eqb-true k.place x.place e in let no : ⊥ = omega (arith, same, at, l) in no)), past (suc m) xs p.1 next)
 
-  pub only_from : (n i : ℕ) (xs : List Attempt) → ArePlaced n xs → k.place ≡ n + i → slice_get xs i ≡ Some k
+  pub only_from : (n i : ℕ) (xs : List Attempt) → AttemptsStandInPlace n xs → k.place ≡ n + i → slice_get xs i ≡ Some k
       → AllByRecursion (λ (a : Attempt). (k.place == a.place) ≡ true → a ≡ k) xs
   only_from n i [] p e got = tt
   only_from n zero (x ∷ xs) p e got =
@@ -43,16 +43,16 @@ module _ (k : Attempt) where
         only_from (suc n) i xs p.1 next got,
       )
 
-  pub only_by : (m : ℕ) (xs : List Attempt) → ArePlaced 1 xs → k.place ≡ m → numbered xs m ≡ Some k
+  pub only_by : (m : ℕ) (xs : List Attempt) → AttemptsStandInPlace 1 xs → k.place ≡ m → numbered xs m ≡ Some k
       → AllByRecursion (λ (a : Attempt). (k.place == a.place) ≡ true → a ≡ k) xs
   only_by zero xs p e got = absurd (cc)
   only_by (suc i) xs p e got = let at : k.place ≡ 1 + i = omega (arith, e) in only_from 1 i xs p at got
 
-  pub only_it : (xs : List Attempt) → ArePlaced 1 xs → numbered xs k.place ≡ Some k → AllByRecursion (λ (a : Attempt). (k.place == a.place) ≡ true → a ≡ k) xs
+  pub only_it : (xs : List Attempt) → AttemptsStandInPlace 1 xs → numbered xs k.place ≡ Some k → AllByRecursion (λ (a : Attempt). (k.place == a.place) ≡ true → a ≡ k) xs
   only_it xs p got = only_by k.place xs p refl got
 
   -- the last one of a test that this one alone passes
-  pub none_past : (old : Attempt → Bool) (m : ℕ) (xs : List Attempt) → ((a : Attempt) → (k.place == a.place) ≡ false → old a ≡ false) → ArePlaced m xs → k.place < m
+  pub none_past : (old : Attempt → Bool) (m : ℕ) (xs : List Attempt) → ((a : Attempt) → (k.place == a.place) ≡ false → old a ≡ false) → AttemptsStandInPlace m xs → k.place < m
       → find_last old xs ≡ None
   none_past old m [] off p l = refl
   none_past old m (x ∷ xs) off p l =
@@ -63,7 +63,7 @@ module _ (k : Attempt) where
       ∙ ap (λ (b : Bool). if b then Some x else None) (off x (ne_eqb k.place x.place away))
 
   pub last_from : (old : Attempt → Bool) (n i : ℕ) (xs : List Attempt) → ((a : Attempt) → (k.place == a.place) ≡ false → old a ≡ false) → old k ≡ true
-      → ArePlaced n xs → k.place ≡ n + i → slice_get xs i ≡ Some k → find_last old xs ≡ Some k
+      → AttemptsStandInPlace n xs → k.place ≡ n + i → slice_get xs i ≡ Some k → find_last old xs ≡ Some k
   last_from old n i [] off here p e got = absurd (cc)
   last_from old n zero (x ∷ xs) off here p e got =
       let one : x ≡ k = (cc) in
@@ -75,12 +75,12 @@ module _ (k : Attempt) where
       ap (λ (o : Option Attempt). option_or o (if old x then Some x else None)) (last_from old (suc n) i xs off here p.1 next got)
 
   pub last_by : (old : Attempt → Bool) (m : ℕ) (xs : List Attempt) → ((a : Attempt) → (k.place == a.place) ≡ false → old a ≡ false) → old k ≡ true
-      → ArePlaced 1 xs → k.place ≡ m → numbered xs m ≡ Some k → find_last old xs ≡ Some k
+      → AttemptsStandInPlace 1 xs → k.place ≡ m → numbered xs m ≡ Some k → find_last old xs ≡ Some k
   last_by old zero xs off here p e got = absurd (cc)
   last_by old (suc i) xs off here p e got = let at : k.place ≡ 1 + i = omega (arith, e) in last_from old 1 i xs off here p at got
 
   pub last_it : (old : Attempt → Bool) (xs : List Attempt) → ((a : Attempt) → (k.place == a.place) ≡ false → old a ≡ false) → old k ≡ true
-      → ArePlaced 1 xs → numbered xs k.place ≡ Some k → find_last old xs ≡ Some k
+      → AttemptsStandInPlace 1 xs → numbered xs k.place ≡ Some k → find_last old xs ≡ Some k
   last_it old xs off here p got = last_by old k.place xs off here p refl got
 
 -- none passes, where there is no last one
@@ -167,7 +167,7 @@ committed_if true true entry o e = refl
 committed_if true false entry o e = e
 committed_if false here entry o e = refl
 
-module _ (s : Seen) (c : Call) (k : Attempt) (h : CanCommit s c k) (places : ArePlaced 1 s.attempts) (entry : ℕ) where
+module _ (s : Seen) (c : Call) (k : Attempt) (h : CanCommit s c k) (places : AttemptsStandInPlace 1 s.attempts) (entry : ℕ) where
   pub committed_last : (f : Attempt → Attempt) → ((a : Attempt) → (f a).row.call ≡ a.row.call) → ((a : Attempt) → (f a).row.committed ≡ stamp_of entry k a)
       → find_last (is_commitment c) (map f s.attempts) ≡ Some (f k)
   committed_last f call stamp =
@@ -184,7 +184,7 @@ module _ (s : Seen) (c : Call) (k : Attempt) (h : CanCommit s c k) (places : Are
   pub half_commitment : find_last (is_commitment c) (map (λ (a : Attempt). record a { row = half (stamp_of entry k) a }) s.attempts) ≡ Some (record k { row = half (stamp_of entry k) k })
   half_commitment = committed_last (λ (a : Attempt). record a { row = half (stamp_of entry k) a }) (λ a. refl) (λ a. refl)
 
-module _ (s : Seen) (c : Call) (k : Attempt) (h : CanCommit s c k) (own : numbered s.calls c.number ≡ Some c) (places : ArePlaced 1 s.attempts)
+module _ (s : Seen) (c : Call) (k : Attempt) (h : CanCommit s c k) (own : numbered s.calls c.number ≡ Some c) (places : AttemptsStandInPlace 1 s.attempts)
     (entry moment : ℕ) (tokens : Option ℕ) (marks : List Mark) (current : Option OpenEntry) where
   abbrev pub made_final : Attempt → Attempt
   made_final a = finally entry moment tokens s c k a

@@ -83,21 +83,21 @@ changed_twice f g q (suc i) xs x e both =
     ∙ ap (λ (o : Option _). changed_if f (suc i) (slice_set xs i (g x)) o) (get_set xs i x (g x) e)
     ∙ set_twice xs i (g x) (f (g x)) ∙ ap (slice_set xs i) both ∙ sym (ap (λ (o : Option _). changed_if q (suc i) xs o) e)
 
-pub set_there : {X : Type 0} (front : List X) (x y : X) (xs : List X) → slice_set (front ++ (x ∷ xs)) (length front) y ≡ front ++ (y ∷ xs)
+pub set_there : {X : Type 0} (prefix : List X) (x y : X) (xs : List X) → slice_set (prefix ++ (x ∷ xs)) (length prefix) y ≡ prefix ++ (y ∷ xs)
 set_there [] x y xs = refl
-set_there (z ∷ front) x y xs = ap (λ (l : List _). z ∷ l) (set_there front x y xs)
+set_there (z ∷ prefix) x y xs = ap (λ (l : List _). z ∷ l) (set_there prefix x y xs)
 
-pub get_there : {X : Type 0} (front : List X) (x : X) (xs : List X) → slice_get (front ++ (x ∷ xs)) (length front) ≡ Some x
+pub get_there : {X : Type 0} (prefix : List X) (x : X) (xs : List X) → slice_get (prefix ++ (x ∷ xs)) (length prefix) ≡ Some x
 get_there [] x xs = refl
-get_there (z ∷ front) x xs = get_there front x xs
+get_there (z ∷ prefix) x xs = get_there prefix x xs
 
-pub numbered_there : {X : Type 0} (front : List X) (x : X) (xs : List X) (n : ℕ) → n ≡ suc (length front) → numbered (front ++ (x ∷ xs)) n ≡ Some x
-numbered_there front x xs n e = ap (numbered (front ++ (x ∷ xs))) e ∙ get_there front x xs
+pub numbered_there : {X : Type 0} (prefix : List X) (x : X) (xs : List X) (n : ℕ) → n ≡ suc (length prefix) → numbered (prefix ++ (x ∷ xs)) n ≡ Some x
+numbered_there prefix x xs n e = ap (numbered (prefix ++ (x ∷ xs))) e ∙ get_there prefix x xs
 
-pub changed_there : {X : Type 0} (f : X → X) (front : List X) (x : X) (xs : List X) (n : ℕ) → n ≡ suc (length front) → changed f n (front ++ (x ∷ xs)) ≡ front ++ (f x ∷ xs)
-changed_there f front x xs n e =
-    ap (λ (k : ℕ). changed f k (front ++ (x ∷ xs))) e
-    ∙ ap (λ (o : Option _). changed_if f (suc (length front)) (front ++ (x ∷ xs)) o) (get_there front x xs) ∙ set_there front x (f x) xs
+pub changed_there : {X : Type 0} (f : X → X) (prefix : List X) (x : X) (xs : List X) (n : ℕ) → n ≡ suc (length prefix) → changed f n (prefix ++ (x ∷ xs)) ≡ prefix ++ (f x ∷ xs)
+changed_there f prefix x xs n e =
+    ap (λ (k : ℕ). changed f k (prefix ++ (x ∷ xs))) e
+    ∙ ap (λ (o : Option _). changed_if f (suc (length prefix)) (prefix ++ (x ∷ xs)) o) (get_there prefix x xs) ∙ set_there prefix x (f x) xs
 
 -- marks one after another
 pub becomes_more : (end : Option CallEnd) (marks : List Mark) (m : Mark) (n : ℕ) (calls : List Call) (c : Call) → numbered calls n ≡ Some c

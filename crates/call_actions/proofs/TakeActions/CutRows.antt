@@ -24,7 +24,7 @@ use Rattle.session_actions.specs.declared.call.Call.{Call}
 use Rattle.session_actions.specs.declared.link.Link.{Link}
 use Rattle.session_actions.specs.declared.seen.Seen.{Seen}
 use Rattle.call_actions.proofs.TakeActions.CutAttempts.{end_by_cut, final, half, is_cut_off, none_of, out_of, stamp_of}
-use Rattle.call_actions.specs.TakeActions.Serves.{ArePlaced}
+use Rattle.call_actions.specs.TakeActions.Serves.{AttemptsStandInPlace}
 
 -- what was read of a link
 pub seen_by : (o : Option Link) → option_map_or (λ (l : LinkSeen). l.read) (option_map link_seen o) 0 ≡ option_map_or read_bytes o 0
@@ -44,22 +44,22 @@ pub read_is : (links : List Link) (n : ℕ) → read_of (map link_seen links) n 
 read_is links zero = refl
 read_is links (suc i) = read_by links i (nat_lt i (length (map link_seen links))) refl
 
--- the row behind a front is changed
-pub changed_there : (g : Row → Row) (front : List Row) (r : Row) (rows : List Row) → stamps.changed g (front ++ (r ∷ rows)) (length front) ≡ front ++ (g r ∷ rows)
+-- the row after a prefix is changed
+pub changed_there : (g : Row → Row) (prefix : List Row) (r : Row) (rows : List Row) → stamps.changed g (prefix ++ (r ∷ rows)) (length prefix) ≡ prefix ++ (g r ∷ rows)
 changed_there g [] r rows = refl
-changed_there g (x ∷ front) r rows = ap (λ (l : List Row). x ∷ l) (changed_there g front r rows)
+changed_there g (x ∷ prefix) r rows = ap (λ (l : List Row). x ∷ l) (changed_there g prefix r rows)
 
-pub longer_than : (front : List Row) (r : Row) (rows : List Row) → length front < length (front ++ (r ∷ rows))
+pub longer_than : (prefix : List Row) (r : Row) (rows : List Row) → length prefix < length (prefix ++ (r ∷ rows))
 longer_than [] r rows = omega arith
-longer_than (x ∷ front) r rows = let rest : length front < length (front ++ (r ∷ rows)) = longer_than front r rows in omega (arith, rest)
+longer_than (x ∷ prefix) r rows = let rest : length prefix < length (prefix ++ (r ∷ rows)) = longer_than prefix r rows in omega (arith, rest)
 
-pub changed_front : (g : Row → Row) (front : List Row) (r : Row) (rows : List Row) (place : ℕ) → place ≡ suc (length front)
-    → stamps.changed_at g (front ++ (r ∷ rows)) place ≡ front ++ (g r ∷ rows)
-changed_front g front r rows place e =
-    ap (λ (n : ℕ). stamps.changed_at g (front ++ (r ∷ rows)) n) e
-    ∙ ap (λ (b : Bool). option_map_or (λ (i : ℕ). stamps.changed g (front ++ (r ∷ rows)) i) (if b then Some (length front) else None) (front ++ (r ∷ rows)))
-    (lt-ltb (length front) (length (front ++ (r ∷ rows))) (longer_than front r rows))
-    ∙ changed_there g front r rows
+pub changed_prefix : (g : Row → Row) (prefix : List Row) (r : Row) (rows : List Row) (place : ℕ) → place ≡ suc (length prefix)
+    → stamps.changed_at g (prefix ++ (r ∷ rows)) place ≡ prefix ++ (g r ∷ rows)
+changed_prefix g prefix r rows place e =
+    ap (λ (n : ℕ). stamps.changed_at g (prefix ++ (r ∷ rows)) n) e
+    ∙ ap (λ (b : Bool). option_map_or (λ (i : ℕ). stamps.changed g (prefix ++ (r ∷ rows)) i) (if b then Some (length prefix) else None) (prefix ++ (r ∷ rows)))
+    (lt-ltb (length prefix) (length (prefix ++ (r ∷ rows))) (longer_than prefix r rows))
+    ∙ changed_there g prefix r rows
 
 -- the commitment
 module _ (entry : ℕ) (k : Attempt) where
@@ -69,7 +69,7 @@ module _ (entry : ℕ) (k : Attempt) where
   pub half_away : (a : Attempt) → (k.place ≡ a.place → ⊥) → half_now a ≡ a.row
   half_away a off = ap (λ (b : Bool). record a.row { committed = if b then Some entry else a.row.committed }) (ne_eqb k.place a.place off)
 
-  pub half_past : (m : ℕ) (xs : List Attempt) → ArePlaced m xs → k.place < m → map half_now xs ≡ map (λ (a : Attempt). a.row) xs
+  pub half_past : (m : ℕ) (xs : List Attempt) → AttemptsStandInPlace m xs → k.place < m → map half_now xs ≡ map (λ (a : Attempt). a.row) xs
   half_past m [] p l = refl
   half_past m (x ∷ xs) p l =
       let at : x.place ≡ m = p.0 in
@@ -77,7 +77,7 @@ module _ (entry : ℕ) (k : Attempt) where
       let off : k.place ≡ x.place → ⊥ = λ same. omega (arith, same, at, l) in
       ap (λ (r : Row). r ∷ map half_now xs) (half_away x off) ∙ ap (λ (rows : List Row). x.row ∷ rows) (half_past (suc m) xs p.1 next)
 
-  pub committed_from : (n i : ℕ) (xs : List Attempt) → k.row.committed ≡ None → ArePlaced n xs → k.place ≡ n + i → slice_get xs i ≡ Some k
+  pub committed_from : (n i : ℕ) (xs : List Attempt) → k.row.committed ≡ None → AttemptsStandInPlace n xs → k.place ≡ n + i → slice_get xs i ≡ Some k
       → stamps.changed (committed_row entry) (map (λ (a : Attempt). a.row) xs) i ≡ map half_now xs
   committed_from n i [] free p e got = absurd (cc)
   committed_from n zero (x ∷ xs) free p e got =
@@ -99,7 +99,7 @@ module _ (entry : ℕ) (k : Attempt) where
       let long : length (map (λ (a : Attempt). a.row) xs) ≡ length xs = length-map xs (λ (a : Attempt). a.row) in
       let less : i < length xs = slice_get_within xs i k got in omega (arith, long, less)
 
-  pub committed_by : (m : ℕ) (xs : List Attempt) → k.row.committed ≡ None → ArePlaced 1 xs → k.place ≡ m → numbered xs m ≡ Some k
+  pub committed_by : (m : ℕ) (xs : List Attempt) → k.row.committed ≡ None → AttemptsStandInPlace 1 xs → k.place ≡ m → numbered xs m ≡ Some k
       → stamps.changed_at (committed_row entry) (map (λ (a : Attempt). a.row) xs) m ≡ map half_now xs
   committed_by zero xs free p e got = absurd (cc)
   committed_by (suc i) xs free p e got =
@@ -108,7 +108,7 @@ module _ (entry : ℕ) (k : Attempt) where
       ap (λ (b : Bool). option_map_or (λ (j : ℕ). stamps.changed (committed_row entry) rows j) (if b then Some i else None) rows)
       (lt-ltb i (length rows) (within xs i got)) ∙ committed_from 1 i xs free p at got
 
-  pub rows_committed : (xs : List Attempt) → k.row.committed ≡ None → ArePlaced 1 xs → numbered xs k.place ≡ Some k
+  pub rows_committed : (xs : List Attempt) → k.row.committed ≡ None → AttemptsStandInPlace 1 xs → numbered xs k.place ≡ Some k
       → stamps.changed_at (committed_row entry) (map (λ (a : Attempt). a.row) xs) k.place ≡ map half_now xs
   rows_committed xs free p got = committed_by k.place xs free p refl got
 
@@ -136,57 +136,57 @@ module _ (entry moment : ℕ) (tokens : Option ℕ) (s : Seen) (c : Call) (stamp
         ∙ ap (λ (n : ℕ). cut_end entry moment n tokens) (ap (λ (ls : List LinkSeen). read_of ls at.link) links ∙ read_is s.links at.link
         ∙ sym (ap (λ (o : Option Placed). option_map_or read_bytes (option_and_then (λ (z : Placed). numbered s.links z.link) o) 0) e))
 
-    pub one_cut : (front : List Row) (a : Attempt) (rows : List Row) (t : Bool) (o : Option Placed) → names a.place kept ≡ t → a.row.placed ≡ o → is_live s c a ≡ true
-        → Cuts a → a.place ≡ suc (length front)
-        → cut_unless kept moment tokens (live_row a) (with_rows (front ++ (half_at a ∷ rows))) ≡ with_rows (front ++ (whole a ∷ rows))
-    one_cut front a rows true o et eo live cuts at =
+    pub one_cut : (prefix : List Row) (a : Attempt) (rows : List Row) (t : Bool) (o : Option Placed) → names a.place kept ≡ t → a.row.placed ≡ o → is_live s c a ≡ true
+        → Cuts a → a.place ≡ suc (length prefix)
+        → cut_unless kept moment tokens (live_row a) (with_rows (prefix ++ (half_at a ∷ rows))) ≡ with_rows (prefix ++ (whole a ∷ rows))
+    one_cut prefix a rows true o et eo live cuts at =
         let off : is_cut_off c.number gone a ≡ false
         = cuts ∙ ap (λ (b : Bool). b && (not (names a.place kept) && is_some a.row.placed)) live ∙ ap (λ (b : Bool). not b && is_some a.row.placed) et in
-        ap (λ (b : Bool). if b then with_rows (front ++ (half_at a ∷ rows)) else cut_row moment tokens a.place (with_rows (front ++ (half_at a ∷ rows))) (option_map (λ (z : Placed). z.link) a.row.placed)) et
-        ∙ ap (λ (r : Row). with_rows (front ++ (r ∷ rows))) (whole_is a false off)
-    one_cut front a rows false None et eo live cuts at =
+        ap (λ (b : Bool). if b then with_rows (prefix ++ (half_at a ∷ rows)) else cut_row moment tokens a.place (with_rows (prefix ++ (half_at a ∷ rows))) (option_map (λ (z : Placed). z.link) a.row.placed)) et
+        ∙ ap (λ (r : Row). with_rows (prefix ++ (r ∷ rows))) (whole_is a false off)
+    one_cut prefix a rows false None et eo live cuts at =
         let off : is_cut_off c.number gone a ≡ false
         = cuts ∙ ap (λ (b : Bool). b && (not (names a.place kept) && is_some a.row.placed)) live ∙ ap (λ (b : Bool). not b && is_some a.row.placed) et
         ∙ ap (λ (z : Option Placed). is_some z) eo in
-        ap (λ (b : Bool). if b then with_rows (front ++ (half_at a ∷ rows)) else cut_row moment tokens a.place (with_rows (front ++ (half_at a ∷ rows))) (option_map (λ (z : Placed). z.link) a.row.placed)) et
-        ∙ ap (λ (z : Option Placed). cut_row moment tokens a.place (with_rows (front ++ (half_at a ∷ rows))) (option_map (λ (z : Placed). z.link) z)) eo
-        ∙ ap (λ (r : Row). with_rows (front ++ (r ∷ rows))) (whole_is a false off)
-    one_cut front a rows false (Some p) et eo live cuts at =
+        ap (λ (b : Bool). if b then with_rows (prefix ++ (half_at a ∷ rows)) else cut_row moment tokens a.place (with_rows (prefix ++ (half_at a ∷ rows))) (option_map (λ (z : Placed). z.link) a.row.placed)) et
+        ∙ ap (λ (z : Option Placed). cut_row moment tokens a.place (with_rows (prefix ++ (half_at a ∷ rows))) (option_map (λ (z : Placed). z.link) z)) eo
+        ∙ ap (λ (r : Row). with_rows (prefix ++ (r ∷ rows))) (whole_is a false off)
+    one_cut prefix a rows false (Some p) et eo live cuts at =
         let on : is_cut_off c.number gone a ≡ true
         = cuts ∙ ap (λ (b : Bool). b && (not (names a.place kept) && is_some a.row.placed)) live ∙ ap (λ (b : Bool). not b && is_some a.row.placed) et
         ∙ ap (λ (z : Option Placed). is_some z) eo in
         let going : a.row.ended ≡ None = none_of a.row.placed a.row.ended (out_of (a.row.call == c.number) (is_outstanding a) (gone a) on) in
-        ap (λ (b : Bool). if b then with_rows (front ++ (half_at a ∷ rows)) else cut_row moment tokens a.place (with_rows (front ++ (half_at a ∷ rows))) (option_map (λ (z : Placed). z.link) a.row.placed)) et
-        ∙ ap (λ (z : Option Placed). cut_row moment tokens a.place (with_rows (front ++ (half_at a ∷ rows))) (option_map (λ (z : Placed). z.link) z)) eo
-        ∙ ap with_rows (changed_front (ended_row (cut_end ledger.entry moment (read_of ledger.links p.link) tokens)) front (half_at a) rows a.place at)
-        ∙ ap (λ (e : RowEnd). with_rows (front ++ (ended_row e (half_at a) ∷ rows))) (end_is a p eo)
-        ∙ ap (λ (z : Option RowEnd). with_rows (front ++ (record (half_at a) { ended = stamped (end_by_cut entry moment tokens s a) z } ∷ rows))) going
-        ∙ ap (λ (r : Row). with_rows (front ++ (r ∷ rows))) (whole_is a true on)
+        ap (λ (b : Bool). if b then with_rows (prefix ++ (half_at a ∷ rows)) else cut_row moment tokens a.place (with_rows (prefix ++ (half_at a ∷ rows))) (option_map (λ (z : Placed). z.link) a.row.placed)) et
+        ∙ ap (λ (z : Option Placed). cut_row moment tokens a.place (with_rows (prefix ++ (half_at a ∷ rows))) (option_map (λ (z : Placed). z.link) z)) eo
+        ∙ ap with_rows (changed_prefix (ended_row (cut_end ledger.entry moment (read_of ledger.links p.link) tokens)) prefix (half_at a) rows a.place at)
+        ∙ ap (λ (e : RowEnd). with_rows (prefix ++ (ended_row e (half_at a) ∷ rows))) (end_is a p eo)
+        ∙ ap (λ (z : Option RowEnd). with_rows (prefix ++ (record (half_at a) { ended = stamped (end_by_cut entry moment tokens s a) z } ∷ rows))) going
+        ∙ ap (λ (r : Row). with_rows (prefix ++ (r ∷ rows))) (whole_is a true on)
 
-    pub shifted : (front : List Row) (r : Row) (rows : List Row) → with_rows (front ++ (r ∷ rows)) ≡ with_rows ((front ++ (r ∷ [])) ++ rows)
-    shifted front r rows = ap with_rows (sym (append_assoc front (r ∷ []) rows))
+    pub shifted : (prefix : List Row) (r : Row) (rows : List Row) → with_rows (prefix ++ (r ∷ rows)) ≡ with_rows ((prefix ++ (r ∷ [])) ++ rows)
+    shifted prefix r rows = ap with_rows (sym (append_assoc prefix (r ∷ []) rows))
 
-    pub long_more : (front : List Row) (r : Row) → length (front ++ (r ∷ [])) ≡ suc (length front)
+    pub long_more : (prefix : List Row) (r : Row) → length (prefix ++ (r ∷ [])) ≡ suc (length prefix)
     long_more [] r = refl
-    long_more (x ∷ front) r = ap suc (long_more front r)
+    long_more (x ∷ prefix) r = ap suc (long_more prefix r)
 
-    pub cut_by : (a : Attempt) (xs : List Attempt) (front : List Row) (b : Bool) → is_live s c a ≡ b → Cuts a → a.place ≡ suc (length front)
-        → ((f : List Row) → length f ≡ suc (length front) → cut_all kept moment tokens (map live_row (filter (is_live s c) xs)) (with_rows (f ++ map half_at xs)) ≡ with_rows (f ++ map whole xs))
-        → cut_all kept moment tokens (map live_row (cond b (a ∷ filter (is_live s c) xs) (filter (is_live s c) xs))) (with_rows (front ++ (half_at a ∷ map half_at xs)))
-        ≡ with_rows (front ++ (whole a ∷ map whole xs))
-    cut_by a xs front true live cuts at rest =
+    pub cut_by : (a : Attempt) (xs : List Attempt) (prefix : List Row) (b : Bool) → is_live s c a ≡ b → Cuts a → a.place ≡ suc (length prefix)
+        → ((f : List Row) → length f ≡ suc (length prefix) → cut_all kept moment tokens (map live_row (filter (is_live s c) xs)) (with_rows (f ++ map half_at xs)) ≡ with_rows (f ++ map whole xs))
+        → cut_all kept moment tokens (map live_row (cond b (a ∷ filter (is_live s c) xs) (filter (is_live s c) xs))) (with_rows (prefix ++ (half_at a ∷ map half_at xs)))
+        ≡ with_rows (prefix ++ (whole a ∷ map whole xs))
+    cut_by a xs prefix true live cuts at rest =
         ap (cut_all kept moment tokens (map live_row (filter (is_live s c) xs)))
-        (one_cut front a (map half_at xs) (names a.place kept) a.row.placed refl refl live cuts at ∙ shifted front (whole a) (map half_at xs))
-        ∙ rest (front ++ (whole a ∷ [])) (long_more front (whole a)) ∙ sym (shifted front (whole a) (map whole xs))
-    cut_by a xs front false live cuts at rest =
+        (one_cut prefix a (map half_at xs) (names a.place kept) a.row.placed refl refl live cuts at ∙ shifted prefix (whole a) (map half_at xs))
+        ∙ rest (prefix ++ (whole a ∷ [])) (long_more prefix (whole a)) ∙ sym (shifted prefix (whole a) (map whole xs))
+    cut_by a xs prefix false live cuts at rest =
         let off : is_cut_off c.number gone a ≡ false = cuts ∙ ap (λ (b : Bool). b && (not (names a.place kept) && is_some a.row.placed)) live in
         ap (cut_all kept moment tokens (map live_row (filter (is_live s c) xs)))
-        (ap (λ (r : Row). with_rows (front ++ (r ∷ map half_at xs))) (whole_is a false off) ∙ shifted front (whole a) (map half_at xs))
-        ∙ rest (front ++ (whole a ∷ [])) (long_more front (whole a)) ∙ sym (shifted front (whole a) (map whole xs))
+        (ap (λ (r : Row). with_rows (prefix ++ (r ∷ map half_at xs))) (whole_is a false off) ∙ shifted prefix (whole a) (map half_at xs))
+        ∙ rest (prefix ++ (whole a ∷ [])) (long_more prefix (whole a)) ∙ sym (shifted prefix (whole a) (map whole xs))
 
-    pub cuts_through : (xs : List Attempt) (front : List Row) (n : ℕ) → length front ≡ n → ArePlaced (suc n) xs → AllByRecursion Cuts xs
-        → cut_all kept moment tokens (map live_row (filter (is_live s c) xs)) (with_rows (front ++ map half_at xs)) ≡ with_rows (front ++ map whole xs)
-    cuts_through [] front n long p all = refl
-    cuts_through (a ∷ xs) front n long p all =
-        cut_by a xs front (is_live s c a) refl all.0 (p.0 ∙ ap suc (sym long))
+    pub cuts_through : (xs : List Attempt) (prefix : List Row) (n : ℕ) → length prefix ≡ n → AttemptsStandInPlace (suc n) xs → AllByRecursion Cuts xs
+        → cut_all kept moment tokens (map live_row (filter (is_live s c) xs)) (with_rows (prefix ++ map half_at xs)) ≡ with_rows (prefix ++ map whole xs)
+    cuts_through [] prefix n long p all = refl
+    cuts_through (a ∷ xs) prefix n long p all =
+        cut_by a xs prefix (is_live s c a) refl all.0 (p.0 ∙ ap suc (sym long))
         (λ f e. cuts_through xs f (suc n) (e ∙ ap suc long) p.1 all.1)

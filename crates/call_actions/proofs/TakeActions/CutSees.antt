@@ -10,11 +10,11 @@ use Rattle.attempt_ledger.specs.declared.ledger.Ledger.{Ledger}
 use Rattle.attempt_ledger.specs.declared.row.Row.{Row}
 use Rattle.attempt_ledger.specs.declared.row.RowEnd.{RowEnd}
 use Rattle.call_actions.proofs.Lists.{changed_here}
-use Rattle.call_actions.specs.Sees.{AreAttempts, Sees, bucket_of}
+use Rattle.call_actions.specs.Sees.{AttemptsAgree, Sees, bucket_of}
 use Rattle.call_core.specs.Laws as channel
 use Rattle.call_core.specs.Parts.{committed_attempts, committed_buffer, count_of, kept_alone}
 use Rattle.call_core.specs.Steps as steps
-use Rattle.call_core.specs.Steps.{Stepped, commit_stamped, cut_all, told_all}
+use Rattle.call_core.specs.Steps.{Stepped, commit_stamped, cut_all, reported_all}
 use Rattle.call_core.specs.declared.inbox.Inbox.{Inbox}
 use Rattle.call_core.specs.declared.live.LiveRow.{LiveRow}
 use Rattle.grpc_base.specs.Limits.{message_limit}
@@ -48,7 +48,7 @@ use Rattle.call_actions.proofs.TakeActions.Lists.{or_same}
 use Rattle.call_actions.proofs.TakeActions.Maps.{all_both, all_from, kept_map, map_map}
 use Rattle.call_actions.proofs.TakeActions.Retold.{read_same}
 use Rattle.call_actions.specs.TakeActions.Cuts.{CanCommit}
-use Rattle.call_actions.specs.TakeActions.Serves.{AreFed, ArePlaced, Holds, IsAt, IsFed, IsLeft, Serves, came, passed}
+use Rattle.call_actions.specs.TakeActions.Serves.{AttemptsAreFed, AttemptsStandInPlace, Holds, IsAt, IsFed, IsLeft, Serves, came, passed}
 
 -- the tokens of a bucket
 pub tokens_are : (s : Seen) (o : Option ThrottleRun) (tokens : Option Bucket) → option_map (bucket_of s) o ≡ tokens
@@ -81,7 +81,7 @@ place_in_rest taken messages written all at =
       within_all = at.within_all;
     }
 
-pub fed_rest : (s : Seen) (c : Call) (b : Buffered) (z : Attempt) (l : List Attempt) (t : Bool) → AreFed s c b (cond t (z ∷ l) l) → AreFed s c b l
+pub fed_rest : (s : Seen) (c : Call) (b : Buffered) (z : Attempt) (l : List Attempt) (t : Bool) → AttemptsAreFed s c b (cond t (z ∷ l) l) → AttemptsAreFed s c b l
 fed_rest s c b z l true fed = fed.1
 fed_rest s c b z l false fed = fed
 
@@ -136,7 +136,7 @@ module _ (s : Seen) (c : Call) (x : Stepped) (k : Attempt) (h : Serves s c x) (c
     call = record x.call { live = kept_alone k.place x.call.live; attempts = committed_attempts k.place x.call.attempts; buffer = buffer; inbox = inbox };
     ledger = cut_ledger;
     tokens = x.tokens;
-    acts = told_all (Some k.place) x.call.live x.acts;
+    acts = reported_all (Some k.place) x.call.live x.acts;
   }
 
   pub step_is : (buffer : Buffered) (inbox : Inbox) → steps.committed k.place (now s) (with_both buffer inbox) ≡ cut_step buffer inbox
@@ -150,9 +150,9 @@ module _ (s : Seen) (c : Call) (x : Stepped) (k : Attempt) (h : Serves s c x) (c
       × ((due_state cut_call cut_seen).stopped ≡ true)
   due_now = due_stopped s cut_seen c cut_call final_at (λ a. refl) (λ a. refl) refl mark.Committed (now s) cuts_now (λ z. refl) refl
 
-  pub attempts_now : AreAttempts cut_seen cut_call (committed_attempts k.place x.call.attempts)
+  pub attempts_now : AttemptsAgree cut_seen cut_call (committed_attempts k.place x.call.attempts)
   attempts_now =
-      let a : AreAttempts s c x.call.attempts = h.sees.attempts in
+      let a : AttemptsAgree s c x.call.attempts = h.sees.attempts in
       record {
         sent = made_still (entry s) (now s) tokens_now s c (stamp_of (entry s) k) (gone_by k) ∙ a.sent;
         due = record { newest = due_now.0 ∙ a.due.newest; placed = due_now.1 ∙ a.due.placed; stopped = due_now.2; forced = λ e. absurd (true≢false e) };
@@ -212,16 +212,16 @@ module _ (s : Seen) (c : Call) (x : Stepped) (k : Attempt) (h : Serves s c x) (c
   pub none_came : came c s ≡ []
   none_came = ap (λ (o : Option Attempt). option_map_or (λ (q : Attempt). response_items (response q s)) o []) can.free
 
-  pub no_front : (front left : List Reply) → front ++ left ≡ [] → front ≡ []
-  no_front [] left e = refl
-  no_front (r ∷ front) left e = absurd (cc)
+  pub no_prefix : (prefix left : List Reply) → prefix ++ left ≡ [] → prefix ≡ []
+  no_prefix [] left e = refl
+  no_prefix (r ∷ prefix) left e = absurd (cc)
 
   pub left_now : (inbox : Inbox) → response_items (response k s) ≡ channel.head_items inbox.head ++ channel.message_items inbox.messages → c.end_taken ≡ false
       → IsLeft (came cut_call cut_seen) c.taken (channel.head_items inbox.head ++ channel.message_items inbox.messages)
   left_now inbox items e =
       let l : IsLeft (came c s) c.taken (channel.came x.call) = h.left e in
-      let none : l.front ≡ [] = no_front l.front (channel.came x.call) (sym l.joined ∙ none_came) in
-      record { front = []; count = sym (ap length none) ∙ l.count; joined = came_now ∙ items }
+      let none : l.prefix ≡ [] = no_prefix l.prefix (channel.came x.call) (sym l.joined ∙ none_came) in
+      record { prefix = []; count = sym (ap length none) ∙ l.count; joined = came_now ∙ items }
 
   -- its messages
   module _ (holds : Holds s c x.call.buffer) where
@@ -231,13 +231,13 @@ module _ (s : Seen) (c : Call) (x : Stepped) (k : Attempt) (h : Serves s c x) (c
     abbrev pub all_bytes : List ℕ
     all_bytes = framed_all c.messages
 
-    pub fed_by : (a : Attempt) (xs : List Attempt) (i : ℕ) → is_of c a ≡ true → slice_get xs i ≡ Some a → AreFed s c b (filter (is_of c) xs)
+    pub fed_by : (a : Attempt) (xs : List Attempt) (i : ℕ) → is_of c a ≡ true → slice_get xs i ≡ Some a → AttemptsAreFed s c b (filter (is_of c) xs)
         → IsFed (taken_by a.place b) (text_of b) (is_outstanding a) (drained a s) all_bytes
     fed_by a [] i e got fed = absurd (cc)
     fed_by a (z ∷ xs) zero e got fed =
         let one : z ≡ a = (cc) in
-        let first : AreFed s c b (z ∷ filter (is_of c) xs)
-        = subst (λ (t : Bool). AreFed s c b (cond t (z ∷ filter (is_of c) xs) (filter (is_of c) xs))) (ap (is_of c) one ∙ e) fed in
+        let first : AttemptsAreFed s c b (z ∷ filter (is_of c) xs)
+        = subst (λ (t : Bool). AttemptsAreFed s c b (cond t (z ∷ filter (is_of c) xs) (filter (is_of c) xs))) (ap (is_of c) one ∙ e) fed in
         subst (λ (q : Attempt). IsFed (taken_by q.place b) (text_of b) (is_outstanding q) (drained q s) all_bytes) one first.0
     fed_by a (z ∷ xs) (suc i) e got fed = fed_by a xs i e got (fed_rest s c b z (filter (is_of c) xs) (is_of c z) fed)
 
@@ -316,7 +316,7 @@ module _ (s : Seen) (c : Call) (x : Stepped) (k : Attempt) (h : Serves s c x) (c
       committed = sym (ap (λ (o : Option Attempt). is_some o) commitment_now);
     }
 
-  pub placed_still : (xs : List Attempt) (n : ℕ) → ArePlaced n xs → ArePlaced n (map final_at xs)
+  pub placed_still : (xs : List Attempt) (n : ℕ) → AttemptsStandInPlace n xs → AttemptsStandInPlace n (map final_at xs)
   placed_still [] n p = tt
   placed_still (a ∷ xs) n p = (p.0, placed_still xs (suc n) p.1)
 

@@ -32,8 +32,8 @@ use Rattle.call_actions.proofs.TakeActions.CutOne.{becomes_more, changed_there, 
 use Rattle.call_actions.proofs.TakeActions.CutTokens.{no_cut}
 use Rattle.call_actions.proofs.TakeActions.Maps.{all_from, first_append, holds_map}
 use Rattle.call_actions.proofs.TakeActions.Retold.{read_same}
-use Rattle.call_actions.specs.TakeActions.Cuts.{AreCut, next_cut_of}
-use Rattle.call_actions.specs.TakeActions.Serves.{ArePlaced, is_ended_at}
+use Rattle.call_actions.specs.TakeActions.Cuts.{AttemptsAreCut, next_cut_of}
+use Rattle.call_actions.specs.TakeActions.Serves.{AttemptsStandInPlace, is_ended_at}
 
 -- attempts that the tokens see alike
 abbrev pub Like : Attempt → Attempt → Type 0
@@ -76,24 +76,24 @@ module _ (s : Seen) (c : Call) (own : numbered s.calls c.number ≡ Some c) (sta
   ended_kept q e = ended_if q (is_off q) (no_cut (q.row.call == c.number) (is_some q.row.placed) (is_some q.row.ended) (gone q) e)
 
   abbrev pub marks_for : List Attempt → List Mark
-  marks_for front = first ∷ map (ended_mark (now s)) (filter is_off front)
+  marks_for prefix = first ∷ map (ended_mark (now s)) (filter is_off prefix)
 
   abbrev pub at_point : List Attempt → List Attempt → Option OpenEntry → Seen
-  at_point front rest current = record s {
-    attempts = map whole_at front ++ map half_at rest;
-    calls = changed (becomes end (marks_for front)) c.number s.calls;
+  at_point prefix rest current = record s {
+    attempts = map whole_at prefix ++ map half_at rest;
+    calls = changed (becomes end (marks_for prefix)) c.number s.calls;
     current = current;
   }
 
-  module _ (front rest : List Attempt) (current : Option OpenEntry) (all : s.attempts ≡ front ++ rest) where
+  module _ (prefix rest : List Attempt) (current : Option OpenEntry) (all : s.attempts ≡ prefix ++ rest) where
     abbrev pub here : Seen
-    here = at_point front rest current
+    here = at_point prefix rest current
 
     abbrev pub marked_call : Call
-    marked_call = becomes end (marks_for front) c
+    marked_call = becomes end (marks_for prefix) c
 
     pub own_here : numbered here.calls c.number ≡ Some marked_call
-    own_here = changed_here (becomes end (marks_for front)) c.number s.calls c own
+    own_here = changed_here (becomes end (marks_for prefix)) c.number s.calls c own
 
     -- the commitment, by its number
     abbrev pub shade : Attempt → Attempt
@@ -115,9 +115,9 @@ module _ (s : Seen) (c : Call) (own : numbered s.calls c.number ≡ Some c) (sta
 
     pub number_here : number_of (commitment marked_call here) ≡ number_of (find_last (is_commitment c) (map half_at s.attempts))
     number_here =
-        sym (by_shade (map whole_at front ++ map half_at rest))
-        ∙ ap (λ (l : List Attempt). number_of (find_last (is_commitment c) l)) (shades front rest)
-        ∙ by_shade (map half_at (front ++ rest))
+        sym (by_shade (map whole_at prefix ++ map half_at rest))
+        ∙ ap (λ (l : List Attempt). number_of (find_last (is_commitment c) l)) (shades prefix rest)
+        ∙ by_shade (map half_at (prefix ++ rest))
         ∙ ap (λ (l : List Attempt). number_of (find_last (is_commitment c) (map half_at l))) (sym all)
 
     pub over_here : (a : Attempt) → is_of c a ≡ true → is_over a here ≡ gone a
@@ -135,7 +135,7 @@ module _ (s : Seen) (c : Call) (own : numbered s.calls c.number ≡ Some c) (sta
     alike (x ∷ xs) ys = ((refl, λ e. ended_kept x e), alike xs ys)
 
     pub plan_here : (a : Attempt) → plan_of_attempt a here ≡ plan_of_attempt a s
-    plan_here a = read_same (becomes end (marks_for front)) c.number s.calls (λ (d : Call). plan_of d s) plan.None (λ d. refl) a.row.call
+    plan_here a = read_same (becomes end (marks_for prefix)) c.number s.calls (λ (d : Call). plan_of d s) plan.None (λ d. refl) a.row.call
 
     pub like_tokens : (run : ThrottleRun) (j : ℕ) (x y : Attempt) → Like x y → is_some x.row.ended ≡ true → tokens_by run here j (Some y) ≡ tokens_by run s j (Some x)
     like_tokens run j x y like e =
@@ -155,7 +155,7 @@ module _ (s : Seen) (c : Call) (own : numbered s.calls c.number ≡ Some c) (sta
         → tokens_by run here j (numbered here.attempts place) ≡ tokens_by run s j (numbered s.attempts place)
     alike_at run j zero e = absurd (cc)
     alike_at run j (suc i) e =
-        alike_from run j i s.attempts here.attempts (subst (λ (l : List Attempt). Alike l here.attempts) (sym all) (alike front rest)) e
+        alike_from run j i s.attempts here.attempts (subst (λ (l : List Attempt). Alike l here.attempts) (sym all) (alike prefix rest)) e
 
     pub tokens_here : (run : ThrottleRun) (j : ℕ) (list : List ℕ) → list_all (is_ended_at s) list ≡ true
         → fold (λ (n place : ℕ). tokens_by run here n (numbered here.attempts place)) j list
@@ -174,7 +174,7 @@ module _ (s : Seen) (c : Call) (own : numbered s.calls c.number ≡ Some c) (sta
     pub count_here : option_map (λ (run : ThrottleRun). tokens_in run here) (run_of marked_call here) ≡ tokens
     count_here = count_by_run (run_of c s) counted ∙ count
 
-    -- none of the front is to be cut any more
+    -- none of the prefix is to be cut any more
     pub off_bools : (ps en gone_now : Bool) → ((ps && (if (true && ((ps && en) && gone_now)) then false else en)) && gone_now) ≡ false
     off_bools true true true = refl
     off_bools true true false = refl
@@ -204,34 +204,34 @@ module _ (s : Seen) (c : Call) (own : numbered s.calls c.number ≡ Some c) (sta
     passed (x ∷ xs) = passed_if x (map whole_at xs) (is_of c x) refl (passed xs)
 
   -- where all were looked at, none is left
-  pub none_left : (front : List Attempt) (current : Option OpenEntry) → s.attempts ≡ front → next_cut_of c.number (at_point front [] current) ≡ None
-  none_left front current all =
-      ap (λ (l : List Attempt). first_of (cut (at_point front [] current)) (filter (λ (a : Attempt). a.row.call == c.number) l)) (append-nil (map whole_at front))
-      ∙ passed front [] current (all ∙ sym (append-nil front)) front
+  pub none_left : (prefix : List Attempt) (current : Option OpenEntry) → s.attempts ≡ prefix → next_cut_of c.number (at_point prefix [] current) ≡ None
+  none_left prefix current all =
+      ap (λ (l : List Attempt). first_of (cut (at_point prefix [] current)) (filter (λ (a : Attempt). a.row.call == c.number) l)) (append-nil (map whole_at prefix))
+      ∙ passed prefix [] current (all ∙ sym (append-nil prefix)) prefix
 
   -- the next one is not to be cut
-  pub marks_if : (front : List Attempt) (a : Attempt) (b : Bool) → is_off a ≡ b → filter is_off (front ++ (a ∷ [])) ≡ filter is_off front ++ cond b (a ∷ []) []
-  marks_if front a b e = filter-append is_off front (a ∷ []) ∙ ap (λ (z : Bool). filter is_off front ++ cond z (a ∷ []) []) e
+  pub marks_if : (prefix : List Attempt) (a : Attempt) (b : Bool) → is_off a ≡ b → filter is_off (prefix ++ (a ∷ [])) ≡ filter is_off prefix ++ cond b (a ∷ []) []
+  marks_if prefix a b e = filter-append is_off prefix (a ∷ []) ∙ ap (λ (z : Bool). filter is_off prefix ++ cond z (a ∷ []) []) e
 
   pub half_is_whole : (a : Attempt) → is_off a ≡ false → half_at a ≡ whole_at a
   half_is_whole a e =
       sym (ap (λ (b : Bool). record a { row = record (half_at a).row { ended = if b then Some (end_by_cut (entry s) (now s) tokens s a) else a.row.ended } }) e)
 
-  pub list_moved : (front rest : List Attempt) (a x : Attempt) → x ≡ whole_at a → map whole_at front ++ (x ∷ map half_at rest) ≡ map whole_at (front ++ (a ∷ [])) ++ map half_at rest
-  list_moved front rest a x e =
-      ap (λ (z : Attempt). map whole_at front ++ (z ∷ map half_at rest)) e
-      ∙ sym (append_assoc (map whole_at front) (whole_at a ∷ []) (map half_at rest))
-      ∙ ap (λ (l : List Attempt). l ++ map half_at rest) (sym (map-append whole_at front (a ∷ [])))
+  pub list_moved : (prefix rest : List Attempt) (a x : Attempt) → x ≡ whole_at a → map whole_at prefix ++ (x ∷ map half_at rest) ≡ map whole_at (prefix ++ (a ∷ [])) ++ map half_at rest
+  list_moved prefix rest a x e =
+      ap (λ (z : Attempt). map whole_at prefix ++ (z ∷ map half_at rest)) e
+      ∙ sym (append_assoc (map whole_at prefix) (whole_at a ∷ []) (map half_at rest))
+      ∙ ap (λ (l : List Attempt). l ++ map half_at rest) (sym (map-append whole_at prefix (a ∷ [])))
 
   abbrev pub put_at : List Attempt → List Mark → Option OpenEntry → Seen
   put_at attempts marks current = record s { attempts = attempts; calls = changed (becomes end marks) c.number s.calls; current = current }
 
-  pub pass_by : (front rest : List Attempt) (a : Attempt) (current : Option OpenEntry) → is_off a ≡ false
-      → at_point front (a ∷ rest) current ≡ at_point (front ++ (a ∷ [])) rest current
-  pass_by front rest a current e =
-      ap (λ (l : List Attempt). put_at l (marks_for front) current) (list_moved front rest a (half_at a) (half_is_whole a e))
-      ∙ ap (λ (l : List Attempt). put_at (map whole_at (front ++ (a ∷ [])) ++ map half_at rest) (first ∷ map (ended_mark (now s)) l) current)
-      (sym (marks_if front a false e ∙ append-nil (filter is_off front)))
+  pub pass_by : (prefix rest : List Attempt) (a : Attempt) (current : Option OpenEntry) → is_off a ≡ false
+      → at_point prefix (a ∷ rest) current ≡ at_point (prefix ++ (a ∷ [])) rest current
+  pass_by prefix rest a current e =
+      ap (λ (l : List Attempt). put_at l (marks_for prefix) current) (list_moved prefix rest a (half_at a) (half_is_whole a e))
+      ∙ ap (λ (l : List Attempt). put_at (map whole_at (prefix ++ (a ∷ [])) ++ map half_at rest) (first ∷ map (ended_mark (now s)) l) current)
+      (sym (marks_if prefix a false e ∙ append-nil (filter is_off prefix)))
 
   -- the next one is cut
   pub whole_is_cut : (a : Attempt) → is_off a ≡ true → with_end (end_by_cut (entry s) (now s) tokens s a) (half_at a) ≡ whole_at a
@@ -244,10 +244,10 @@ module _ (s : Seen) (c : Call) (own : numbered s.calls c.number ≡ Some c) (sta
   three true false z e = absurd (cc)
   three false y z e = absurd (cc)
 
-  module _ (front rest : List Attempt) (a : Attempt) (o : OpenEntry) (all : s.attempts ≡ front ++ (a ∷ rest)) (at : a.place ≡ suc (length front))
+  module _ (prefix rest : List Attempt) (a : Attempt) (o : OpenEntry) (all : s.attempts ≡ prefix ++ (a ∷ rest)) (at : a.place ≡ suc (length prefix))
       (opened : is_some s.current ≡ true) (moment : o.moment ≡ now s) (off : is_off a ≡ true) where
     abbrev pub there : Seen
-    there = at_point front (a ∷ rest) (Some o)
+    there = at_point prefix (a ∷ rest) (Some o)
 
     pub parts_of : (is_of c a ≡ true) × (is_outstanding a ≡ true) × (gone a ≡ true)
     parts_of = three (is_of c a) (is_outstanding a) (gone a) off
@@ -257,12 +257,12 @@ module _ (s : Seen) (c : Call) (own : numbered s.calls c.number ≡ Some c) (sta
 
     pub number_there : numbered there.attempts a.place ≡ Some (half_at a)
     number_there =
-        let long : a.place ≡ suc (length (map whole_at front)) = at ∙ ap suc (sym (length-map front whole_at)) in
-        numbered_there (map whole_at front) (half_at a) (map half_at rest) a.place long
+        let long : a.place ≡ suc (length (map whole_at prefix)) = at ∙ ap suc (sym (length-map prefix whole_at)) in
+        numbered_there (map whole_at prefix) (half_at a) (map half_at rest) a.place long
 
-    pub call_there : call_of (half_at a) there ≡ Some (becomes end (marks_for front) c)
+    pub call_there : call_of (half_at a) there ≡ Some (becomes end (marks_for prefix) c)
     call_there =
-        ap (numbered there.calls) (eqb-true a.row.call c.number parts_of.0) ∙ own_here front (a ∷ rest) (Some o) all
+        ap (numbered there.calls) (eqb-true a.row.call c.number parts_of.0) ∙ own_here prefix (a ∷ rest) (Some o) all
 
     abbrev pub act : Action
     act = action.AttemptEnds a.place (end_of (half_at a) cut_end there)
@@ -270,16 +270,16 @@ module _ (s : Seen) (c : Call) (own : numbered s.calls c.number ≡ Some c) (sta
     pub cut_there : cut there (half_at a) ≡ Some act
     cut_there =
         ap (λ (b : Bool). if b && is_over (half_at a) there then Some act else None) parts_of.1
-        ∙ ap (λ (b : Bool). if b then Some act else None) (over_here front (a ∷ rest) (Some o) all (half_at a) parts_of.0 ∙ gone_same (half_at a) a refl ∙ parts_of.2)
+        ∙ ap (λ (b : Bool). if b then Some act else None) (over_here prefix (a ∷ rest) (Some o) all (half_at a) parts_of.0 ∙ gone_same (half_at a) a refl ∙ parts_of.2)
 
     abbrev pub is_own : Attempt → Bool
     is_own q = q.row.call == c.number
 
     pub next_there : next_cut_of c.number there ≡ Some act
     next_there =
-        ap (first_of (cut there)) (filter-append is_own (map whole_at front) (half_at a ∷ map half_at rest))
-        ∙ first_append (cut there) (filter is_own (map whole_at front)) (filter is_own (half_at a ∷ map half_at rest))
-        ∙ ap (λ (z : Option Action). option_or z (first_of (cut there) (filter is_own (half_at a ∷ map half_at rest)))) (passed front (a ∷ rest) (Some o) all front)
+        ap (first_of (cut there)) (filter-append is_own (map whole_at prefix) (half_at a ∷ map half_at rest))
+        ∙ first_append (cut there) (filter is_own (map whole_at prefix)) (filter is_own (half_at a ∷ map half_at rest))
+        ∙ ap (λ (z : Option Action). option_or z (first_of (cut there) (filter is_own (half_at a ∷ map half_at rest)))) (passed prefix (a ∷ rest) (Some o) all prefix)
         ∙ ap (λ (b : Bool). first_of (cut there) (cond b (half_at a ∷ filter is_own (map half_at rest)) (filter is_own (map half_at rest)))) parts_of.0
         ∙ ap (λ (z : Option Action). option_or z (first_of (cut there) (filter is_own (map half_at rest)))) cut_there
 
@@ -287,73 +287,73 @@ module _ (s : Seen) (c : Call) (own : numbered s.calls c.number ≡ Some c) (sta
     end_there =
         ap (λ (i : ℕ). end_by_cut i o.moment tokens s a) entry_there ∙ ap (λ (m : ℕ). end_by_cut (entry s) m tokens s a) moment
 
-    pub left_there : after act there ≡ at_point (front ++ (a ∷ [])) rest (Some (undrawn o))
+    pub left_there : after act there ≡ at_point (prefix ++ (a ∷ [])) rest (Some (undrawn o))
     left_there =
-        let long : a.place ≡ suc (length (map whole_at front)) = at ∙ ap suc (sym (length-map front whole_at)) in
+        let long : a.place ≡ suc (length (map whole_at prefix)) = at ∙ ap suc (sym (length-map prefix whole_at)) in
         let e : RowEnd = end_by_cut (entry s) (now s) tokens s a in
-        one_is_cut there (half_at a) (becomes end (marks_for front) c) tokens number_there call_there (count_here front (a ∷ rest) (Some o) all)
+        one_is_cut there (half_at a) (becomes end (marks_for prefix) c) tokens number_there call_there (count_here prefix (a ∷ rest) (Some o) all)
         ∙ ap (λ (z : RowEnd). record s {
           attempts = changed (with_end z) a.place there.attempts;
           calls = changed (marked_also (ended_mark o.moment a)) a.row.call there.calls;
           current = Some (undrawn o);
         }) end_there
         ∙ ap (λ (l : List Attempt). record s { attempts = l; calls = changed (marked_also (ended_mark o.moment a)) a.row.call there.calls; current = Some (undrawn o) })
-        (changed_there (with_end e) (map whole_at front) (half_at a) (map half_at rest) a.place long
-        ∙ list_moved front rest a (with_end e (half_at a)) (whole_is_cut a off))
+        (changed_there (with_end e) (map whole_at prefix) (half_at a) (map half_at rest) a.place long
+        ∙ list_moved prefix rest a (with_end e (half_at a)) (whole_is_cut a off))
         ∙ ap (λ (m : ℕ). record s {
-          attempts = map whole_at (front ++ (a ∷ [])) ++ map half_at rest;
+          attempts = map whole_at (prefix ++ (a ∷ [])) ++ map half_at rest;
           calls = changed (marked_also (record { what = mark.Ended a.place; moment = m })) a.row.call there.calls;
           current = Some (undrawn o);
         }) moment
         ∙ ap (λ (n : ℕ). record s {
-          attempts = map whole_at (front ++ (a ∷ [])) ++ map half_at rest;
+          attempts = map whole_at (prefix ++ (a ∷ [])) ++ map half_at rest;
           calls = changed (marked_also (ended_mark (now s) a)) n there.calls;
           current = Some (undrawn o);
         }) (eqb-true a.row.call c.number parts_of.0)
-        ∙ ap (λ (calls : List Call). record s { attempts = map whole_at (front ++ (a ∷ [])) ++ map half_at rest; calls = calls; current = Some (undrawn o) })
-        (becomes_more end (marks_for front) (ended_mark (now s) a) c.number s.calls c own)
-        ∙ ap (λ (l : List Mark). put_at (map whole_at (front ++ (a ∷ [])) ++ map half_at rest) (first ∷ l) (Some (undrawn o)))
-        (sym (map-append (ended_mark (now s)) (filter is_off front) (a ∷ [])))
-        ∙ ap (λ (l : List Attempt). put_at (map whole_at (front ++ (a ∷ [])) ++ map half_at rest) (first ∷ map (ended_mark (now s)) l) (Some (undrawn o)))
-        (sym (marks_if front a true off))
+        ∙ ap (λ (calls : List Call). record s { attempts = map whole_at (prefix ++ (a ∷ [])) ++ map half_at rest; calls = calls; current = Some (undrawn o) })
+        (becomes_more end (marks_for prefix) (ended_mark (now s) a) c.number s.calls c own)
+        ∙ ap (λ (l : List Mark). put_at (map whole_at (prefix ++ (a ∷ [])) ++ map half_at rest) (first ∷ l) (Some (undrawn o)))
+        (sym (map-append (ended_mark (now s)) (filter is_off prefix) (a ∷ [])))
+        ∙ ap (λ (l : List Attempt). put_at (map whole_at (prefix ++ (a ∷ [])) ++ map half_at rest) (first ∷ map (ended_mark (now s)) l) (Some (undrawn o)))
+        (sym (marks_if prefix a true off))
 
-  pub longer_by : (front : List Attempt) (a : Attempt) → length (front ++ (a ∷ [])) ≡ suc (length front)
+  pub longer_by : (prefix : List Attempt) (a : Attempt) → length (prefix ++ (a ∷ [])) ≡ suc (length prefix)
   longer_by [] a = refl
-  longer_by (x ∷ front) a = ap suc (longer_by front a)
+  longer_by (x ∷ prefix) a = ap suc (longer_by prefix a)
 
   -- all of them
   pub record Walked (u : Seen) : Type 0 where
     pub actions : List Action
     pub entry_now : OpenEntry
-    pub cuts : AreCut c.number actions u (at_point s.attempts [] (Some entry_now))
+    pub cuts : AttemptsAreCut c.number actions u (at_point s.attempts [] (Some entry_now))
 
-  pub walk_by : (front rest : List Attempt) (a : Attempt) (o : OpenEntry) (b : Bool) → is_off a ≡ b → s.attempts ≡ front ++ (a ∷ rest) → a.place ≡ suc (length front)
+  pub walk_by : (prefix rest : List Attempt) (a : Attempt) (o : OpenEntry) (b : Bool) → is_off a ≡ b → s.attempts ≡ prefix ++ (a ∷ rest) → a.place ≡ suc (length prefix)
       → is_some s.current ≡ true → o.moment ≡ now s
-      → ((p : OpenEntry) → p.moment ≡ now s → Walked (at_point (front ++ (a ∷ [])) rest (Some p))) → Walked (at_point front (a ∷ rest) (Some o))
-  walk_by front rest a o false off all at opened moment others = subst Walked (sym (pass_by front rest a (Some o) off)) (others o moment)
-  walk_by front rest a o true off all at opened moment others =
-      let w : Walked (at_point (front ++ (a ∷ [])) rest (Some (undrawn o))) = others (undrawn o) moment in
+      → ((p : OpenEntry) → p.moment ≡ now s → Walked (at_point (prefix ++ (a ∷ [])) rest (Some p))) → Walked (at_point prefix (a ∷ rest) (Some o))
+  walk_by prefix rest a o false off all at opened moment others = subst Walked (sym (pass_by prefix rest a (Some o) off)) (others o moment)
+  walk_by prefix rest a o true off all at opened moment others =
+      let w : Walked (at_point (prefix ++ (a ∷ [])) rest (Some (undrawn o))) = others (undrawn o) moment in
       record {
-        actions = act front rest a o all at opened moment off ∷ w.actions;
+        actions = act prefix rest a o all at opened moment off ∷ w.actions;
         entry_now = w.entry_now;
         cuts = (
-          next_there front rest a o all at opened moment off,
-          subst (λ (u : Seen). AreCut c.number w.actions u (at_point s.attempts [] (Some w.entry_now))) (sym (left_there front rest a o all at opened moment off)) w.cuts,
+          next_there prefix rest a o all at opened moment off,
+          subst (λ (u : Seen). AttemptsAreCut c.number w.actions u (at_point s.attempts [] (Some w.entry_now))) (sym (left_there prefix rest a o all at opened moment off)) w.cuts,
         );
       }
 
-  pub walk : (rest front : List Attempt) (o : OpenEntry) → s.attempts ≡ front ++ rest → ArePlaced (suc (length front)) rest → is_some s.current ≡ true → o.moment ≡ now s
-      → Walked (at_point front rest (Some o))
-  walk [] front o all p opened moment =
-      let same : s.attempts ≡ front = all ∙ append-nil front in
+  pub walk : (rest prefix : List Attempt) (o : OpenEntry) → s.attempts ≡ prefix ++ rest → AttemptsStandInPlace (suc (length prefix)) rest → is_some s.current ≡ true → o.moment ≡ now s
+      → Walked (at_point prefix rest (Some o))
+  walk [] prefix o all p opened moment =
+      let same : s.attempts ≡ prefix = all ∙ append-nil prefix in
       let done : Walked (at_point s.attempts [] (Some o)) = record { actions = []; entry_now = o; cuts = (none_left s.attempts (Some o) refl, refl) } in
       subst (λ (l : List Attempt). Walked (at_point l [] (Some o))) same done
-  walk (a ∷ rest) front o all p opened moment =
-      let long : suc (length front) ≡ length (front ++ (a ∷ [])) = sym (longer_by front a) in
-      walk_by front rest a o (is_off a) refl all p.0 opened moment
-      (λ q m. walk rest (front ++ (a ∷ [])) q (all ∙ sym (append_assoc front (a ∷ []) rest)) (subst (λ (n : ℕ). ArePlaced (suc n) rest) long p.1) opened m)
+  walk (a ∷ rest) prefix o all p opened moment =
+      let long : suc (length prefix) ≡ length (prefix ++ (a ∷ [])) = sym (longer_by prefix a) in
+      walk_by prefix rest a o (is_off a) refl all p.0 opened moment
+      (λ q m. walk rest (prefix ++ (a ∷ [])) q (all ∙ sym (append_assoc prefix (a ∷ []) rest)) (subst (λ (n : ℕ). AttemptsStandInPlace (suc n) rest) long p.1) opened m)
 
-  pub walked : (o : OpenEntry) (u : Seen) → s.current ≡ Some o → ArePlaced 1 s.attempts → u ≡ at_point [] s.attempts s.current → Walked u
+  pub walked : (o : OpenEntry) (u : Seen) → s.current ≡ Some o → AttemptsStandInPlace 1 s.attempts → u ≡ at_point [] s.attempts s.current → Walked u
   walked o u opened places e =
       subst Walked (sym (e ∙ ap (at_point [] s.attempts) opened))
       (walk s.attempts [] o refl places (ap (λ (z : Option OpenEntry). is_some z) opened)

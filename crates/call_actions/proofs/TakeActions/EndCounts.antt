@@ -27,7 +27,7 @@ use Rattle.call_actions.proofs.TakeActions.CutOne.{numbered_there}
 use Rattle.call_actions.proofs.TakeActions.Lists.{or_same}
 use Rattle.call_actions.proofs.TakeActions.Maps.{all_from, holds_map, holds_or, holds_same, kept_map, numbered_each}
 use Rattle.call_actions.proofs.TakeActions.Retold.{read_same}
-use Rattle.call_actions.specs.TakeActions.Serves.{ArePlaced}
+use Rattle.call_actions.specs.TakeActions.Serves.{AttemptsStandInPlace}
 
 pub gives_same : {X Y : Type 0} (g h : X → Option Y) → ((x : X) → g x ≡ h x) → (xs : List X) → filter_map g xs ≡ filter_map h xs
 gives_same g h same [] = refl
@@ -41,19 +41,19 @@ pub none_map : {X Y : Type 0} (f : X → Y) (o : Option X) → is_none (option_m
 none_map f None = refl
 none_map f (Some x) = refl
 
-pub one_longer : (front : List Attempt) (a : Attempt) → length (front ++ (a ∷ [])) ≡ suc (length front)
+pub one_longer : (prefix : List Attempt) (a : Attempt) → length (prefix ++ (a ∷ [])) ≡ suc (length prefix)
 one_longer [] a = refl
-one_longer (x ∷ front) a = ap suc (one_longer front a)
+one_longer (x ∷ prefix) a = ap suc (one_longer prefix a)
 
 -- each attempt stands at its place
-pub all_placed : (front xs : List Attempt) → ArePlaced (suc (length front)) xs → AllByRecursion (λ (a : Attempt). numbered (front ++ xs) a.place ≡ Some a) xs
-all_placed front [] p = tt
-all_placed front (a ∷ xs) p =
-    let long : suc (length front) ≡ length (front ++ (a ∷ [])) = sym (one_longer front a) in
-    let rest : AllByRecursion (λ (q : Attempt). numbered ((front ++ (a ∷ [])) ++ xs) q.place ≡ Some q) xs
-    = all_placed (front ++ (a ∷ [])) xs (subst (λ (n : ℕ). ArePlaced (suc n) xs) long p.1) in (
-      numbered_there front a xs a.place p.0,
-      subst (λ (l : List Attempt). AllByRecursion (λ (q : Attempt). numbered l q.place ≡ Some q) xs) (append_assoc front (a ∷ []) xs) rest,
+pub all_placed : (prefix xs : List Attempt) → AttemptsStandInPlace (suc (length prefix)) xs → AllByRecursion (λ (a : Attempt). numbered (prefix ++ xs) a.place ≡ Some a) xs
+all_placed prefix [] p = tt
+all_placed prefix (a ∷ xs) p =
+    let long : suc (length prefix) ≡ length (prefix ++ (a ∷ [])) = sym (one_longer prefix a) in
+    let rest : AllByRecursion (λ (q : Attempt). numbered ((prefix ++ (a ∷ [])) ++ xs) q.place ≡ Some q) xs
+    = all_placed (prefix ++ (a ∷ [])) xs (subst (λ (n : ℕ). AttemptsStandInPlace (suc n) xs) long p.1) in (
+      numbered_there prefix a xs a.place p.0,
+      subst (λ (l : List Attempt). AllByRecursion (λ (q : Attempt). numbered l q.place ≡ Some q) xs) (append_assoc prefix (a ∷ []) xs) rest,
     )
 
 pub kept_by : (P : Attempt → Type 0) (test : Attempt → Bool) (a : Attempt) (l : List Attempt) (b : Bool) → test a ≡ b → P a → AllByRecursion (λ (q : Attempt). P q × (test q ≡ true)) l
@@ -142,15 +142,15 @@ module _ (entry moment : ℕ) (tokens : Option ℕ) (s : Seen) (c : Call) (end :
   cuts_none [] all = tt
   cuts_none (a ∷ cuts) all = (cut_counts a all.0.0 all.0.1, cuts_none cuts all.1)
 
-  pub last_same : (first : Mark) → counted_row then_ended first.what ≡ None → ArePlaced 1 s.attempts
+  pub last_same : (first : Mark) → counted_row then_ended first.what ≡ None → AttemptsStandInPlace 1 s.attempts
       → (d : Call) → d.marks ≡ c.marks ++ (first ∷ map (ended_mark moment) cuts_now) → last_counted d then_ended ≡ last_counted c s
   last_same first none places d e =
       let more : List Mark = first ∷ map (ended_mark moment) cuts_now in
-      let told : Mark → Option ℕ = λ (m : Mark). counted_row then_ended m.what in
-      let later : filter_map told more ≡ []
-      = gives_none told more (none, cuts_none cuts_now (kept_all (λ (a : Attempt). numbered s.attempts a.place ≡ Some a) (is_cut_off c.number all_gone) s.attempts (all_placed [] s.attempts places))) in
-      ap last_of (ap (filter_map told) e ∙ filter_map-append told c.marks more ∙ ap (λ (l : List ℕ). filter_map told c.marks ++ l) later ∙ append-nil (filter_map told c.marks)
-      ∙ gives_same told (λ (m : Mark). counted_row s m.what) (λ m. row_same m.what) c.marks)
+      let reported : Mark → Option ℕ = λ (m : Mark). counted_row then_ended m.what in
+      let later : filter_map reported more ≡ []
+      = gives_none reported more (none, cuts_none cuts_now (kept_all (λ (a : Attempt). numbered s.attempts a.place ≡ Some a) (is_cut_off c.number all_gone) s.attempts (all_placed [] s.attempts places))) in
+      ap last_of (ap (filter_map reported) e ∙ filter_map-append reported c.marks more ∙ ap (λ (l : List ℕ). filter_map reported c.marks ++ l) later ∙ append-nil (filter_map reported c.marks)
+      ∙ gives_same reported (λ (m : Mark). counted_row s m.what) (λ m. row_same m.what) c.marks)
 
   -- whether the server asked for a delay
   pub delayed_by : (k : ℕ) (a : Attempt) (b : Bool) → is_cut_off c.number all_gone a ≡ b

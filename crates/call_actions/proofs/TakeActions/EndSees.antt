@@ -11,10 +11,10 @@ use Rattle.attempt_ledger.specs.declared.row.Row.{Row}
 use Rattle.attempt_ledger.specs.declared.row.RowEnd.{RowEnd}
 use Rattle.call_actions.proofs.Ended.{end_by, end_is}
 use Rattle.call_actions.proofs.Lists.{changed_here, stamped_here}
-use Rattle.call_actions.specs.Sees.{AreAttempts, Sees, is_live, live_row, live_rows}
+use Rattle.call_actions.specs.Sees.{AttemptsAgree, Sees, is_live, live_row, live_rows}
 use Rattle.call_core.specs.Laws as channel
 use Rattle.call_core.specs.Parts.{count_of, stopped_attempts}
-use Rattle.call_core.specs.Steps.{Stepped, closed_by, cut_all, end_stamped, ended_as, fresh_buffer, told_all}
+use Rattle.call_core.specs.Steps.{Stepped, closed_by, cut_all, end_stamped, ended_as, fresh_buffer, reported_all}
 use Rattle.call_core.specs.declared.act.CallAct.TheVariants as act
 use Rattle.call_core.specs.declared.live.LiveRow.{LiveRow}
 use Rattle.grpc_base.specs.Limits.{message_limit}
@@ -46,7 +46,7 @@ use Rattle.call_actions.proofs.TakeActions.CutTokens.{bucket_cut, counted_cut}
 use Rattle.call_actions.proofs.TakeActions.EndCounts.{commitment_same, delayed_same, ended_up, last_same}
 use Rattle.call_actions.proofs.TakeActions.Maps.{all_from, kept_map, map_map}
 use Rattle.call_actions.proofs.TakeActions.Retold.{read_same}
-use Rattle.call_actions.specs.TakeActions.Serves.{ArePlaced, IsLeft, Serves, came}
+use Rattle.call_actions.specs.TakeActions.Serves.{AttemptsStandInPlace, IsLeft, Serves, came}
 
 -- all that was read stays read
 pub traffic_all : (seen : ℕ) (ts : List Traffic) → list_all (is_read_by seen) ts ≡ true → traffic_by seen ts ≡ ts
@@ -140,7 +140,7 @@ module _ (s : Seen) (c : Call) (x : Stepped) (why : EndCause) (h : Serves s c x)
     call = record x.call { live = []; buffer = fresh_buffer; attempts = stopped_attempts x.call.attempts; ended = Some why };
     ledger = end_stamped x.call.number why (now s) cut_rows;
     tokens = x.tokens;
-    acts = told_all None x.call.live x.acts ++ act.End why ∷ [];
+    acts = reported_all None x.call.live x.acts ++ act.End why ∷ [];
   }
 
   pub step_is : closed_by why (now s) x ≡ end_step
@@ -181,9 +181,9 @@ module _ (s : Seen) (c : Call) (x : Stepped) (why : EndCause) (h : Serves s c x)
   due_now =
       due_stopped s end_seen c end_call final_at (λ a. refl) (λ a. refl) refl mark.Closed (now s) (filter (is_cut_off c.number all_gone) s.attempts) (λ z. refl) refl
 
-  pub attempts_now : AreAttempts end_seen end_call (stopped_attempts x.call.attempts)
+  pub attempts_now : AttemptsAgree end_seen end_call (stopped_attempts x.call.attempts)
   attempts_now =
-      let a : AreAttempts s c x.call.attempts = h.sees.attempts in
+      let a : AttemptsAgree s c x.call.attempts = h.sees.attempts in
       record {
         sent = made_still (entry s) (now s) tokens_now s c own_stamp all_gone ∙ a.sent;
         due = record { newest = due_now.0 ∙ a.due.newest; placed = due_now.1 ∙ a.due.placed; stopped = due_now.2; forced = λ e. absurd (true≢false e) };
@@ -262,7 +262,7 @@ module _ (s : Seen) (c : Call) (x : Stepped) (why : EndCause) (h : Serves s c x)
       ap (λ (o : Option Attempt). option_map_or (λ (q : Attempt). response_items (response q end_seen)) o [])
       (commitment_same (entry s) (now s) tokens_now s c (Some end_now) marks_now current c) ∙ came_by (commitment c s)
 
-  pub placed_still : (xs : List Attempt) (n : ℕ) → ArePlaced n xs → ArePlaced n (map final_at xs)
+  pub placed_still : (xs : List Attempt) (n : ℕ) → AttemptsStandInPlace n xs → AttemptsStandInPlace n (map final_at xs)
   placed_still [] n p = tt
   placed_still (a ∷ xs) n p = (p.0, placed_still xs (suc n) p.1)
 

@@ -4,7 +4,7 @@ use Rattle.std.proofs.lemmas.Bool.{both_ways, eq-eqb, or_right}
 use Rattle.std.specs.List.{list_any}
 use Rattle.std.specs.Option.{option_map}
 use Rattle.attempt_ledger.specs.declared.ledger.CallEnd.{CallEnd}
-use Rattle.call_actions.proofs.Bare.{some_still}
+use Rattle.call_actions.proofs.Unconfigured.{some_still}
 use Rattle.call_actions.proofs.Ended.{end_by}
 use Rattle.call_core.specs.Parts.{count_of}
 use Rattle.call_core.specs.Steps as steps
@@ -43,7 +43,7 @@ use Rattle.call_actions.proofs.TakeActions.Posted.{over_is, refusal_by, refused_
 use Rattle.call_actions.proofs.TakeActions.Retold.{serves_still}
 use Rattle.call_actions.proofs.TakeActions.Sends.{long_is}
 use Rattle.call_actions.proofs.TakeActions.Takes.{answer, replied_is}
-use Rattle.call_actions.specs.TakeActions.Cuts.{AreCut}
+use Rattle.call_actions.specs.TakeActions.Cuts.{AttemptsAreCut}
 use Rattle.call_actions.specs.TakeActions.Laws.{CancelsEnd, EndsCutAttempts, EndsNext, IsEnded, IsPosted, LongSendsEnd, reply_of}
 use Rattle.call_actions.specs.TakeActions.Serves.{Serves}
 
@@ -67,8 +67,8 @@ module _ (s : Seen) (c : Call) (x : Stepped) (why : EndCause) (h : Serves s c x)
   own_stamp a = a.row.committed
 
   abbrev pub point : List Attempt → List Attempt → Option OpenEntry → Seen
-  point front rest current =
-      at_point s c h.sees.own own_stamp all_gone (Some end_now) first (λ a. refl) (λ a b e. refl) tokens_now count_now h.counted front rest current
+  point prefix rest current =
+      at_point s c h.sees.own own_stamp all_gone (Some end_now) first (λ a. refl) (λ a b e. refl) tokens_now count_now h.counted prefix rest current
 
   pub ended_is : call_ended c.number why s ≡ point [] s.attempts s.current
   ended_is =
@@ -76,10 +76,10 @@ module _ (s : Seen) (c : Call) (x : Stepped) (why : EndCause) (h : Serves s c x)
       (changed_twice (λ (k : Call). record k { end = Some end_now }) (marked_also first) (becomes (Some end_now) (first ∷ [])) c.number s.calls c h.sees.own refl)
       ∙ ap (λ (l : List Attempt). record s { attempts = l; calls = changed (becomes (Some end_now) (first ∷ [])) c.number s.calls }) (sym (map-id s.attempts))
 
-  abbrev pub Walks : Seen → Type 0
-  Walks u = Walked s c h.sees.own own_stamp all_gone (Some end_now) first (λ a. refl) (λ a b e. refl) tokens_now count_now h.counted u
+  abbrev pub CutAll : Seen → Type 0
+  CutAll u = Walked s c h.sees.own own_stamp all_gone (Some end_now) first (λ a. refl) (λ a b e. refl) tokens_now count_now h.counted u
 
-  pub end_walked : (o : OpenEntry) → s.current ≡ Some o → Walks (call_ended c.number why s)
+  pub end_walked : (o : OpenEntry) → s.current ≡ Some o → CutAll (call_ended c.number why s)
   end_walked o opened =
       walked s c h.sees.own own_stamp all_gone (Some end_now) first (λ a. refl) (λ a b e. refl) tokens_now count_now h.counted o (call_ended c.number why s) opened h.places ended_is
 
@@ -93,14 +93,14 @@ module _ (s : Seen) (c : Call) (x : Stepped) (why : EndCause) (h : Serves s c x)
   pub ends_by : (o : Option OpenEntry) → s.current ≡ o → is_some s.current ≡ true → IsEnded s c why (closed_by why (now s) x)
   ends_by None opened some = absurd (let none : is_some s.current ≡ false = ap (λ (z : Option OpenEntry). is_some z) opened in both_ways (is_some s.current) none some)
   ends_by (Some o) opened some =
-      let w : Walks (call_ended c.number why s) = end_walked o opened in
+      let w : CutAll (call_ended c.number why s) = end_walked o opened in
       let still : is_some (Some w.entry_now) ≡ is_some s.current = sym (ap (λ (z : Option OpenEntry). is_some z) opened) in
       let last : Seen = end_seen s c x why h open_now (Some w.entry_now) still in
       let same : point s.attempts [] (Some w.entry_now) ≡ last = ap (put (Some w.entry_now)) (append-nil last.attempts) in
       record {
         cuts = w.actions;
         seen = last;
-        cut = subst (AreCut c.number w.actions (call_ended c.number why s)) same w.cuts;
+        cut = subst (AttemptsAreCut c.number w.actions (call_ended c.number why s)) same w.cuts;
         agrees = record {
           call = end_call s c x why h open_now (Some w.entry_now) still;
           number_is = refl;

@@ -16,7 +16,7 @@ use Rattle.session_actions.specs.Writing.{drained}
 use Rattle.session_actions.specs.declared.attempt.Attempt.{Attempt}
 use Rattle.session_actions.specs.declared.call.Call.{Call}
 use Rattle.session_actions.specs.declared.seen.Seen.{Seen}
-use Rattle.call_actions.specs.TakeActions.Serves.{AreFed, IsFed}
+use Rattle.call_actions.specs.TakeActions.Serves.{AttemptsAreFed, IsFed}
 
 -- who comes first among three: the more was written, and the lower the number of equals
 abbrev pub before : ℕ → ℕ → ℕ → ℕ → Bool
@@ -123,11 +123,11 @@ module _ (s : Seen) (c : Call) (b : Buffered) where
 
   abbrev pub Chains : List Attempt → Type 0
   Chains xs =
-      AreFed s c b (filter (is_of c) xs) → (o : Option Attempt) → IfFine s c b o
+      AttemptsAreFed s c b (filter (is_of c) xs) → (o : Option Attempt) → IfFine s c b o
       → furthest_from b (option_map live_row o) (map live_row (filter (is_live s c) xs))
       ≡ option_map live_row (best_of s o (filter (λ (a : Attempt). is_of c a && is_outstanding a) xs))
 
-  pub chain_open : (x : Attempt) (xs : List Attempt) → Chains xs → IsFine s c b x → AreFed s c b (filter (is_of c) xs) → (o : Option Attempt) → IfFine s c b o
+  pub chain_open : (x : Attempt) (xs : List Attempt) → Chains xs → IsFine s c b x → AttemptsAreFed s c b (filter (is_of c) xs) → (o : Option Attempt) → IfFine s c b o
       → furthest_from b (option_map live_row o) (live_row x ∷ map live_row (filter (is_live s c) xs))
       ≡ option_map live_row (best_of s o (x ∷ filter (λ (a : Attempt). is_of c a && is_outstanding a) xs))
   chain_open x xs rest fx fed None fo =
@@ -141,7 +141,7 @@ module _ (s : Seen) (c : Call) (b : Buffered) where
       ∙ rest fed (Some (if is_further s x y then x else y)) (fine_if x y (is_further s x y) fx fy)
 
   pub chain_by : (x : Attempt) (xs : List Attempt) → Chains xs → (p q r : Bool) → is_outstanding x ≡ q
-      → AreFed s c b (cond p (x ∷ filter (is_of c) xs) (filter (is_of c) xs)) → (o : Option Attempt) → IfFine s c b o
+      → AttemptsAreFed s c b (cond p (x ∷ filter (is_of c) xs) (filter (is_of c) xs)) → (o : Option Attempt) → IfFine s c b o
       → furthest_from b (option_map live_row o) (map live_row (cond (p && (q || r)) (x ∷ filter (is_live s c) xs) (filter (is_live s c) xs)))
       ≡ option_map live_row (best_of s o (cond (p && q) (x ∷ filter (λ (a : Attempt). is_of c a && is_outstanding a) xs) (filter (λ (a : Attempt). is_of c a && is_outstanding a) xs)))
   chain_by x xs rest false q r out fed o fo = rest fed o fo
@@ -160,7 +160,7 @@ module _ (s : Seen) (c : Call) (b : Buffered) where
   place_of None = refl
   place_of (Some a) = refl
 
-  pub furthest_is : AreFed s c b (filter (is_of c) s.attempts) → parts.furthest b (live_rows s c) ≡ option_map (λ (a : Attempt). a.place) (furthest c s)
+  pub furthest_is : AttemptsAreFed s c b (filter (is_of c) s.attempts) → parts.furthest b (live_rows s c) ≡ option_map (λ (a : Attempt). a.place) (furthest c s)
   furthest_is fed =
       let outstanding : List Attempt = filter (λ (a : Attempt). is_of c a && is_outstanding a) s.attempts in
       ap (option_map (λ (row : LiveRow). row.place)) (chain s.attempts fed None tt)

@@ -6,7 +6,7 @@ use Rattle.call_actions.specs.Sees.{is_live, live_row}
 use Rattle.call_core.specs.Laws as channel
 use Rattle.call_core.specs.Parts.{committed_buffer, find_live}
 use Rattle.call_core.specs.Steps as steps
-use Rattle.call_core.specs.Steps.{Stepped, commit_by_head, heard_head, with_head}
+use Rattle.call_core.specs.Steps.{Stepped, commit_by_head, received_head, with_head}
 use Rattle.call_core.specs.declared.live.LiveRow.{LiveRow}
 use Rattle.grpc_base.specs.declared.event.Reply.{Reply}
 use Rattle.grpc_base.specs.declared.event.Reply.TheVariants as reply
@@ -55,9 +55,9 @@ lives_by true false queued one two = absurd (cc)
 lives_by false out queued one two = absurd (cc)
 
 -- nothing came before
-pub none_by : (front left : List Reply) → front ++ left ≡ [] → left ≡ []
+pub none_by : (prefix left : List Reply) → prefix ++ left ≡ [] → left ≡ []
 none_by [] left e = e
-none_by (r ∷ front) left e = absurd (cc)
+none_by (r ∷ prefix) left e = absurd (cc)
 
 pub no_messages : (head : Option (List Field)) (messages : List (List ℕ)) → channel.head_items head ++ channel.message_items messages ≡ [] → messages ≡ []
 no_messages None [] e = refl
@@ -75,9 +75,9 @@ module _ (s : Seen) (c : Call) (x : Stepped) (k : Attempt) (meta : List Field) (
       ap (λ (o : Option ℕ). is_some o) (sym h.sees.attempts.committed)
       ∙ ap (λ (o : Option Attempt). is_some (option_map (λ (q : Attempt). q.place) o)) can.free
 
-  pub heard_is : heard_head k.place meta (now s) x
+  pub received_is : received_head k.place meta (now s) x
       ≡ steps.committed k.place (now s) (record x { call = record x.call { buffer = committed_buffer k.place x.call.buffer; inbox = record x.call.inbox { head = Some meta } } })
-  heard_is =
+  received_is =
       ap (λ (b : Bool). if b then with_head meta (commit_by_head k.place (now s) x) else x) found
       ∙ ap (λ (b : Bool). with_head meta (if b then x else steps.committed k.place (now s) (record x { call = record x.call { buffer = committed_buffer k.place x.call.buffer } }))) free_now
 
@@ -85,16 +85,16 @@ module _ (s : Seen) (c : Call) (x : Stepped) (k : Attempt) (meta : List Field) (
   empty =
       let l : IsLeft (came c s) c.taken (channel.came x.call) = h.left (h.going can.open_now) in
       let none : came c s ≡ [] = ap (λ (o : Option Attempt). option_map_or (λ (q : Attempt). response_items (response q s)) o []) can.free in
-      no_messages x.call.inbox.head x.call.inbox.messages (none_by l.front (channel.came x.call) (sym l.joined ∙ none))
+      no_messages x.call.inbox.head x.call.inbox.messages (none_by l.prefix (channel.came x.call) (sym l.joined ∙ none))
 
   pub items_are : response_items (response k s) ≡ channel.head_items (Some meta) ++ channel.message_items x.call.inbox.messages
   items_are =
       ap (λ (o : Option (List Field)). option_to_list (option_map (λ (m : List Field). reply.Head m) o) ++ map (λ (m : List ℕ). reply.Message m) (response k s).messages) head.head
       ∙ ap (λ (l : List (List ℕ)). reply.Head meta ∷ map (λ (m : List ℕ). reply.Message m) l) (head.first ∙ sym empty)
 
-  pub commits : is_some s.current ≡ true → IsCommitted s c k (heard_head k.place meta (now s) x)
+  pub commits : is_some s.current ≡ true → IsCommitted s c k (received_head k.place meta (now s) x)
   commits opened =
-      subst (IsCommitted s c k) (sym heard_is)
+      subst (IsCommitted s c k) (sym received_is)
       (commits_cut_others s c x k (record x.call.inbox { head = Some meta }) opened h can refl items_are)
 
 pub heads_commit : HeadsCommit

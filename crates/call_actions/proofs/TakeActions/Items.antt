@@ -18,13 +18,13 @@ use Rattle.session_actions.specs.Words.{numbered}
 use Rattle.session_actions.specs.declared.attempt.Attempt.{Attempt}
 use Rattle.session_actions.specs.declared.call.Call.{Call}
 use Rattle.session_actions.specs.declared.seen.Seen.{Seen}
-use Rattle.call_actions.proofs.TakeActions.Lists.{found_at, numbered_end, numbered_front, numbered_map, row_numbered}
+use Rattle.call_actions.proofs.TakeActions.Lists.{found_at, numbered_end, numbered_prefix, numbered_map, row_numbered}
 use Rattle.call_actions.specs.TakeActions.Serves.{IsLeft, Serves, came}
 
 -- the end of the committed attempt
-pub told_end : (o : Option RowEnd) → option_map_or end_by_row o (end_by_channel ending.Row) ≡ row_end_reply o
-told_end None = refl
-told_end (Some e) = refl
+pub reported_end : (o : Option RowEnd) → option_map_or end_by_row o (end_by_channel ending.Row) ≡ row_end_reply o
+reported_end None = refl
+reported_end (Some e) = refl
 
 module _ (s : Seen) (c : Call) (x : Stepped) (h : Serves s c x) where
   pub row_end : (o : Option Attempt) → commitment c s ≡ o → option_and_then (λ (k : Attempt). k.row.ended) o ≡ end_at x.ledger.rows (option_map (λ (k : Attempt). k.place) o)
@@ -38,7 +38,7 @@ module _ (s : Seen) (c : Call) (x : Stepped) (h : Serves s c x) where
   pub by_row : option_map_or end_by_row (option_and_then (λ (k : Attempt). k.row.ended) (commitment c s)) (end_by_channel ending.Row)
       ≡ row_end_reply (end_at x.ledger.rows x.call.attempts.committed)
   by_row =
-      told_end (option_and_then (λ (k : Attempt). k.row.ended) (commitment c s)) ∙ ap row_end_reply (row_end (commitment c s) refl)
+      reported_end (option_and_then (λ (k : Attempt). k.row.ended) (commitment c s)) ∙ ap row_end_reply (row_end (commitment c s) refl)
       ∙ ap (λ (o : Option ℕ). row_end_reply (end_at x.ledger.rows o)) h.sees.attempts.committed
 
   pub end_is : (why : EndCause) → end_item c s why ≡ end_reply x.ledger.rows x.call.attempts.committed why
@@ -71,10 +71,10 @@ only_one (Some r) = refl
 module _ (c : Call) (s : Seen) (left : List Reply) (l : IsLeft (came c s) c.taken left) where
   pub next_is : (item : Reply) (others : List Reply) → left ≡ item ∷ others → next_item c s ≡ Some item
   next_is item others e =
-      ap (λ (all : List Reply). numbered (all ++ ends_of c s) (c.taken + 1)) (l.joined ∙ ap (λ (z : List Reply). l.front ++ z) e)
-      ∙ numbered_front l.front item others (ends_of c s) c.taken l.count
+      ap (λ (all : List Reply). numbered (all ++ ends_of c s) (c.taken + 1)) (l.joined ∙ ap (λ (z : List Reply). l.prefix ++ z) e)
+      ∙ numbered_prefix l.prefix item others (ends_of c s) c.taken l.count
 
   pub next_end : left ≡ [] → next_item c s ≡ option_map (λ (e : CallEnd). end_item c s e.cause) c.end
   next_end e =
-      ap (λ (all : List Reply). numbered (all ++ ends_of c s) (c.taken + 1)) (l.joined ∙ ap (λ (z : List Reply). l.front ++ z) e)
-      ∙ numbered_end l.front (ends_of c s) c.taken l.count ∙ only_one (option_map (λ (e : CallEnd). end_item c s e.cause) c.end)
+      ap (λ (all : List Reply). numbered (all ++ ends_of c s) (c.taken + 1)) (l.joined ∙ ap (λ (z : List Reply). l.prefix ++ z) e)
+      ∙ numbered_end l.prefix (ends_of c s) c.taken l.count ∙ only_one (option_map (λ (e : CallEnd). end_item c s e.cause) c.end)

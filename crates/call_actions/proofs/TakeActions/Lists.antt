@@ -8,26 +8,26 @@ use Rattle.call_core.specs.Parts.{row_at}
 use Rattle.ledger_stamps.specs.Steps.{index_at}
 use Rattle.session_actions.specs.Words.{find_last, numbered}
 use Rattle.session_actions.specs.declared.attempt.Attempt.{Attempt}
-use Rattle.call_actions.specs.TakeActions.Serves.{ArePlaced}
+use Rattle.call_actions.specs.TakeActions.Serves.{AttemptsStandInPlace}
 
 -- functions that agree
 pub or_same : {X Y : Type 0} (g h : X → Y) (d : Y) → ((x : X) → g x ≡ h x) → (o : Option X) → option_map_or g o d ≡ option_map_or h o d
 or_same g h d same None = refl
 or_same g h d same (Some x) = same x
 
--- what stands behind a front, and behind all
-pub at_front : {X : Type 0} (xs : List X) (y : X) (zs es : List X) → slice_get ((xs ++ (y ∷ zs)) ++ es) (length xs) ≡ Some y
-at_front [] y zs es = refl
-at_front (x ∷ xs) y zs es = at_front xs y zs es
+-- what stands after a prefix, and after all
+pub at_prefix : {X : Type 0} (xs : List X) (y : X) (zs es : List X) → slice_get ((xs ++ (y ∷ zs)) ++ es) (length xs) ≡ Some y
+at_prefix [] y zs es = refl
+at_prefix (x ∷ xs) y zs es = at_prefix xs y zs es
 
 pub at_end : {X : Type 0} (xs es : List X) → slice_get ((xs ++ []) ++ es) (length xs) ≡ slice_get es zero
 at_end [] es = refl
 at_end (x ∷ xs) es = at_end xs es
 
-pub numbered_front : {X : Type 0} (xs : List X) (y : X) (zs es : List X) (n : ℕ) → length xs ≡ n → numbered ((xs ++ (y ∷ zs)) ++ es) (n + 1) ≡ Some y
-numbered_front xs y zs es n e =
+pub numbered_prefix : {X : Type 0} (xs : List X) (y : X) (zs es : List X) (n : ℕ) → length xs ≡ n → numbered ((xs ++ (y ∷ zs)) ++ es) (n + 1) ≡ Some y
+numbered_prefix xs y zs es n e =
     let number : n + 1 ≡ suc (length xs) = omega (arith, e) in
-    ap (numbered ((xs ++ (y ∷ zs)) ++ es)) number ∙ at_front xs y zs es
+    ap (numbered ((xs ++ (y ∷ zs)) ++ es)) number ∙ at_prefix xs y zs es
 
 pub numbered_end : {X : Type 0} (xs es : List X) (n : ℕ) → length xs ≡ n → numbered ((xs ++ []) ++ es) (n + 1) ≡ slice_get es zero
 numbered_end xs es n e =
@@ -70,12 +70,12 @@ pub there_by : (n : ℕ) (x : Attempt) (xs : List Attempt) (k : Attempt) (b : Bo
 there_by n x xs k b None p rest e = there_last n x xs k p b e
 there_by n x xs k b (Some z) p rest e = there_more n x xs k (rest k e)
 
-pub there : (n : ℕ) (xs : List Attempt) → ArePlaced n xs → (test : Attempt → Bool) (k : Attempt) → find_last test xs ≡ Some k → IsThere n xs k
+pub there : (n : ℕ) (xs : List Attempt) → AttemptsStandInPlace n xs → (test : Attempt → Bool) (k : Attempt) → find_last test xs ≡ Some k → IsThere n xs k
 there n [] places test k e = absurd (cc)
 there n (x ∷ xs) places test k e =
     there_by n x xs k (test x) (find_last test xs) places.0 (λ z f. there (suc n) xs places.1 test z f) e
 
-pub found_at : (xs : List Attempt) → ArePlaced 1 xs → (test : Attempt → Bool) (k : Attempt) → find_last test xs ≡ Some k → numbered xs k.place ≡ Some k
+pub found_at : (xs : List Attempt) → AttemptsStandInPlace 1 xs → (test : Attempt → Bool) (k : Attempt) → find_last test xs ≡ Some k → numbered xs k.place ≡ Some k
 found_at xs places test k e =
     let t : IsThere 1 xs k = there 1 xs places test k e in
     let place : k.place ≡ 1 + t.index = t.place in

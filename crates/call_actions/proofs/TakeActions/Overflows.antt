@@ -4,7 +4,7 @@ use Rattle.std.proofs.lemmas.Bool.{leb-false, lt-ltb, or_right}
 use Rattle.std.specs.Option.{option_map, option_map_or}
 use Rattle.attempt_buffer.specs.Buffers.{Buffered, held}
 use Rattle.attempt_ledger.specs.declared.ledger.CallEnd.{CallEnd}
-use Rattle.call_actions.proofs.Bare.{some_still}
+use Rattle.call_actions.proofs.Unconfigured.{some_still}
 use Rattle.call_core.specs.Laws as channel
 use Rattle.call_core.specs.Parts as parts
 use Rattle.call_core.specs.Parts.{committed_buffer, pushed_buffer, pushed_over}
@@ -33,7 +33,7 @@ use Rattle.call_actions.proofs.TakeActions.CutSees.{open_is}
 use Rattle.call_actions.proofs.TakeActions.Heads.{none_by}
 use Rattle.call_actions.proofs.TakeActions.Maps.{any_same, holds_or}
 use Rattle.call_actions.proofs.TakeActions.Posted.{refusal_by}
-use Rattle.call_actions.proofs.TakeActions.Retold.{read_same, response_same, told}
+use Rattle.call_actions.proofs.TakeActions.Retold.{read_same, response_same, reported}
 use Rattle.call_actions.proofs.TakeActions.Room.{framed_more, held_is, no_fit, over_is, row_is}
 use Rattle.call_actions.proofs.TakeActions.Sends.{action_is, full_is, longer_buffer, longer_call, reply_free, sent_call, serves_sent, step_free, then_sent}
 use Rattle.call_actions.proofs.TakeActions.Takes.{answer, replied_is}
@@ -85,7 +85,7 @@ module _ (s : Seen) (c : Call) (x : Stepped) (k : Attempt) (m : List ℕ) (p : I
   pub over_same : (a : Attempt) → is_over a then_ ≡ is_over a s
   over_same a =
       holds_or (λ (d : Call). is_over_in d a s) (numbered then_.calls a.row.call)
-      ∙ read_same (told s c (λ (q : Call). q.messages ++ m ∷ []) (λ (q : Call). q.finished) (λ (q : Call). q.taken) (λ (q : Call). q.end_taken) then_.current) c.number s.calls
+      ∙ read_same (reported s c (λ (q : Call). q.messages ++ m ∷ []) (λ (q : Call). q.finished) (λ (q : Call). q.taken) (λ (q : Call). q.end_taken) then_.current) c.number s.calls
       (λ (d : Call). is_over_in d a s) false (λ d. refl) a.row.call
       ∙ sym (holds_or (λ (d : Call). is_over_in d a s) (numbered s.calls a.row.call))
 
@@ -109,7 +109,7 @@ module _ (s : Seen) (c : Call) (x : Stepped) (k : Attempt) (m : List ℕ) (p : I
   inbox_empty =
       let l : IsLeft (came c s) c.taken (channel.came x.call) = h.left (h.going can.open_now) in
       let empty : came c s ≡ [] = ap (λ (o : Option Attempt). option_map_or (λ (q : Attempt). response_items (response q s)) o []) can.free in
-      none_by l.front (channel.came x.call) (sym l.joined ∙ empty)
+      none_by l.prefix (channel.came x.call) (sym l.joined ∙ empty)
 
   pub items_then : response_items (response k then_) ≡ channel.came x.call
   items_then =

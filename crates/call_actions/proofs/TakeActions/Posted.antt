@@ -2,7 +2,7 @@
 use Rattle.std.proofs.Common.{◌≡◌, ap, refl, subst, sym, ◌∙◌, Bool, true, false, List, Option, None, Some, if◌then◌else◌, is_some}
 use Rattle.std.specs.Option.{option_map}
 use Rattle.attempt_ledger.specs.declared.ledger.CallEnd.{CallEnd}
-use Rattle.call_actions.proofs.Bare.{some_still}
+use Rattle.call_actions.proofs.Unconfigured.{some_still}
 use Rattle.call_core.specs.Laws as channel
 use Rattle.call_core.specs.Steps as steps
 use Rattle.call_core.specs.Steps.{Stepped}
@@ -21,7 +21,7 @@ use Rattle.session_actions.specs.declared.action.Action.TheVariants as action
 use Rattle.session_actions.specs.declared.call.Call.{Call}
 use Rattle.session_actions.specs.declared.entry.OpenEntry.{OpenEntry}
 use Rattle.session_actions.specs.declared.seen.Seen.{Seen}
-use Rattle.call_actions.proofs.TakeActions.Retold.{came_same, sees_told, told}
+use Rattle.call_actions.proofs.TakeActions.Retold.{came_same, sees_reported, reported}
 use Rattle.call_actions.proofs.TakeActions.Takes.{answer, answered, done, replied_is}
 use Rattle.call_actions.specs.TakeActions.Laws.{Agrees, CancelsAreAnswered, FinishesAreDone, IsDone, IsPosted}
 use Rattle.call_actions.specs.TakeActions.Serves.{Holds, IsLeft, Serves}
@@ -57,23 +57,23 @@ module _ (s : Seen) (c : Call) (x : Stepped) (p : IsPosted (event.Finish c.numbe
 
   pub finish_refused : (why : Refusal) → refusal_by (is_some c.end) c.finished ≡ Some why → Finished (steps.finish_reply x.call) (steps.finished x.call)
   finish_refused why e =
-      let told_why : steps.send_refusal x.call ≡ Some why = refused_by s c x h (Some why) e in
+      let reported_why : steps.send_refusal x.call ≡ Some why = refused_by s c x h (Some why) e in
       let next : event_action (event.Finish c.number) s ≡ Some (action.EventRefused why)
       = ap (λ (o : Option Refusal). event_action_by o (event.Finish c.number) s) (session_refusal s c x h going (Some why) e) in
       let refused : Finished (reply.Refused why) x.call
       = answered (event.Finish c.number) s c (reply.Refused why) x p (action.EventRefused why) next refl h in
-      subst (Finished (steps.finish_reply x.call)) (sym (ap (λ (o : Option Refusal). steps.finished_if o x.call) told_why))
-      (subst (λ (r : Reply). Finished r x.call) (sym (ap steps.finish_reply_if told_why)) refused)
+      subst (Finished (steps.finish_reply x.call)) (sym (ap (λ (o : Option Refusal). steps.finished_if o x.call) reported_why))
+      (subst (λ (r : Reply). Finished r x.call) (sym (ap steps.finish_reply_if reported_why)) refused)
 
   abbrev pub done_open : Option OpenEntry
   done_open = option_map (answer reply.Done) s.current
 
   abbrev pub done_call : Call
-  done_call = told s c (λ (k : Call). k.messages) (λ (k : Call). true) (λ (k : Call). k.taken) (λ (k : Call). k.end_taken) done_open c
+  done_call = reported s c (λ (k : Call). k.messages) (λ (k : Call). true) (λ (k : Call). k.taken) (λ (k : Call). k.end_taken) done_open c
 
   pub serves_done : Serves (request_finished c.number s) done_call (record x { call = record x.call { is_finished = true } })
   serves_done = record {
-    sees = sees_told s c (λ (k : Call). k.messages) (λ (k : Call). true) (λ (k : Call). k.taken) (λ (k : Call). k.end_taken) done_open x
+    sees = sees_reported s c (λ (k : Call). k.messages) (λ (k : Call). true) (λ (k : Call). k.taken) (λ (k : Call). k.end_taken) done_open x
         true x.call.longest x.call.buffer x.call.inbox refl h.sees.longest_is (some_still (answer reply.Done) s.current) h.sees;
     places = h.places;
     config = h.config;
@@ -89,7 +89,7 @@ module _ (s : Seen) (c : Call) (x : Stepped) (p : IsPosted (event.Finish c.numbe
 
   pub finish_now : refusal_by (is_some c.end) c.finished ≡ None → Finished (steps.finish_reply x.call) (steps.finished x.call)
   finish_now e =
-      let told_none : steps.send_refusal x.call ≡ None = refused_by s c x h None e in
+      let reported_none : steps.send_refusal x.call ≡ None = refused_by s c x h None e in
       let next : event_action (event.Finish c.number) s ≡ Some (action.RequestFinished c.number)
       = ap (λ (o : Option Refusal). event_action_by o (event.Finish c.number) s) (session_refusal s c x h going None e) in
       let agrees : Agrees (request_finished c.number s) c.number (record x { call = record x.call { is_finished = true } })
@@ -97,8 +97,8 @@ module _ (s : Seen) (c : Call) (x : Stepped) (p : IsPosted (event.Finish c.numbe
       let finished_now : Finished reply.Done (record x.call { is_finished = true })
       = done (event.Finish c.number) s c.number reply.Done (record x { call = record x.call { is_finished = true } }) p (action.RequestFinished c.number)
       (request_finished c.number s) next refl (replied_is s p.entry reply.Done p.current) agrees in
-      subst (Finished (steps.finish_reply x.call)) (sym (ap (λ (o : Option Refusal). steps.finished_if o x.call) told_none))
-      (subst (λ (r : Reply). Finished r (record x.call { is_finished = true })) (sym (ap steps.finish_reply_if told_none)) finished_now)
+      subst (Finished (steps.finish_reply x.call)) (sym (ap (λ (o : Option Refusal). steps.finished_if o x.call) reported_none))
+      (subst (λ (r : Reply). Finished r (record x.call { is_finished = true })) (sym (ap steps.finish_reply_if reported_none)) finished_now)
 
   pub finish_by : (o : Option Refusal) → refusal_by (is_some c.end) c.finished ≡ o → Finished (steps.finish_reply x.call) (steps.finished x.call)
   finish_by (Some why) e = finish_refused why e

@@ -1,12 +1,12 @@
--- What an application tells a call or takes of it leaves the rest of the call as it is: its attempts, and what came of its response. So does what the
+-- What an application reports to a call or takes of it leaves the rest of the call as it is: its attempts, and what came of its response. So does what the
 -- event of the entry is answered.
 use Rattle.std.proofs.Common.{◌≡◌, ◌+◌, ◌∷◌, ◌==◌, ap, refl, subst, sym, ◌∙◌, Bool, true, false, List, [], Option, None, Some, ℕ, if◌then◌else◌, is_some, length, slice_get, slice_set, suc, zero}
 use Rattle.std.proofs.lemmas.Bool.{eqb-false, eqb-true}
 use Rattle.std.specs.Option.{option_map, option_map_or}
 use Rattle.attempt_buffer.specs.Buffers.{Buffered}
-use Rattle.call_actions.proofs.Frames.{bucket_told, counted_rows_same, delayed_same, due_same, live_same, retold}
+use Rattle.call_actions.proofs.Frames.{bucket_reported, counted_rows_same, delayed_same, due_same, live_same, retold}
 use Rattle.call_actions.proofs.Lists.{changed_away, changed_here}
-use Rattle.call_actions.specs.Sees.{AreAttempts, AreDue, Sees, longest}
+use Rattle.call_actions.specs.Sees.{AttemptsAgree, DuesAgree, Sees, longest}
 use Rattle.call_core.specs.Laws as channel
 use Rattle.call_core.specs.Steps.{Stepped}
 use Rattle.call_core.specs.declared.inbox.Inbox.{Inbox}
@@ -54,46 +54,46 @@ module _ {Y : Type 0} (f : Call → Call) (n : ℕ) (calls : List Call) (g : Cal
   pub read_same : (j : ℕ) → option_map_or g (numbered (changed f n calls) j) d ≡ option_map_or g (numbered calls j) d
   read_same j = or_by j (j == n) refl
 
--- the call of the channel, of which this was told
+-- the call of the channel, of which this was reported
 abbrev pub resumed : Bool → ℕ → Buffered → Inbox → Stepped → Stepped
 resumed finished longest_is buffer inbox x =
     record x { call = record x.call { is_finished = finished; longest = longest_is; buffer = buffer; inbox = inbox } }
 
 module _ (s : Seen) (c : Call) (messages : Call → List (List ℕ)) (finished : Call → Bool) (taken : Call → ℕ) (end_taken : Call → Bool) (current : Option OpenEntry) where
-  abbrev pub told : Call → Call
-  told k = retold messages finished taken end_taken own_marks (λ (z : Call). z.end) k
+  abbrev pub reported : Call → Call
+  reported k = retold messages finished taken end_taken own_marks (λ (z : Call). z.end) k
 
-  abbrev pub told_now : Seen
-  told_now = record s { calls = changed told c.number s.calls; current = current }
+  abbrev pub reported_now : Seen
+  reported_now = record s { calls = changed reported c.number s.calls; current = current }
 
   -- the response to an attempt
-  pub limit_same : (a : Attempt) → limit_of_attempt a told_now ≡ limit_of_attempt a s
-  limit_same a = read_same told c.number s.calls (λ (k : Call). (chosen_of k s).response) message_limit (λ k. refl) a.row.call
+  pub limit_same : (a : Attempt) → limit_of_attempt a reported_now ≡ limit_of_attempt a s
+  limit_same a = read_same reported c.number s.calls (λ (k : Call). (chosen_of k s).response) message_limit (λ k. refl) a.row.call
 
-  pub on_same : (a : Attempt) (stream : ℕ) (l : Link) → response_on a stream told_now l ≡ response_on a stream s l
+  pub on_same : (a : Attempt) (stream : ℕ) (l : Link) → response_on a stream reported_now l ≡ response_on a stream s l
   on_same a stream l = ap (λ (limit : ℕ). response_in limit stream (traffic_of a l.traffic)) (limit_same a)
 
-  pub by_same : (a : Attempt) (o : Option ℕ) → response_by a told_now o ≡ response_by a s o
+  pub by_same : (a : Attempt) (o : Option ℕ) → response_by a reported_now o ≡ response_by a s o
   by_same a None = refl
-  by_same a (Some stream) = or_same (response_on a stream told_now) (response_on a stream s) no_response (on_same a stream) (link_of a s)
+  by_same a (Some stream) = or_same (response_on a stream reported_now) (response_on a stream s) no_response (on_same a stream) (link_of a s)
 
-  pub response_same : (a : Attempt) → response a told_now ≡ response a s
+  pub response_same : (a : Attempt) → response a reported_now ≡ response a s
   response_same a = by_same a a.row.stream
 
-  pub came_same : came (told c) told_now ≡ came c s
+  pub came_same : came (reported c) reported_now ≡ came c s
   came_same =
-      or_same (λ (k : Attempt). response_items (response k told_now)) (λ (k : Attempt). response_items (response k s)) []
+      or_same (λ (k : Attempt). response_items (response k reported_now)) (λ (k : Attempt). response_items (response k s)) []
       (λ k. ap response_items (by_same k k.row.stream)) (commitment c s)
 
   -- what else the channel keeps of it
-  pub sees_told : (x : Stepped) (done : Bool) (longest_is : ℕ) (buffer : Buffered) (inbox : Inbox) → finished c ≡ done → longest (messages c) ≡ longest_is
-      → is_some current ≡ is_some s.current → Sees s c x → Sees told_now (told c) (resumed done longest_is buffer inbox x)
-  sees_told x done longest_is buffer inbox done_is most still h =
-      let a : AreAttempts s c x.call.attempts = h.attempts in
-      let due : due_state (told c) told_now ≡ due_state c s = due_same s c.number messages finished taken end_taken own_marks (λ (z : Call). z.end) current c no_due c.marks in
-      let attempts : AreAttempts told_now (told c) x.call.attempts = record {
+  pub sees_reported : (x : Stepped) (done : Bool) (longest_is : ℕ) (buffer : Buffered) (inbox : Inbox) → finished c ≡ done → longest (messages c) ≡ longest_is
+      → is_some current ≡ is_some s.current → Sees s c x → Sees reported_now (reported c) (resumed done longest_is buffer inbox x)
+  sees_reported x done longest_is buffer inbox done_is most still h =
+      let a : AttemptsAgree s c x.call.attempts = h.attempts in
+      let due : due_state (reported c) reported_now ≡ due_state c s = due_same s c.number messages finished taken end_taken own_marks (λ (z : Call). z.end) current c no_due c.marks in
+      let attempts : AttemptsAgree reported_now (reported c) x.call.attempts = record {
         sent = a.sent;
-        due = subst (λ (z : DueState). AreDue z x.call.attempts) (sym due) a.due;
+        due = subst (λ (z : DueState). DuesAgree z x.call.attempts) (sym due) a.due;
         unplaced = a.unplaced;
         delayed = λ keeps free. delayed_same s c.number messages finished taken end_taken own_marks (λ (z : Call). z.end) current c x.call.attempts.sent ∙ a.delayed keeps free;
         last = λ free. ap last_of (counted_rows_same s c.number messages finished taken end_taken own_marks (λ (z : Call). z.end) current c.marks) ∙ a.last free;
@@ -101,7 +101,7 @@ module _ (s : Seen) (c : Call) (messages : Call → List (List ℕ)) (finished :
         committed = a.committed;
       } in
       record {
-        own = changed_here told c.number s.calls c h.own;
+        own = changed_here reported c.number s.calls c h.own;
         number_is = h.number_is;
         request = h.request;
         begun = h.begun;
@@ -111,7 +111,7 @@ module _ (s : Seen) (c : Call) (messages : Call → List (List ℕ)) (finished :
         ended = h.ended;
         attempts = attempts;
         live = live_same s c.number messages finished taken end_taken own_marks current c ∙ h.live;
-        tokens = bucket_told s c.number messages finished taken end_taken own_marks (λ (z : Call). z.end) current (run_of c s) ∙ h.tokens;
+        tokens = bucket_reported s c.number messages finished taken end_taken own_marks (λ (z : Call). z.end) current (run_of c s) ∙ h.tokens;
         entry_is = ap (λ (b : Bool). length s.entries + (if b then 1 else 0)) still ∙ h.entry_is;
         rows = h.rows;
         call_is = h.call_is;
@@ -129,11 +129,11 @@ changed_self f (suc i) xs x same e = ap (changed_if f (suc i) xs) e ∙ ap (slic
 
 module _ (s : Seen) (c : Call) (x : Stepped) (current : Option OpenEntry) (still : is_some current ≡ is_some s.current) where
   abbrev pub same_seen : Seen
-  same_seen = told_now s c (λ (k : Call). k.messages) (λ (k : Call). k.finished) (λ (k : Call). k.taken) (λ (k : Call). k.end_taken) current
+  same_seen = reported_now s c (λ (k : Call). k.messages) (λ (k : Call). k.finished) (λ (k : Call). k.taken) (λ (k : Call). k.end_taken) current
 
   pub serves_same : Serves s c x → Serves same_seen c x
   serves_same h = record {
-    sees = sees_told s c (λ (k : Call). k.messages) (λ (k : Call). k.finished) (λ (k : Call). k.taken) (λ (k : Call). k.end_taken) current x
+    sees = sees_reported s c (λ (k : Call). k.messages) (λ (k : Call). k.finished) (λ (k : Call). k.taken) (λ (k : Call). k.end_taken) current x
         x.call.is_finished x.call.longest x.call.buffer x.call.inbox h.sees.finished h.sees.longest_is still h.sees;
     places = h.places;
     config = h.config;
@@ -150,5 +150,5 @@ module _ (s : Seen) (c : Call) (x : Stepped) (current : Option OpenEntry) (still
   pub serves_still : Serves s c x → Serves (record s { current = current }) c x
   serves_still h =
       subst (λ (calls : List Call). Serves (record s { calls = calls; current = current }) c x)
-      (changed_self (told s c (λ (k : Call). k.messages) (λ (k : Call). k.finished) (λ (k : Call). k.taken) (λ (k : Call). k.end_taken) current) c.number s.calls c refl h.sees.own)
+      (changed_self (reported s c (λ (k : Call). k.messages) (λ (k : Call). k.finished) (λ (k : Call). k.taken) (λ (k : Call). k.end_taken) current) c.number s.calls c refl h.sees.own)
       (serves_same h)

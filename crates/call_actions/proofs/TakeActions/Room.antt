@@ -78,7 +78,7 @@ module _ (s : Seen) (c : Call) (x : Stepped) (h : Serves s c x) (k : Holds s c x
       ∙ ap (λ (n : ℕ). has_room (is_some (commitment c s)) (is_some (furthest c s)) n (length m)) (held_is s c x.call.buffer k)
       ∙ ap (λ (t : Bool). if is_some (commitment c s) then nat_lt (held_bytes c s) 65536 else t) (fits_is m (is_some (furthest c s)))
 
--- a message that was accepted, and that does not commit the call, is kept behind all others
+-- a message that was accepted, and that does not commit the call, is kept after all others
 pub low_by : (n : ℕ) (t : Bool) → nat_lt n 65536 ≡ t → nat_le 65536 n ≡ not (nat_lt n 65536)
 low_by n true e =
     let low : n < 65536 = ltb-true n 65536 e in lt-leb 65536 n low ∙ sym (ap not e)
@@ -155,7 +155,7 @@ module _ (b : Buffered) (m : List ℕ) (row : ℕ) (over : pushed_over b (framed
       ∙ ap (committed_to row) (more_is b m (Some row))
       ∙ sym (ap (λ (t : Bool). if t then committed_to row longer else longer) open_now)
 
--- both have the same bytes more behind the same place
+-- both have the same bytes more after the same place
 pub at_more : (t : ℕ) (text : List ℕ) (d : ℕ) (all more : List ℕ) → IsAt t text d all → IsAt t (text ++ more) d (all ++ more)
 at_more t text d all more h =
     let within : t ≤ length text = h.within in

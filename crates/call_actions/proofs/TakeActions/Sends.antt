@@ -4,7 +4,7 @@ use Rattle.std.proofs.lemmas.Grind.{fold-append}
 use Rattle.std.specs.Option.{option_map, option_map_or}
 use Rattle.attempt_buffer.specs.Buffers.{Buffered, held}
 use Rattle.attempt_ledger.specs.declared.ledger.CallEnd.{CallEnd}
-use Rattle.call_actions.proofs.Bare.{some_still}
+use Rattle.call_actions.proofs.Unconfigured.{some_still}
 use Rattle.call_actions.specs.Sees.{longest}
 use Rattle.call_core.specs.Laws as channel
 use Rattle.call_core.specs.Parts as parts
@@ -31,7 +31,7 @@ use Rattle.session_actions.specs.declared.config.HeldConfig.{HeldConfig}
 use Rattle.session_actions.specs.declared.entry.OpenEntry.{OpenEntry}
 use Rattle.session_actions.specs.declared.seen.Seen.{Seen}
 use Rattle.call_actions.proofs.TakeActions.Posted.{refusal_by, refused_by, session_refusal}
-use Rattle.call_actions.proofs.TakeActions.Retold.{came_same, resumed, sees_told, told}
+use Rattle.call_actions.proofs.TakeActions.Retold.{came_same, resumed, sees_reported, reported}
 use Rattle.call_actions.proofs.TakeActions.Room.{committed_is, fed_longer, held_is, held_longer, pushed_is, room_is}
 use Rattle.call_actions.proofs.TakeActions.Takes.{answer, answered, done, replied_is}
 use Rattle.call_actions.specs.TakeActions.Laws.{Agrees, IsDone, IsPosted, SendsAreAnswered}
@@ -72,12 +72,12 @@ module _ (s : Seen) (c : Call) (x : Stepped) (m : List ℕ) (p : IsPosted (event
   -- it is refused
   pub send_refused : (why : Refusal) → refusal_by (is_some c.end) c.finished ≡ Some why → Goal
   send_refused why e =
-      let told_why : steps.send_refusal x.call ≡ Some why = refused_by s c x h (Some why) e in
+      let reported_why : steps.send_refusal x.call ≡ Some why = refused_by s c x h (Some why) e in
       let next : event_action (event.Send c.number m) s ≡ Some (action.EventRefused why)
       = ap (λ (o : Option Refusal). event_action_by o (event.Send c.number m) s) (session_refusal s c x h going (Some why) e) in
       let refused : Sent (reply.Refused why) x = answered (event.Send c.number m) s c (reply.Refused why) x p (action.EventRefused why) next refl h in
-      subst (Sent (steps.send_reply m x.call)) (sym (ap (λ (o : Option Refusal). steps.sent_if o m (now s) x) told_why))
-      (subst (λ (r : Reply). Sent r x) (sym (ap (λ (o : Option Refusal). steps.send_reply_if o m x.call) told_why)) refused)
+      subst (Sent (steps.send_reply m x.call)) (sym (ap (λ (o : Option Refusal). steps.sent_if o m (now s) x) reported_why))
+      (subst (λ (r : Reply). Sent r x) (sym (ap (λ (o : Option Refusal). steps.send_reply_if o m x.call) reported_why)) refused)
 
   -- it is not: the call is open
   module _ (free : refusal_by (is_some c.end) c.finished ≡ None) (is_open : c.end ≡ None) where
@@ -111,10 +111,10 @@ module _ (s : Seen) (c : Call) (x : Stepped) (m : List ℕ) (p : IsPosted (event
     send_full e =
         let full : full_with (length m) x.call ≡ Some (held x.call.buffer) = full_is false e in
         let held_now : reply.Full (held_bytes c s) ≡ reply.Full (held x.call.buffer) = sym (ap (λ (n : ℕ). reply.Full n) (held_is s c x.call.buffer has)) in
-        let told_full : Sent (reply.Full (held_bytes c s)) x
+        let reported_full : Sent (reply.Full (held_bytes c s)) x
         = answered (event.Send c.number m) s c (reply.Full (held_bytes c s)) x p (action.EventAnswered (reply.Full (held_bytes c s))) (action_is false e) refl h in
         subst (Sent (steps.send_reply m x.call)) (sym (step_free ∙ ap (λ (o : Option ℕ). accepted_if o m (now s) x) full))
-        (subst (λ (r : Reply). Sent r x) (sym (reply_free ∙ ap full_reply full ∙ sym held_now)) told_full)
+        (subst (λ (r : Reply). Sent r x) (sym (reply_free ∙ ap full_reply full ∙ sym held_now)) reported_full)
 
     -- it is accepted
     abbrev pub longer_buffer : Buffered
@@ -127,14 +127,14 @@ module _ (s : Seen) (c : Call) (x : Stepped) (m : List ℕ) (p : IsPosted (event
     sent_open = option_map (answer reply.Done) s.current
 
     abbrev pub sent_call : Call
-    sent_call = told s c (λ (k : Call). k.messages ++ m ∷ []) (λ (k : Call). k.finished) (λ (k : Call). k.taken) (λ (k : Call). k.end_taken) sent_open c
+    sent_call = reported s c (λ (k : Call). k.messages ++ m ∷ []) (λ (k : Call). k.finished) (λ (k : Call). k.taken) (λ (k : Call). k.end_taken) sent_open c
 
     abbrev pub then_sent : Seen
     then_sent = message_accepted c.number (event.Send c.number m) s
 
     pub serves_sent : Serves then_sent sent_call longer_call
     serves_sent = record {
-      sees = sees_told s c (λ (k : Call). k.messages ++ m ∷ []) (λ (k : Call). k.finished) (λ (k : Call). k.taken) (λ (k : Call). k.end_taken) sent_open x
+      sees = sees_reported s c (λ (k : Call). k.messages ++ m ∷ []) (λ (k : Call). k.finished) (λ (k : Call). k.taken) (λ (k : Call). k.end_taken) sent_open x
           x.call.is_finished (max x.call.longest (length m)) longer_buffer x.call.inbox h.sees.finished
           (longest_more c.messages m ∙ ap (λ (n : ℕ). max n (length m)) h.sees.longest_is) (some_still (answer reply.Done) s.current) h.sees;
       places = h.places;

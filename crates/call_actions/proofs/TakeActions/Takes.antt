@@ -4,7 +4,7 @@ use Rattle.std.proofs.lemmas.Bool.{both_ways}
 use Rattle.std.specs.Option.{option_and_then, option_map, option_map_or}
 use Rattle.attempt_ledger.specs.declared.ledger.CallEnd.{CallEnd}
 use Rattle.attempt_ledger.specs.declared.row.RowEnd.{RowEnd}
-use Rattle.call_actions.proofs.Bare.{some_still}
+use Rattle.call_actions.proofs.Unconfigured.{some_still}
 use Rattle.call_core.specs.Laws as channel
 use Rattle.call_core.specs.Parts.{first_of, rest_of}
 use Rattle.call_core.specs.Steps as steps
@@ -34,7 +34,7 @@ use Rattle.session_actions.specs.declared.entry.Stage.TheVariants as stage
 use Rattle.session_actions.specs.declared.seen.Seen.{Seen}
 use Rattle.call_actions.proofs.TakeActions.Items.{end_is, next_end, next_is, waits_head, waits_messages}
 use Rattle.call_actions.proofs.TakeActions.Lists.{longer}
-use Rattle.call_actions.proofs.TakeActions.Retold.{came_same, sees_told, serves_still, told}
+use Rattle.call_actions.proofs.TakeActions.Retold.{came_same, sees_reported, serves_still, reported}
 use Rattle.call_actions.specs.TakeActions.Laws.{Agrees, IsDone, IsPosted, TakesAreItems, reply_of}
 use Rattle.call_actions.specs.TakeActions.Serves.{Holds, IsLeft, Serves, came}
 
@@ -104,7 +104,7 @@ module _ (s : Seen) (c : Call) (x : Stepped) (p : IsPosted (event.Take c.number)
     now_open item = option_map (answer item) s.current
 
     abbrev pub then_called : Reply → Call
-    then_called item = told s c (λ (k : Call). k.messages) (λ (k : Call). k.finished) (λ (k : Call). k.taken + 1) (λ (k : Call). is_end item) (now_open item) c
+    then_called item = reported s c (λ (k : Call). k.messages) (λ (k : Call). k.finished) (λ (k : Call). k.taken + 1) (λ (k : Call). is_end item) (now_open item) c
 
     abbrev pub with_inbox : Inbox → CallState
     with_inbox i = record x.call { inbox = i }
@@ -115,7 +115,7 @@ module _ (s : Seen) (c : Call) (x : Stepped) (p : IsPosted (event.Take c.number)
     serves_taken item i ends goes rest =
         let still : is_some (now_open item) ≡ is_some s.current = some_still (answer item) s.current in
         record {
-          sees = sees_told s c (λ (k : Call). k.messages) (λ (k : Call). k.finished) (λ (k : Call). k.taken + 1) (λ (k : Call). is_end item) (now_open item) x
+          sees = sees_reported s c (λ (k : Call). k.messages) (λ (k : Call). k.finished) (λ (k : Call). k.taken + 1) (λ (k : Call). is_end item) (now_open item) x
               x.call.is_finished x.call.longest x.call.buffer i h.sees.finished h.sees.longest_is still h.sees;
           places = h.places;
           config = h.config;
@@ -146,10 +146,10 @@ module _ (s : Seen) (c : Call) (x : Stepped) (p : IsPosted (event.Take c.number)
     pub one_less : (item : Reply) (others : List Reply) (i : Inbox) → channel.came x.call ≡ item ∷ others → channel.came (with_inbox i) ≡ others
         → IsLeft (came c s) (c.taken + 1) (channel.came (with_inbox i))
     one_less item others i was is_now = record {
-      front = left.front ++ (item ∷ []);
-      count = longer left.front item c.taken left.count;
-      joined = left.joined ∙ ap (λ (z : List Reply). left.front ++ z) was ∙ sym (append_assoc left.front (item ∷ []) others)
-          ∙ ap (λ (z : List Reply). (left.front ++ (item ∷ [])) ++ z) (sym is_now);
+      prefix = left.prefix ++ (item ∷ []);
+      count = longer left.prefix item c.taken left.count;
+      joined = left.joined ∙ ap (λ (z : List Reply). left.prefix ++ z) was ∙ sym (append_assoc left.prefix (item ∷ []) others)
+          ∙ ap (λ (z : List Reply). (left.prefix ++ (item ∷ [])) ++ z) (sym is_now);
     }
 
     pub take_head : (meta : List Field) → x.call.inbox.head ≡ Some meta → Taken (steps.take_reply x.ledger x.call) (steps.taken x.call)

@@ -1,6 +1,6 @@
 -- Where nothing changed of a call, and nothing came or was written for it, the channel holds for it what the session has.
 use Rattle.attempt_buffer.specs.Buffers.{Buffered, taken_by, text_of}
-use Rattle.call_actions.specs.Order.{AreNumbered}
+use Rattle.call_actions.specs.Order.{AttemptsAreNumbered}
 use Rattle.call_core.specs.Laws as channel
 use Rattle.call_actions.proofs.CallsApart.Acts.{IsIn, in_filter}
 use Rattle.call_actions.proofs.CallsApart.Kept.{commitment_same, due_same, made_same, plan_same}
@@ -26,12 +26,12 @@ use Rattle.std.proofs.lemmas.Bool.{and_parts}
 use Rattle.std.specs.List.{AllByRecursion}
 use Rattle.std.specs.Option.{option_map_or, option_or}
 use Rattle.call_actions.proofs.TakeActions.Lists.{IsThere, there}
-use Rattle.call_actions.specs.TakeActions.Serves.{AreFed, ArePlaced, Holds, IsAt, IsFed, IsLeft, came, drained_so_far, passed}
-use Rattle.call_actions.specs.TakesApart.Heard.{IsHeardAlike}
+use Rattle.call_actions.specs.TakeActions.Serves.{AttemptsAreFed, AttemptsStandInPlace, Holds, IsAt, IsFed, IsLeft, came, drained_so_far, passed}
+use Rattle.call_actions.specs.TakesApart.Received.{IsReceivedAlike}
 use Rattle.call_actions.specs.TakesApart.Laws.{DeadlinesStay, OthersAreDue, OthersAreServed, ServedTogether}
 
 -- the places of attempts
-placed_so : (n : ℕ) (xs : List Attempt) → AreNumbered n xs → ArePlaced n xs
+placed_so : (n : ℕ) (xs : List Attempt) → AttemptsAreNumbered n xs → AttemptsStandInPlace n xs
 placed_so n [] p = tt
 placed_so n (x ∷ xs) p = (p.0, placed_so (suc n) xs p.1)
 
@@ -61,19 +61,19 @@ own_at : (c : Call) (xs : List Attempt) (i : ℕ) (a : Attempt) → slice_get (f
 own_at c [] i a got = absurd (cc)
 own_at c (x ∷ xs) i a got = own_by c x xs (is_of c x) refl i a got (λ j there_too. own_at c xs j a there_too)
 
-module _ (s t : Seen) (c : Call) (k : IsApart s t c) (heard : IsHeardAlike s t c) (own : numbered s.calls c.number ≡ Some c) (places : AreNumbered 1 s.attempts) where
+module _ (s t : Seen) (c : Call) (k : IsApart s t c) (handled : IsReceivedAlike s t c) (own : numbered s.calls c.number ≡ Some c) (places : AttemptsAreNumbered 1 s.attempts) where
   -- the attempt to which it is committed is one of it
   came_by : (o : Option Attempt) → ((a : Attempt) → o ≡ Some a → IsIn s.attempts a × (is_of c a ≡ true))
       → option_map_or (λ (a : Attempt). response_items (response a t)) o [] ≡ option_map_or (λ (a : Attempt). response_items (response a s)) o []
   came_by None there = refl
   came_by (Some a) there =
-      let i : IsIn s.attempts a × (is_of c a ≡ true) = there a refl in heard.came (suc i.0.index) a i.0.here i.1
+      let i : IsIn s.attempts a × (is_of c a ≡ true) = there a refl in handled.came (suc i.0.index) a i.0.here i.1
 
   drained_by : (o : Option Attempt) → ((a : Attempt) → o ≡ Some a → IsIn s.attempts a × (is_of c a ≡ true))
       → option_map_or (λ (a : Attempt). drained a t) o 0 ≡ option_map_or (λ (a : Attempt). drained a s) o 0
   drained_by None there = refl
   drained_by (Some a) there =
-      let i : IsIn s.attempts a × (is_of c a ≡ true) = there a refl in heard.written (suc i.0.index) a i.0.here i.1
+      let i : IsIn s.attempts a × (is_of c a ≡ true) = there a refl in handled.written (suc i.0.index) a i.0.here i.1
 
   there_now : (a : Attempt) → commitment c s ≡ Some a → IsIn s.attempts a × (is_of c a ≡ true)
   there_now a e =
@@ -96,11 +96,11 @@ module _ (s t : Seen) (c : Call) (k : IsApart s t c) (heard : IsHeardAlike s t c
   fed_one b i a got fed =
       let j : IsIn s.attempts a = in_filter (is_of c) s.attempts i a got in
       subst (λ (n : ℕ). IsFed (taken_by a.place b) (text_of b) (is_outstanding a) n (framed_all c.messages))
-      (sym (heard.written (suc j.index) a j.here (own_at c s.attempts i a got))) fed
+      (sym (handled.written (suc j.index) a j.here (own_at c s.attempts i a got))) fed
 
-  pub fed_same : (b : Buffered) → AreFed s c b (filter (is_of c) s.attempts) → AreFed t c b (filter (is_of c) t.attempts)
+  pub fed_same : (b : Buffered) → AttemptsAreFed s c b (filter (is_of c) s.attempts) → AttemptsAreFed t c b (filter (is_of c) t.attempts)
   fed_same b fed =
-      subst (AreFed t c b) (sym k.attempts)
+      subst (AttemptsAreFed t c b) (sym k.attempts)
       (all_in (λ (a : Attempt). IsFed (taken_by a.place b) (text_of b) (is_outstanding a) (drained a s) (framed_all c.messages))
       (λ (a : Attempt). IsFed (taken_by a.place b) (text_of b) (is_outstanding a) (drained a t) (framed_all c.messages)) (filter (is_of c) s.attempts)
       (λ i a got one. fed_one b i a got one) fed)
@@ -113,7 +113,7 @@ module _ (s t : Seen) (c : Call) (k : IsApart s t c) (heard : IsHeardAlike s t c
   }
 
 pub others_are_served : OthersAreServed
-others_are_served s t c x ledger acts k heard book h order recorded linked = record {
+others_are_served s t c x ledger acts k handled book h order recorded linked = record {
   sees = others_are_seen s t c x ledger acts k h.sees order recorded;
   places = placed_so 1 t.attempts book.places;
   config = h.config ∙ sym (ap (λ (o : Option HeldConfig). is_some o) k.config);
@@ -122,13 +122,13 @@ others_are_served s t c x ledger acts k heard book h order recorded linked = rec
   counted = counted_by t book.counted (run_number c t);
   end_taken = h.end_taken;
   going = h.going;
-  left = λ e. subst (λ (all : List Reply). IsLeft all c.taken (channel.came x.call)) (sym (came_same s t c k heard h.sees.own order.places)) (h.left e);
-  holds = λ is_open. held_same s t c k heard h.sees.own order.places x.call.buffer (h.holds is_open);
+  left = λ e. subst (λ (all : List Reply). IsLeft all c.taken (channel.came x.call)) (sym (came_same s t c k handled h.sees.own order.places)) (h.left e);
+  holds = λ is_open. held_same s t c k handled h.sees.own order.places x.call.buffer (h.holds is_open);
 }
 
 pub served_together : ServedTogether
-served_together s t c d x y acts k heard book h order g same =
-    others_are_served s t c x y.ledger acts k heard book h order (ledgers_are_shared s t c d x y k h.sees g.sees same) (record { links = g.links; reads = g.reads })
+served_together s t c d x y acts k handled book h order g same =
+    others_are_served s t c x y.ledger acts k handled book h order (ledgers_are_shared s t c d x y k h.sees g.sees same) (record { links = g.links; reads = g.reads })
 
 pub others_are_due : OthersAreDue
 others_are_due s t c k own order =

@@ -7,7 +7,7 @@ use Rattle.std.specs.Option.{option_map_or}
 use Rattle.std.specs.Prelude.{Bool, List, None, Option, Some, [], filter, if◌then◌else◌, is_none, is_some, length, not, option_and_then, option_map, slice_get, suc, true, ℕ, ◌&&◌, ◌+◌, ◌==◌, ◌≡◌, ◌∷◌}
 use Rattle.attempt_ledger.specs.Ends.{is_cut}
 use Rattle.attempt_ledger.specs.declared.row.RowEnd.{RowEnd}
-use Rattle.call_actions.specs.Order.{AreNumbered}
+use Rattle.call_actions.specs.Order.{AttemptsAreNumbered}
 use Rattle.h2_frame.specs.Numbers.{headers_type}
 use Rattle.session_actions.specs.Attempts.{is_of, is_to_follow, of_its_call}
 use Rattle.session_actions.specs.Configs.{config_of_call}
@@ -62,9 +62,9 @@ pub record IsApart (s t : Seen) (c : Call) : Type 0 where
 
 -- What a session keeps in order of all its calls: calls and attempts are numbered by their places; a call's config is there, and a config's run; and what
 -- a bucket counted are ends of attempts of calls that have a config
-abbrev pub AreCalls : ℕ → List Call → Type 0
-AreCalls n [] = Unit {0}
-AreCalls n (c ∷ calls) = (c.number ≡ n) × AreCalls (suc n) calls
+abbrev pub CallsAreNumbered : ℕ → List Call → Type 0
+CallsAreNumbered n [] = Unit {0}
+CallsAreNumbered n (c ∷ calls) = (c.number ≡ n) × CallsAreNumbered (suc n) calls
 
 abbrev pub has_config : Seen → Call → Bool
 has_config s c = option_map_or (λ k. is_some (numbered s.configs k)) c.config true
@@ -79,8 +79,8 @@ abbrev pub is_counted_there : Seen → ThrottleRun → Bool
 is_counted_there s run = list_all (λ place. holds (is_end_there s) (numbered s.attempts place)) run.ends
 
 pub record IsBook (s : Seen) : Type 0 where
-  pub calls : AreCalls 1 s.calls
-  pub places : AreNumbered 1 s.attempts
+  pub calls : CallsAreNumbered 1 s.calls
+  pub places : AttemptsAreNumbered 1 s.attempts
   pub configs : list_all (has_config s) s.calls ≡ true
   pub runs : list_all (has_run s) s.configs ≡ true
   pub counted : list_all (is_counted_there s) s.runs ≡ true

@@ -44,13 +44,13 @@ abbrev pub ApartJoins : Type 0
 ApartJoins = (s t u : Seen) (c : Call) → IsApart s t c → IsApart t u c → IsApart s u c
 
 -- nor does a list of actions of which none is of the call
-abbrev pub AreOfOthers : Call → List Action → Seen → Type 0
-AreOfOthers c [] s = Unit {0}
-AreOfOthers c (a ∷ actions) s = (is_number c.number (acts_on a s) ≡ false) × AreOfOthers c actions (after a s)
+abbrev pub ActionsAreOfOthers : Call → List Action → Seen → Type 0
+ActionsAreOfOthers c [] s = Unit {0}
+ActionsAreOfOthers c (a ∷ actions) s = (is_number c.number (acts_on a s) ≡ false) × ActionsAreOfOthers c actions (after a s)
 
 abbrev pub OthersAlong : Type 0
 OthersAlong =
-    (c : Call) (actions : List Action) (s t : Seen) → IsBook s → numbered s.calls c.number ≡ Some c → Does actions s t → AreOfOthers c actions s → IsApart s t c
+    (c : Call) (actions : List Action) (s t : Seen) → IsBook s → numbered s.calls c.number ≡ Some c → Does actions s t → ActionsAreOfOthers c actions s → IsApart s t c
 
 -- where nothing changed of a call, session and channel agree of it as before, with a ledger that is of the later history, and the tokens that its bucket
 -- then has

@@ -18,7 +18,7 @@ waits s c a = is_of c a && wants_follower a s
 
 pub record IsSteady (s : Seen) (c : Call) : Type 0 where
   pub turn : IsInTurn s c
-  pub calm : list_any (waits s c) s.attempts ≡ false
+  pub quiescent : list_any (waits s c) s.attempts ≡ false
 
 -- after an action the call of a number is so still
 pub record StaysSteady (t : Seen) (number : ℕ) : Type 0 where

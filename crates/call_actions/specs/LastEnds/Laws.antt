@@ -37,7 +37,7 @@ use Rattle.session_actions.specs.declared.attempt.Attempt.{Attempt}
 use Rattle.session_actions.specs.declared.call.Call.{Call}
 use Rattle.session_actions.specs.declared.response.Outcome.{Outcome}
 use Rattle.session_actions.specs.declared.seen.Seen.{Seen}
-use Rattle.call_actions.specs.TakeActions.Cuts.{AreCut, is_twin}
+use Rattle.call_actions.specs.TakeActions.Cuts.{AttemptsAreCut, is_twin}
 
 -- an end of a hedged call, with a code of its policy, after which a further attempt is due: whether another one goes on or not, the call does
 abbrev pub DueHedgesGoOn : Type 0
@@ -79,7 +79,7 @@ pub record CanClose (s : Seen) (c : Call) (k : Attempt) : Type 0 where
 pub record ClosesWithCuts (s : Seen) (c : Call) (place : ℕ) (end : RowEnd) (x : Stepped) : Type 0 where
   pub cuts : List Action
   pub seen : Seen
-  pub cut : AreCut c.number cuts (call_committed place (attempt_ended place end s)) seen
+  pub cut : AttemptsAreCut c.number cuts (call_committed place (attempt_ended place end s)) seen
   pub closes : Keeps (call_ended c.number ending.Row seen) c.number x
 
 abbrev pub FinalEndsCutOthers : Type 0
@@ -90,7 +90,7 @@ FinalEndsCutOthers =
     → ClosesWithCuts s c place (end_of a out s) (steps.ended_at place (news_of a out s) (now s) (next_word s) x)
 
 -- the attempt to which a call is committed ends, and was never sent: a transparent retry follows it at once, of its number, and takes the commitment over
--- (gRFC A6, "Transparent Retries"). (`calm`: no other attempt of the call waits for its follower.)
+-- (gRFC A6, "Transparent Retries"). (`quiescent`: no other attempt of the call waits for its follower.)
 abbrev pub CommittedAreRetried : Type 0
 CommittedAreRetried =
     (s : Seen) (c : Call) (x : Stepped) (place : ℕ) (a : Attempt) (out : Outcome) → Sees s c x → IsInOrder s c → IsInTurn s c → IsEnding s c place a out

@@ -19,12 +19,12 @@ use Rattle.session_actions.specs.declared.seen.Setup.{Setup}
 abbrev pub is_read_in_order : Link → Bool
 is_read_in_order l = list_all (is_read_by (read_bytes l)) l.traffic
 
-abbrev pub AreReadInOrder : Seen → Type 0
-AreReadInOrder s = list_all is_read_in_order s.links ≡ true
+abbrev pub LinksAreReadInOrder : Seen → Type 0
+LinksAreReadInOrder s = list_all is_read_in_order s.links ≡ true
 
 -- it is so before anything happened
 abbrev pub ReadsBegin : Type 0
-ReadsBegin = (setup : Setup) → AreReadInOrder (new_session setup)
+ReadsBegin = (setup : Setup) → LinksAreReadInOrder (new_session setup)
 
 -- and after each action: a frame that it reads, on the link of its number, ends no earlier than the bytes that were read
 abbrev pub ReadsOn : Action → Seen → Type 0
@@ -32,7 +32,7 @@ ReadsOn (action.FrameRead link r) s = (l : Link) → numbered s.links link ≡ S
 ReadsOn _ s = Unit {0}
 
 abbrev pub ReadsStay : Type 0
-ReadsStay = (s : Seen) (a : Action) → AreReadInOrder s → ReadsOn a s → AreReadInOrder (after a s)
+ReadsStay = (s : Seen) (a : Action) → LinksAreReadInOrder s → ReadsOn a s → LinksAreReadInOrder (after a s)
 
 -- the frame that the bytes of a link show next does so
 abbrev pub FramesComeAfter : Type 0
@@ -41,17 +41,17 @@ FramesComeAfter =
     → read_bytes l ≤ r.end
 
 -- links have the numbers of their places: of a new session, and after each action
-abbrev pub AreLinks : ℕ → List Link → Type 0
-AreLinks n [] = Unit {0}
-AreLinks n (l ∷ links) = (l.number ≡ n) × AreLinks (suc n) links
+abbrev pub LinksAreNumbered : ℕ → List Link → Type 0
+LinksAreNumbered n [] = Unit {0}
+LinksAreNumbered n (l ∷ links) = (l.number ≡ n) × LinksAreNumbered (suc n) links
 
 abbrev pub LinksBegin : Type 0
-LinksBegin = (setup : Setup) → AreLinks 1 (new_session setup).links
+LinksBegin = (setup : Setup) → LinksAreNumbered 1 (new_session setup).links
 
 abbrev pub LinksStay : Type 0
-LinksStay = (s : Seen) (a : Action) → AreLinks 1 s.links → AreLinks 1 (after a s).links
+LinksStay = (s : Seen) (a : Action) → LinksAreNumbered 1 s.links → LinksAreNumbered 1 (after a s).links
 
 -- so the frame that a link shows next is such a one
 abbrev pub NextReadsOn : Type 0
 NextReadsOn =
-    (s : Seen) (link : ℕ) (r : ReadFrame) → AreLinks 1 s.links → next_frame_read link s ≡ Some (action.FrameRead link r) → ReadsOn (action.FrameRead link r) s
+    (s : Seen) (link : ℕ) (r : ReadFrame) → LinksAreNumbered 1 s.links → next_frame_read link s ≡ Some (action.FrameRead link r) → ReadsOn (action.FrameRead link r) s

@@ -16,9 +16,9 @@ use Rattle.session_actions.specs.declared.seen.Seen.{Seen}
 abbrev pub next_cut_of : ℕ → Seen → Option Action
 next_cut_of number s = first_of (cut s) (filter (λ a. a.row.call == number) s.attempts)
 
-abbrev pub AreCut : ℕ → List Action → Seen → Seen → Type 0
-AreCut number [] s t = (next_cut_of number s ≡ None) × (t ≡ s)
-AreCut number (a ∷ actions) s t = (next_cut_of number s ≡ Some a) × AreCut number actions (after a s) t
+abbrev pub AttemptsAreCut : ℕ → List Action → Seen → Seen → Type 0
+AttemptsAreCut number [] s t = (next_cut_of number s ≡ None) × (t ≡ s)
+AttemptsAreCut number (a ∷ actions) s t = (next_cut_of number s ≡ Some a) × AttemptsAreCut number actions (after a s) t
 
 -- an attempt to which its call can be committed: it is outstanding, the call is open and not committed, and no other attempt of the call that goes on has
 -- its number (an attempt that follows another one transparently has the same number, and that one has ended)

@@ -37,8 +37,8 @@ use Rattle.session_actions.specs.declared.attempt.Attempt.{Attempt}
 use Rattle.session_actions.specs.declared.call.Call.{Call}
 use Rattle.session_actions.specs.declared.entry.OpenEntry.{OpenEntry}
 use Rattle.session_actions.specs.declared.seen.Seen.{Seen}
-use Rattle.call_actions.specs.TakeActions.Cuts.{AreCut, CanCommit}
-use Rattle.call_actions.specs.TakeActions.Serves.{ArePlaced, Serves}
+use Rattle.call_actions.specs.TakeActions.Cuts.{AttemptsAreCut, CanCommit}
+use Rattle.call_actions.specs.TakeActions.Serves.{AttemptsStandInPlace, Serves}
 
 -- an entry of this event is being made
 pub record IsPosted (e : Event) (s : Seen) : Type 0 where
@@ -64,12 +64,12 @@ pub record IsDone (e : Event) (s : Seen) (number : ℕ) (r : Reply) (x : Stepped
   pub agrees : Agrees (after does s) number x
 
 -- it begins a call: nothing came, and nothing was accepted. (The session keeps its attempts at their places, its links as the ledger has them, and no
--- frame was read behind what was read; no attempt is of a call to come.)
+-- frame was read after what was read; no attempt is of a call to come.)
 abbrev pub CallsBeginAlike : Type 0
 CallsBeginAlike =
     (s : Seen) (request : RequestSeen) (ledger : Ledger) (acts : List CallAct) → entry s ≡ ledger.entry → map (λ a. a.row) s.attempts ≡ ledger.rows
     → length s.calls ≡ length ledger.calls → list_any (is_of (begun_call (length s.calls + 1) (entry s) (now s) request)) s.attempts ≡ false
-    → ArePlaced 1 s.attempts → map link_seen s.links ≡ ledger.links → list_all (λ l. list_all (is_read_by (read_bytes l)) l.traffic) s.links ≡ true
+    → AttemptsStandInPlace 1 s.attempts → map link_seen s.links ≡ ledger.links → list_all (λ l. list_all (is_read_by (read_bytes l)) l.traffic) s.links ≡ true
     → Agrees (call_begun_by (event.Begin request) s) (length s.calls + 1)
     (lent (steps.new_call (length s.calls + 1) request (now s)) (begun_ledger ledger) None acts)
 
@@ -105,7 +105,7 @@ SendsAreAnswered =
 pub record IsCommitted (s : Seen) (c : Call) (k : Attempt) (x : Stepped) : Type 0 where
   pub cuts : List Action
   pub seen : Seen
-  pub cut : AreCut c.number cuts (call_committed k.place s) seen
+  pub cut : AttemptsAreCut c.number cuts (call_committed k.place s) seen
   pub agrees : Agrees seen c.number x
 
 abbrev pub CommitsCutOthers : Type 0
@@ -115,7 +115,7 @@ CommitsCutOthers =
     → response_items (response k s) ≡ channel.head_items inbox.head ++ channel.message_items inbox.messages
     → IsCommitted s c k (steps.committed k.place (now s) (record x { call = record x.call { buffer = committed_buffer k.place x.call.buffer; inbox = inbox } }))
 
--- by a head: the session commits the call for it, and the channel hears it
+-- by a head: the session commits the call for it, and the channel receives it
 pub record IsHead (s : Seen) (k : Attempt) (meta : List Field) : Type 0 where
   pub head : (response k s).head ≡ Some meta
   pub first : (response k s).messages ≡ []
@@ -123,7 +123,7 @@ pub record IsHead (s : Seen) (k : Attempt) (meta : List Field) : Type 0 where
 abbrev pub HeadsCommit : Type 0
 HeadsCommit =
     (s : Seen) (c : Call) (x : Stepped) (k : Attempt) (meta : List Field) → is_some s.current ≡ true → Serves s c x → CanCommit s c k → IsHead s k meta
-    → IsCommitted s c k (steps.heard_head k.place meta (now s) x)
+    → IsCommitted s c k (steps.received_head k.place meta (now s) x)
 
 -- by a message for which the call has no room but that of a committed one: it is accepted, and the call is committed to the attempt that was drained
 -- furthest (gRFC A6, "Memory Management (Buffering)")
@@ -146,7 +146,7 @@ SendsOverflow =
 pub record IsEnded (s : Seen) (c : Call) (why : EndCause) (x : Stepped) : Type 0 where
   pub cuts : List Action
   pub seen : Seen
-  pub cut : AreCut c.number cuts (call_ended c.number why s) seen
+  pub cut : AttemptsAreCut c.number cuts (call_ended c.number why s) seen
   pub agrees : Agrees seen c.number x
 
 abbrev pub EndsCutAttempts : Type 0

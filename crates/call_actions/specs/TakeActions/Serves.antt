@@ -25,9 +25,9 @@ use Rattle.session_actions.specs.declared.call.Call.{Call}
 use Rattle.session_actions.specs.declared.seen.Seen.{Seen}
 
 -- each attempt stands at its place
-abbrev pub ArePlaced : ℕ → List Attempt → Type 0
-ArePlaced n [] = Unit {0}
-ArePlaced n (a ∷ others) = (a.place ≡ n) × ArePlaced (suc n) others
+abbrev pub AttemptsStandInPlace : ℕ → List Attempt → Type 0
+AttemptsStandInPlace n [] = Unit {0}
+AttemptsStandInPlace n (a ∷ others) = (a.place ≡ n) × AttemptsStandInPlace (suc n) others
 
 -- what came of the response to which the call is committed: its head and its messages
 abbrev pub came : Call → Seen → List Reply
@@ -35,11 +35,11 @@ came c s = option_map_or (λ k. response_items (response k s)) (commitment c s) 
 
 -- of all that came so much was taken, and this is left
 pub record IsLeft (all : List Reply) (taken : ℕ) (left : List Reply) : Type 0 where
-  pub front : List Reply
-  pub count : length front ≡ taken
-  pub joined : all ≡ front ++ left
+  pub prefix : List Reply
+  pub count : length prefix ≡ taken
+  pub joined : all ≡ prefix ++ left
 
--- a place in the bytes that the channel holds, and one in all bytes of the accepted messages: the same bytes are behind both
+-- a place in the bytes that the channel holds, and one in all bytes of the accepted messages: the same bytes are after both
 pub record IsAt (taken : ℕ) (held : List ℕ) (written : ℕ) (all : List ℕ) : Type 0 where
   pub left : drop taken held ≡ drop written all
   pub within : taken ≤ length held
@@ -52,8 +52,8 @@ IsFed None held true written all = ⊥
 IsFed (Some taken) held false written all = ⊥
 IsFed (Some taken) held true written all = IsAt taken held written all
 
-abbrev pub AreFed : Seen → Call → Buffered → List Attempt → Type 0
-AreFed s c b attempts =
+abbrev pub AttemptsAreFed : Seen → Call → Buffered → List Attempt → Type 0
+AttemptsAreFed s c b attempts =
     AllByRecursion (λ a. IsFed (taken_by a.place b) (text_of b) (is_outstanding a) (drained a s) (framed_all c.messages)) attempts
 
 -- how many bytes of the messages were written for the attempt to which the call is committed
@@ -65,7 +65,7 @@ drained_so_far c s = option_map_or (λ k. drained k s) (commitment c s) 0
 
 -- the messages of an open call
 pub record Holds (s : Seen) (c : Call) (b : Buffered) : Type 0 where
-  pub fed : AreFed s c b (filter (is_of c) s.attempts)
+  pub fed : AttemptsAreFed s c b (filter (is_of c) s.attempts)
   pub held : IsAt (passed b) (text_of b) (drained_so_far c s) (framed_all c.messages)
   pub committed : is_some b.committed ≡ is_some (commitment c s)
 
@@ -75,12 +75,12 @@ is_ended_at s place = holds (λ a. is_some a.row.ended) (numbered s.attempts pla
 
 pub record Serves (s : Seen) (c : Call) (x : Stepped) : Type 0 where
   pub sees : Sees s c x
-  pub places : ArePlaced 1 s.attempts
+  pub places : AttemptsStandInPlace 1 s.attempts
   -- its configuration is one of those that were valid
   pub config : is_some c.config ≡ is_some (config_of_call c s)
   -- the links in the ledger, and whose ends its tokens count
   pub links : map link_seen s.links ≡ x.ledger.links
-  -- no frame was read behind the bytes that were read
+  -- no frame was read after the bytes that were read
   pub reads : list_all (λ l. list_all (is_read_by (read_bytes l)) l.traffic) s.links ≡ true
   pub counted : option_map_or (λ run. list_all (is_ended_at s) run.ends) (run_of c s) true ≡ true
   pub end_taken : c.end_taken ≡ x.call.inbox.is_end_taken

@@ -21,29 +21,29 @@ use Rattle.session_actions.specs.declared.action.Action.{Action}
 use Rattle.session_actions.specs.declared.call.Call.{Call}
 use Rattle.session_actions.specs.declared.seen.Seen.{Seen}
 use Rattle.call_actions.specs.TakeActions.Serves.{Serves}
-use Rattle.call_actions.specs.TakesApart.Heard.{IsHeardAlike, passes_on}
+use Rattle.call_actions.specs.TakesApart.Received.{IsReceivedAlike, passes_on}
 
 -- what came of a call's responses, and what was written of its messages, is as before, where neither the action nor what it passes on a link is of it
-abbrev pub OthersAreHeard : Type 0
-OthersAreHeard =
+abbrev pub OthersAreReceived : Type 0
+OthersAreReceived =
     (s : Seen) (c : Call) (a : Action) → IsBook s → numbered s.calls c.number ≡ Some c → is_number c.number (acts_on a s) ≡ false → passes_on a s c ≡ false
-    → IsHeardAlike s (after a s) c
+    → IsReceivedAlike s (after a s) c
 
--- a ledger has the links of the session, and no frame was read behind the bytes that were read
-pub record AreLinked (t : Seen) (ledger : Ledger) : Type 0 where
+-- a ledger has the links of the session, and no frame was read after the bytes that were read
+pub record LinksAgree (t : Seen) (ledger : Ledger) : Type 0 where
   pub links : map link_seen t.links ≡ ledger.links
   pub reads : list_all (λ l. list_all (is_read_by (read_bytes l)) l.traffic) t.links ≡ true
 
 -- and the channel holds of it what the session has
 abbrev pub OthersAreServed : Type 0
 OthersAreServed =
-    (s t : Seen) (c : Call) (x : Stepped) (ledger : Ledger) (acts : List CallAct) → IsApart s t c → IsHeardAlike s t c → IsBook t → Serves s c x → IsInOrder s c
-    → IsRecorded t c ledger → AreLinked t ledger → Serves t c (lent x.call ledger (tokens_in_run t (run_number c t)) acts)
+    (s t : Seen) (c : Call) (x : Stepped) (ledger : Ledger) (acts : List CallAct) → IsApart s t c → IsReceivedAlike s t c → IsBook t → Serves s c x → IsInOrder s c
+    → IsRecorded t c ledger → LinksAgree t ledger → Serves t c (lent x.call ledger (tokens_in_run t (run_number c t)) acts)
 
 -- so it is with the ledger of the step of another call, which agrees with the session too
 abbrev pub ServedTogether : Type 0
 ServedTogether =
-    (s t : Seen) (c d : Call) (x y : Stepped) (acts : List CallAct) → IsApart s t c → IsHeardAlike s t c → IsBook t → Serves s c x → IsInOrder s c → Serves t d y
+    (s t : Seen) (c d : Call) (x y : Stepped) (acts : List CallAct) → IsApart s t c → IsReceivedAlike s t c → IsBook t → Serves s c x → IsInOrder s c → Serves t d y
     → numbered y.ledger.calls c.number ≡ numbered x.ledger.calls c.number → Serves t c (lent x.call y.ledger (tokens_in_run t (run_number c t)) acts)
 
 -- its next attempt is due when it was, and its deadline is the same

@@ -10,7 +10,7 @@ use Rattle.channel_actions.proofs.Dialling.{applied_next, open_in, unshut_by}
 use Rattle.channel_actions.proofs.Resting.{of_order, to_order}
 use Rattle.channel_actions.proofs.Settles.{is_with_open, with_open}
 use Rattle.channel_actions.specs.Agrees.{Agrees}
-use Rattle.channel_actions.specs.Calm.{IsAt, IsCalm}
+use Rattle.channel_actions.specs.Quiescent.{IsAt, IsQuiescent}
 use Rattle.channel_actions.specs.Stages.{IsAnswered}
 use Rattle.channel_core.specs.Applying as channel
 use Rattle.channel_core.specs.Applying.{AnswersBy}
@@ -31,21 +31,21 @@ use Rattle.session_actions.specs.declared.action.Action.TheVariants as action
 use Rattle.session_actions.specs.declared.entry.OpenEntry.{OpenEntry}
 use Rattle.session_actions.specs.declared.entry.Stage.TheVariants as stage
 use Rattle.session_actions.specs.declared.seen.Seen.{Seen}
-use Rattle.session_order.specs.Laws.{CallsStir, CalmIsExact}
+use Rattle.session_order.specs.Laws.{CallsStir, QuiescenceIsExact}
 use Rattle.channel_actions.specs.SetFrames.Laws.{PairsComeIn, TestsAreSame}
 use Rattle.std.proofs.Common.{None, Option, Some, [], ap, false, refl, subst, sym, ◌∙◌, ◌∷◌, ◌≡◌}
 
-calm_after : CalmIsExact → CallsStir → (o : OpenEntry) (z : Seen) (request : RequestSeen) → o.event ≡ event.Begin request → z.shut ≡ false → IsKept (before o z request)
-    → IsCalm o (before o z request) → IsCalm (answered o z request) (later o z request)
-calm_after exact stir o z request is unshut kept calm =
+quiescent_after : QuiescenceIsExact → CallsStir → (o : OpenEntry) (z : Seen) (request : RequestSeen) → o.event ≡ event.Begin request → z.shut ≡ false → IsKept (before o z request)
+    → IsQuiescent o (before o z request) → IsQuiescent (answered o z request) (later o z request)
+quiescent_after exact stir o z request is unshut kept quiescent =
     let s : Seen = before o z request in
     let p : OpenEntry = answered o z request in
     let gone : after action.CallBegins s ≡ later o z request = does_so o z request is in
-    subst (IsCalm p) gone
+    subst (IsQuiescent p) gone
     (of_order exact p (after action.CallBegins s)
-    (λ l. stir.begun o s refl (request, is, unshut, have_calls s kept) l p (ap (λ (v : Seen). v.current) gone) refl (to_order exact o s calm l)))
+    (λ l. stir.begun o s refl (request, is, unshut, have_calls s kept) l p (ap (λ (v : Seen). v.current) gone) refl (to_order exact o s quiescent l)))
 
-module _ (exact : CalmIsExact) (stir : CallsStir) (others : AllCallsStay) (sets : SetsStay) (comes : PairsComeIn) (same : TestsAreSame)
+module _ (exact : QuiescenceIsExact) (stir : CallsStir) (others : AllCallsStay) (sets : SetsStay) (comes : PairsComeIn) (same : TestsAreSame)
     (o : OpenEntry) (z : Seen) (request : RequestSeen) (x : StateSeen) (h : Agrees x (before o z request)) (at : IsAt stage.Event o (before o z request)) (fresh : o.turn ≡ None)
     (timely : next_deadline (before o z request) ≡ None) (is : o.event ≡ event.Begin request) (kept : channel.refusal_of o.event x ≡ None) where
   abbrev s : Seen
@@ -75,7 +75,7 @@ module _ (exact : CalmIsExact) (stir : CallsStir) (others : AllCallsStay) (sets 
       does = (next, sym (does_so o z request is));
       posts = refl;
       same = record { moment = refl; word = refl; event = refl; entries = refl; setup = refl };
-      at = record { current = refl; stage_is = refl; calm = calm_after exact stir o z request is unshut h.kept at.calm };
+      at = record { current = refl; stage_is = refl; quiescent = quiescent_after exact stir o z request is unshut h.kept at.quiescent };
       agrees = agrees_now others sets comes same o z request x h is next;
     };
     reply = refl;
@@ -93,7 +93,7 @@ module _ (exact : CalmIsExact) (stir : CallsStir) (others : AllCallsStay) (sets 
       subst (λ (w : StateSeen). IsAnswered w r o s) (sym (given.0 ∙ state_is))
       (subst (λ (q : Reply). IsAnswered y q o s) (sym (given.1 ∙ reply_is x request (number o z request) (ledger_is others sets comes same o z request x h is next) (here others sets comes same o z request x h is next))) begins)
 
-pub begins_answered : CalmIsExact → CallsStir → AllCallsStay → SetsStay → PairsComeIn → TestsAreSame → BeginsAreAnswered
+pub begins_answered : QuiescenceIsExact → CallsStir → AllCallsStay → SetsStay → PairsComeIn → TestsAreSame → BeginsAreAnswered
 begins_answered exact stir others sets comes same x y r o s h at fresh timely case answers =
     let open_ : s ≡ with_open o s = is_with_open o s at.current in
     subst (λ (v : Seen). IsAnswered y r o v) (sym open_)

@@ -12,7 +12,7 @@ use Rattle.h2_link.specs.Feeds.{Line}
 use Rattle.h2_link.specs.Wire.{Wire}
 use Rattle.h2_link.specs.declared.live.LiveStream.{LiveStream}
 use Rattle.channel_actions.proofs.KeptSessions.Lists.{all_at, get_more}
-use Rattle.link_actions.specs.Sees.{AreFed, IsFed, SeesLink, by_stream}
+use Rattle.link_actions.specs.Sees.{StreamsAreFed, IsFed, SeesLink, by_stream}
 use Rattle.session_actions.specs.Attempts.{call_of}
 use Rattle.session_actions.specs.Configs.{chosen_of}
 use Rattle.session_actions.specs.Links.{link_of}
@@ -30,7 +30,7 @@ use Rattle.std.proofs.Common.{Bool, List, None, Option, Some, [], ap, false, if�
 use Rattle.std.proofs.Math.Path.{fun_ext}
 use Rattle.std.specs.List.{AllByRecursion, list_all}
 use Rattle.std.specs.Option.{option_map_or}
-use Rattle.link_actions.specs.StreamActions.Sees.{AreHeard, IsHeard, SeesStreams, response_of}
+use Rattle.link_actions.specs.StreamActions.Sees.{ResponsesAreReceived, IsReceived, SeesStreams, response_of}
 
 more_calls : {X : Type 0} (xs : List X) (y x : X) (k : ℕ) → numbered xs k ≡ Some x → numbered (xs ++ y ∷ []) k ≡ Some x
 more_calls xs y x zero e = absurd (cc)
@@ -75,24 +75,24 @@ module _ (o : OpenEntry) (z : Seen) (request : RequestSeen) (owned : list_all (�
       finished = q.finished;
     }
 
-    fed_all : (f : ℕ → Line) (xs : List LiveStream) (as_ : List Attempt) → AreFed l s f xs as_ → AreFed l t f xs as_
+    fed_all : (f : ℕ → Line) (xs : List LiveStream) (as_ : List Attempt) → StreamsAreFed l s f xs as_ → StreamsAreFed l t f xs as_
     fed_all f [] [] q = tt
     fed_all f (x ∷ xs) (a ∷ as_) q = (fed_one a (f x.tag) q.0, fed_all f xs as_ q.1)
     fed_all f [] (a ∷ as_) q = absurd q
     fed_all f (x ∷ xs) [] q = absurd q
 
-    heard_one : (x : LiveStream) (a : Attempt) → is_some (call_of a s) ≡ true → IsHeard l s x a → IsHeard l t x a
-    heard_one x a there q = record {
+    received_one : (x : LiveStream) (a : Attempt) → is_some (call_of a s) ≡ true → IsReceived l s x a → IsReceived l t x a
+    received_one x a there q = record {
       head = q.head ∙ sym (ap (λ (p : Response). is_some p.head) (response_same x.number a there));
       goes = ap (λ (p : Response). p.end) (response_same x.number a there) ∙ q.goes;
       small = ap (λ (p : Response). p.large) (response_same x.number a there) ∙ q.small;
     }
 
-    heard_all : (f : ℕ → Line) (xs : List LiveStream) (as_ : List Attempt) → AreFed l s f xs as_ → AreHeard l s xs as_ → AreHeard l t xs as_
-    heard_all f [] [] fed q = tt
-    heard_all f (x ∷ xs) (a ∷ as_) fed q = (heard_one x a (ap (λ (d : Option Call). is_some d) fed.0.call_is) q.0, heard_all f xs as_ fed.1 q.1)
-    heard_all f [] (a ∷ as_) fed q = absurd q
-    heard_all f (x ∷ xs) [] fed q = absurd q
+    received_all : (f : ℕ → Line) (xs : List LiveStream) (as_ : List Attempt) → StreamsAreFed l s f xs as_ → ResponsesAreReceived l s xs as_ → ResponsesAreReceived l t xs as_
+    received_all f [] [] fed q = tt
+    received_all f (x ∷ xs) (a ∷ as_) fed q = (received_one x a (ap (λ (d : Option Call). is_some d) fed.0.call_is) q.0, received_all f xs as_ fed.1 q.1)
+    received_all f [] (a ∷ as_) fed q = absurd q
+    received_all f (x ∷ xs) [] fed q = absurd q
 
     streams_still : (v : Wire) (f : ℕ → Line) → SeesStreams l s v f → SeesStreams l t v f
     streams_still v f q =
@@ -109,7 +109,7 @@ module _ (o : OpenEntry) (z : Seen) (request : RequestSeen) (owned : list_all (�
           tags = old.tags;
           places = old.places;
         } in
-        record { sees = new; heard = heard_all f v.live (by_stream (streaming_on l s)) old.fed q.heard; unheard = q.unheard; begun = q.begun }
+        record { sees = new; handled = received_all f v.live (by_stream (streaming_on l s)) old.fed q.handled; unreceived = q.unreceived; begun = q.begun }
 
     -- what attempts are fed with
     line_by : (q : Option Attempt) → ((a : Attempt) → q ≡ Some a → is_some (call_of a s) ≡ true)

@@ -23,13 +23,13 @@ use Rattle.std.proofs.Common.{Bool, List, Some, [], ap, arith, cond, eqb-true, f
 use Rattle.std.proofs.lemmas.Bool.{and_parts, or_from, or_parts}
 use Rattle.std.specs.List.{list_all, list_any}
 
--- nothing is behind the end of a list
-none_behind : {X : Type 0} (xs : List X) → is_some (slice_get xs (length xs)) ≡ false
-none_behind [] = refl
-none_behind (x ∷ xs) = none_behind xs
+-- nothing is after the end of a list
+none_afterwards : {X : Type 0} (xs : List X) → is_some (slice_get xs (length xs)) ≡ false
+none_afterwards [] = refl
+none_afterwards (x ∷ xs) = none_afterwards xs
 
 pub beyond : {X : Type 0} (xs : List X) → is_some (numbered xs (length xs + 1)) ≡ false
-beyond xs = let one : length xs + 1 ≡ suc (length xs) = omega arith in ap (λ (k : ℕ). is_some (numbered xs k)) one ∙ none_behind xs
+beyond xs = let one : length xs + 1 ≡ suc (length xs) = omega arith in ap (λ (k : ℕ). is_some (numbered xs k)) one ∙ none_afterwards xs
 
 pub last_is : {X : Type 0} (xs : List X) (y : X) → numbered (xs ++ y ∷ []) (length xs + 1) ≡ Some y
 last_is xs y = let one : length xs + 1 ≡ suc (length xs) = omega arith in ap (numbered (xs ++ y ∷ [])) one ∙ there xs y

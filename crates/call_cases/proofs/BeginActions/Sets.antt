@@ -2,7 +2,7 @@
 use Rattle.call_cases.proofs.BeginActions.New.{before, beyond, last_is, later, new_call, none_at, number}
 use Rattle.call_cases.proofs.BeginActions.Table.{begun_with}
 use Rattle.channel_actions.specs.Calls.{deadline_of, due_of}
-use Rattle.channel_actions.specs.Sets.{AreExactly, SeesSets, is_in_bare, is_in_deadlines, is_in_dues, is_in_impatient, is_in_patient, is_in_queue, is_patient, is_waiting}
+use Rattle.channel_actions.specs.Sets.{PairsAreExactly, SeesSets, is_awaiting_config, is_in_deadlines, is_in_dues, is_in_fail_fast, is_in_ready_waiters, is_in_queue, is_ready_waiter, is_waiting}
 use Rattle.channel_core.specs.States.{StateSeen}
 use Rattle.channel_core.specs.Steps.{says_yes}
 use Rattle.channel_core.specs.Timing.{timer_moved}
@@ -53,17 +53,17 @@ or_no : (b : Bool) → (b || false) ≡ b
 or_no true = refl
 or_no false = refl
 
-narrow : (own q : Attempt → Bool) (o : Option Attempt) → holds own o ≡ false → holds (λ (a : Attempt). own a && q a) o ≡ false
-narrow own q None e = refl
-narrow own q (Some a) e = and_left (own a) (q a) e
+restricted : (own q : Attempt → Bool) (o : Option Attempt) → holds own o ≡ false → holds (λ (a : Attempt). own a && q a) o ≡ false
+restricted own q None e = refl
+restricted own q (Some a) e = and_left (own a) (q a) e
 
 absent : {X : Type 0} (o : Option X) → is_some o ≡ false → o ≡ None
 absent None e = refl
 absent (Some x) e = absurd (cc)
 
-patience : (w : Option Bool) → unwrap_or (option_or w None) false ≡ says_yes w
-patience None = refl
-patience (Some b) = refl
+poll_delay : (w : Option Bool) → unwrap_or (option_or w None) false ≡ says_yes w
+poll_delay None = refl
+poll_delay (Some b) = refl
 
 -- two tests that agree at one number, and at all others
 each_by : (p q : ℕ → Bool) (n : ℕ) → p n ≡ q n → ((k : ℕ) → (k == n) ≡ false → q k ≡ p k) → (k : ℕ) (b : Bool) → (k == n) ≡ b → p k ≡ q k
@@ -75,8 +75,8 @@ each p q n here off k = each_by p q n here off k (k == n) refl
 
 -- one pair more, of a number of its own
 module _ (comes : PairsComeIn) (same : TestsAreSame) (n : ℕ) where
-  inserted : (pairs : List (ℕ × ℕ)) (old new : ℕ → ℕ → Bool) (m : ℕ) → AreExactly pairs old → ((a : ℕ) → old a n ≡ false) → ((a : ℕ) → new a n ≡ (a == m))
-      → ((a k : ℕ) → (k == n) ≡ false → new a k ≡ old a k) → AreExactly (insert_key pair_cmp pairs (m, n)) new
+  inserted : (pairs : List (ℕ × ℕ)) (old new : ℕ → ℕ → Bool) (m : ℕ) → PairsAreExactly pairs old → ((a : ℕ) → old a n ≡ false) → ((a : ℕ) → new a n ≡ (a == m))
+      → ((a k : ℕ) → (k == n) ≡ false → new a k ≡ old a k) → PairsAreExactly (insert_key pair_cmp pairs (m, n)) new
   inserted pairs old new m e none here off =
       same (insert_key pair_cmp pairs (m, n)) (λ a b. is_same (a, b) (m, n) || old a b) new (comes pairs old (m, n) e)
       (λ a b.
@@ -107,23 +107,23 @@ module _ (comes : PairsComeIn) (same : TestsAreSame) (o : OpenEntry) (z : Seen) 
   here_now = last_is z.calls c
 
   waits_not : (u : Seen) (row : ℕ) → holds (λ (a : Attempt). (a.row.call == n) && is_queued a u) (numbered z.attempts row) ≡ false
-  waits_not u row = narrow (is_of c) (λ (a : Attempt). is_queued a u) (numbered z.attempts row) (none_at (is_of c) z.attempts row unowned)
+  waits_not u row = restricted (is_of c) (λ (a : Attempt). is_queued a u) (numbered z.attempts row) (none_at (is_of c) z.attempts row unowned)
 
-  queue_now : AreExactly x.queue (is_in_queue t)
+  queue_now : PairsAreExactly x.queue (is_in_queue t)
   queue_now =
       same x.queue (is_in_queue s) (is_in_queue t) h.queue
       (λ k row.
       each (λ (j : ℕ). is_in_queue s j row) (λ (j : ℕ). is_in_queue t j row) n
-      (and_left (is_waiting s n row) (not (is_patient s n)) (waits_not s row) ∙ sym (and_left (is_waiting t n row) (not (is_patient t n)) (waits_not t row)))
+      (and_left (is_waiting s n row) (not (is_ready_waiter s n)) (waits_not s row) ∙ sym (and_left (is_waiting t n row) (not (is_ready_waiter t n)) (waits_not t row)))
       (λ j away. apart.queue j row away) k)
 
-  patient_now : AreExactly x.patient (is_in_patient t)
-  patient_now =
-      same x.patient (is_in_patient s) (is_in_patient t) h.patient
+  wait_for_ready_now : PairsAreExactly x.ready_waiters (is_in_ready_waiters t)
+  wait_for_ready_now =
+      same x.ready_waiters (is_in_ready_waiters s) (is_in_ready_waiters t) h.ready_waiters
       (λ k row.
-      each (λ (j : ℕ). is_in_patient s j row) (λ (j : ℕ). is_in_patient t j row) n
-      (and_left (is_waiting s n row) (is_patient s n) (waits_not s row) ∙ sym (and_left (is_waiting t n row) (is_patient t n) (waits_not t row)))
-      (λ j away. apart.patient j row away) k)
+      each (λ (j : ℕ). is_in_ready_waiters s j row) (λ (j : ℕ). is_in_ready_waiters t j row) n
+      (and_left (is_waiting s n row) (is_ready_waiter s n) (waits_not s row) ∙ sym (and_left (is_waiting t n row) (is_ready_waiter t n) (waits_not t row)))
+      (λ j away. apart.ready_waiters j row away) k)
 
   due_before : (m : ℕ) → is_in_dues s m n ≡ false
   due_before m = ap (holds (λ (d : Call). is_number m (due_of s d))) none_before
@@ -131,7 +131,7 @@ module _ (comes : PairsComeIn) (same : TestsAreSame) (o : OpenEntry) (z : Seen) 
   due_now : (m : ℕ) → is_in_dues t m n ≡ false
   due_now m = ap (holds (λ (d : Call). is_number m (due_of t d))) here_now ∙ ap (is_number m) undue
 
-  dues_now : AreExactly x.dues (is_in_dues t)
+  dues_now : PairsAreExactly x.dues (is_in_dues t)
   dues_now =
       same x.dues (is_in_dues s) (is_in_dues t) h.dues
       (λ m k. each (λ (j : ℕ). is_in_dues s m j) (λ (j : ℕ). is_in_dues t m j) n (due_before m ∙ sym (due_now m)) (λ j away. apart.dues m j away) k)
@@ -139,7 +139,7 @@ module _ (comes : PairsComeIn) (same : TestsAreSame) (o : OpenEntry) (z : Seen) 
   deadline_before : (m : ℕ) → is_in_deadlines s m n ≡ false
   deadline_before m = ap (holds (λ (d : Call). is_number m (deadline_of s d))) none_before
 
-  deadlines_by : (d : Option ℕ) → deadline_of t c ≡ d → AreExactly (timer_moved n None d x.deadlines) (is_in_deadlines t)
+  deadlines_by : (d : Option ℕ) → deadline_of t c ≡ d → PairsAreExactly (timer_moved n None d x.deadlines) (is_in_deadlines t)
   deadlines_by None is =
       same x.deadlines (is_in_deadlines s) (is_in_deadlines t) h.deadlines
       (λ m k.
@@ -151,43 +151,43 @@ module _ (comes : PairsComeIn) (same : TestsAreSame) (o : OpenEntry) (z : Seen) 
       (λ a. ap (holds (λ (d : Call). is_number a (deadline_of t d))) here_now ∙ ap (is_number a) is ∙ equal_back a moment (a == moment) refl)
       (λ a k away. apart.deadlines a k away)
 
-  bare_before : (a : ℕ) → is_in_bare s a n ≡ false
-  bare_before a =
+  unconfigured_before : (a : ℕ) → is_awaiting_config s a n ≡ false
+  unconfigured_before a =
       ap (λ (b : Option Call). (a == 0) && holds (λ (d : Call). is_open_call d && is_none d.config) b) none_before ∙ and_right (a == 0) false refl
 
-  bare_here : (a : ℕ) → is_in_bare t a n ≡ (a == 0)
-  bare_here a = ap (λ (b : Option Call). (a == 0) && holds (λ (d : Call). is_open_call d && is_none d.config) b) here_now ∙ and_one (a == 0)
+  unconfigured_here : (a : ℕ) → is_awaiting_config t a n ≡ (a == 0)
+  unconfigured_here a = ap (λ (b : Option Call). (a == 0) && holds (λ (d : Call). is_open_call d && is_none d.config) b) here_now ∙ and_one (a == 0)
 
-  bare_now : AreExactly (insert_key pair_cmp x.bare (0, n)) (is_in_bare t)
-  bare_now = inserted comes same n x.bare (is_in_bare s) (is_in_bare t) 0 h.bare bare_before bare_here (λ a k away. apart.bare a k away)
+  unconfigured_now : PairsAreExactly (insert_key pair_cmp x.awaiting_config (0, n)) (is_awaiting_config t)
+  unconfigured_now = inserted comes same n x.awaiting_config (is_awaiting_config s) (is_awaiting_config t) 0 h.awaiting_config unconfigured_before unconfigured_here (λ a k away. apart.awaiting_config a k away)
 
-  patient_is : is_patient t n ≡ says_yes request.wait
-  patient_is = ap (holds (λ (d : Call). waits_for_ready d t)) here_now ∙ patience request.wait
+  wait_for_ready_is : is_ready_waiter t n ≡ says_yes request.wait
+  wait_for_ready_is = ap (holds (λ (d : Call). waits_for_ready d t)) here_now ∙ poll_delay request.wait
 
-  impatient_before : (a : ℕ) → is_in_impatient s a n ≡ false
-  impatient_before a = and_left (is_in_bare s a n) (not (is_patient s n)) (bare_before a)
+  fail_fast_before : (a : ℕ) → is_in_fail_fast s a n ≡ false
+  fail_fast_before a = and_left (is_awaiting_config s a n) (not (is_ready_waiter s n)) (unconfigured_before a)
 
-  impatient_by : (b : Bool) → says_yes request.wait ≡ b → AreExactly (if b then x.impatient else insert_key pair_cmp x.impatient (0, n)) (is_in_impatient t)
-  impatient_by true is =
-      same x.impatient (is_in_impatient s) (is_in_impatient t) h.impatient
+  fail_fast_by : (b : Bool) → says_yes request.wait ≡ b → PairsAreExactly (if b then x.fail_fast else insert_key pair_cmp x.fail_fast (0, n)) (is_in_fail_fast t)
+  fail_fast_by true is =
+      same x.fail_fast (is_in_fail_fast s) (is_in_fail_fast t) h.fail_fast
       (λ a k.
-      each (λ (j : ℕ). is_in_impatient s a j) (λ (j : ℕ). is_in_impatient t a j) n
-      (impatient_before a ∙ sym (ap (λ (b : Bool). is_in_bare t a n && not b) (patient_is ∙ is) ∙ and_right (is_in_bare t a n) false refl))
-      (λ j away. apart.impatient a j away) k)
-  impatient_by false is =
-      inserted comes same n x.impatient (is_in_impatient s) (is_in_impatient t) 0 h.impatient impatient_before
-      (λ a. ap (λ (b : Bool). is_in_bare t a n && not b) (patient_is ∙ is) ∙ and_one (is_in_bare t a n) ∙ bare_here a) (λ a k away. apart.impatient a k away)
+      each (λ (j : ℕ). is_in_fail_fast s a j) (λ (j : ℕ). is_in_fail_fast t a j) n
+      (fail_fast_before a ∙ sym (ap (λ (b : Bool). is_awaiting_config t a n && not b) (wait_for_ready_is ∙ is) ∙ and_right (is_awaiting_config t a n) false refl))
+      (λ j away. apart.fail_fast a j away) k)
+  fail_fast_by false is =
+      inserted comes same n x.fail_fast (is_in_fail_fast s) (is_in_fail_fast t) 0 h.fail_fast fail_fast_before
+      (λ a. ap (λ (b : Bool). is_awaiting_config t a n && not b) (wait_for_ready_is ∙ is) ∙ and_one (is_awaiting_config t a n) ∙ unconfigured_here a) (λ a k away. apart.fail_fast a k away)
 
   pub sets_now : (y : StateSeen) (d : Option ℕ) → deadline_of t c ≡ d → y ≡ begun_with n d request x → SeesSets y t
   sets_now y d is same_state =
       subst (λ (v : StateSeen). SeesSets v t) (sym same_state)
       (record {
         queue = queue_now;
-        patient = patient_now;
+        ready_waiters = wait_for_ready_now;
         dues = dues_now;
         deadlines = deadlines_by d is;
-        bare = bare_now;
-        impatient = impatient_by (says_yes request.wait) refl;
+        awaiting_config = unconfigured_now;
+        fail_fast = fail_fast_by (says_yes request.wait) refl;
         outstanding = record { rising = h.outstanding.rising; exact = h.outstanding.exact };
         resets = h.resets;
       })

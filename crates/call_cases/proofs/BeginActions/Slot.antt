@@ -17,7 +17,7 @@ use Rattle.channel_core.specs.States.{StateSeen}
 use Rattle.channel_core.specs.Tables.{tokens_in}
 use Rattle.channel_core.specs.declared.state.slots.CallSlot.{CallSlot}
 use Rattle.grpc_base.specs.Requests.{RequestSeen}
-use Rattle.channel_actions.specs.KeptSessions.Kept.{AreCounted}
+use Rattle.channel_actions.specs.KeptSessions.Kept.{NumbersCountUp}
 use Rattle.channel_actions.specs.KeptSessions.Kept.{IsKept}
 use Rattle.session_actions.specs.Attempts.{is_of}
 use Rattle.session_actions.specs.Entries.{now}
@@ -34,7 +34,7 @@ use Rattle.std.specs.Option.{option_map_or}
 use Rattle.call_actions.proofs.TakeActions.Begins.{calls_begin_alike}
 use Rattle.call_actions.proofs.TakeActions.Deadlines.{deadline_is}
 use Rattle.call_actions.specs.TakeActions.Laws as served
-use Rattle.call_actions.specs.TakeActions.Serves.{ArePlaced, Serves}
+use Rattle.call_actions.specs.TakeActions.Serves.{AttemptsStandInPlace, Serves}
 
 -- one thing of a number
 pub one_of : (o : Option Call) (d e : Call) → o ≡ Some d → o ≡ Some e → d ≡ e
@@ -64,7 +64,7 @@ module _ (o : OpenEntry) (z : Seen) (request : RequestSeen) (x : StateSeen) (h :
   pub unowned : list_any (is_of c) z.attempts ≡ false
   unowned = none_yet o z request h.kept.owned
 
-  placed_from : (k : ℕ) (attempts : List Attempt) → AreCounted k (map (λ (a : Attempt). a.place) attempts) → ArePlaced k attempts
+  placed_from : (k : ℕ) (attempts : List Attempt) → NumbersCountUp k (map (λ (a : Attempt). a.place) attempts) → AttemptsStandInPlace k attempts
   placed_from k [] e = tt
   placed_from k (a ∷ attempts) e = (e.0, placed_from (suc k) attempts e.1)
 

@@ -3,7 +3,7 @@ use Rattle.call_core.specs.Steps.{deadline_at, new_call}
 use Rattle.channel_core.specs.Arrivals.{begun_by}
 use Rattle.channel_core.specs.Books.{fresh_slot}
 use Rattle.channel_core.specs.States.{StateSeen}
-use Rattle.channel_core.specs.Steps.{bare_added, begun, says_yes, timers_moved, timers_moved_to}
+use Rattle.channel_core.specs.Steps.{unconfigured_added, begun, says_yes, timers_moved, timers_moved_to}
 use Rattle.channel_core.specs.Tables.{changed_slot, changed_slot_at, changed_slot_on, with_timers}
 use Rattle.channel_core.specs.Timing.{timer_moved}
 use Rattle.channel_core.specs.declared.state.slots.CallSlot.{CallSlot}
@@ -55,15 +55,15 @@ new_slot n d request x = record { call = new_call n request x.book.moment; bucke
 abbrev pub begun_with : ℕ → Option ℕ → RequestSeen → StateSeen → StateSeen
 begun_with n d request x = record x {
   deadlines = timer_moved n None d x.deadlines;
-  bare = insert_key pair_cmp x.bare (0, n);
-  impatient = if says_yes request.wait then x.impatient else insert_key pair_cmp x.impatient (0, n);
+  awaiting_config = insert_key pair_cmp x.awaiting_config (0, n);
+  fail_fast = if says_yes request.wait then x.fail_fast else insert_key pair_cmp x.fail_fast (0, n);
   book = record x.book {
     calls = x.book.calls ++ new_slot n d request x ∷ [];
     ledger = record x.book.ledger { calls = x.book.ledger.calls ++ begun_call x.book.ledger.entry ∷ [] };
   };
 }
 
--- (the number is behind those of the ledger and of the table)
+-- (the number is after those of the ledger and of the table)
 module _ (x : StateSeen) (request : RequestSeen) (n : ℕ) (ledger_is : length x.book.ledger.calls + 1 ≡ n) (here : n ≡ suc (length x.book.calls)) where
   abbrev d : Option ℕ
   d = deadline_at (new_call n request x.book.moment)
@@ -72,7 +72,7 @@ module _ (x : StateSeen) (request : RequestSeen) (n : ℕ) (ledger_is : length x
   slot = fresh_slot n request x.book.moment
 
   abbrev z : StateSeen
-  z = bare_added n (says_yes request.wait)
+  z = unconfigured_added n (says_yes request.wait)
       (record x {
         book = record x.book { calls = x.book.calls ++ slot ∷ []; ledger = record x.book.ledger { calls = x.book.ledger.calls ++ begun_call x.book.ledger.entry ∷ [] } };
       })
@@ -82,7 +82,7 @@ module _ (x : StateSeen) (request : RequestSeen) (n : ℕ) (ledger_is : length x
       ap
       (λ (k : ℕ).
       timers_moved k
-      (bare_added k (says_yes request.wait)
+      (unconfigured_added k (says_yes request.wait)
       (record x {
         book = record x.book {
           calls = x.book.calls ++ fresh_slot k request x.book.moment ∷ [];

@@ -18,11 +18,11 @@ use Rattle.call_cases.proofs.EndsFollow.Cuts.{IsOneCut, one_cut}
 use Rattle.call_cases.proofs.EndsFollow.Follow.{HasCut, base, cut_all, mid}
 use Rattle.call_cases.proofs.EndsFollow.Stays.{IsBase}
 use Rattle.call_cases.proofs.EndsFollow.Steps.{IsMid, IsOneReset, IsReset, after_is, mid_cut, one_reset, reset_mid}
-use Rattle.call_cases.specs.EndsFollow.Cuts.{AreReset, cut_off}
+use Rattle.call_cases.specs.EndsFollow.Cuts.{StreamsAreReset, cut_off}
 use Rattle.call_cases.specs.EndsFollow.Laws.{IsNextToEnd}
 use Rattle.grpc_base.specs.declared.event.EndCause.{EndCause}
 use Rattle.channel_actions.specs.KeptSessions.Kept.{IsKept}
-use Rattle.call_cases.specs.OtherCalls.Others.{AreOfCall, GoesApart, IsBooked, IsOfCall}
+use Rattle.call_cases.specs.OtherCalls.Others.{ActionsAreOfCall, GoesApart, IsBooked, IsOfCall}
 use Rattle.session_actions.specs.Actions.{after, after_if}
 use Rattle.session_actions.specs.AttemptEnds.{cut_end, end_of}
 use Rattle.session_actions.specs.Attempts.{is_to_follow}
@@ -38,7 +38,7 @@ use Rattle.session_actions.specs.declared.config.ThrottleRun.{ThrottleRun}
 use Rattle.session_actions.specs.declared.entry.OpenEntry.{OpenEntry}
 use Rattle.session_actions.specs.declared.seen.Seen.{Seen}
 use Rattle.session_order.specs.declared.line.Line.{Line}
-use Rattle.call_actions.specs.TakeActions.Cuts.{AreCut}
+use Rattle.call_actions.specs.TakeActions.Cuts.{AttemptsAreCut}
 
 -- an action is of the call, and no bucket counts it
 record IsOurs (n : ℕ) (a : Action) (v : Seen) : Type 0 where
@@ -54,7 +54,7 @@ ours_on : (n : ℕ) (xs ys : List Action) (s t : Seen) → AreOurs n xs s → Do
 ours_on n [] ys s t are does rest = subst (AreOurs n ys) does rest
 ours_on n (x ∷ xs) ys s t are does rest = (are.0, ours_on n xs ys (after x s) t are.1 does.1 rest)
 
-of_ours : (n : ℕ) (acts : List Action) (s : Seen) → AreOurs n acts s → AreOfCall n acts s
+of_ours : (n : ℕ) (acts : List Action) (s : Seen) → AreOurs n acts s → ActionsAreOfCall n acts s
 of_ours n [] s are = tt
 of_ours n (a ∷ acts) s are = (are.0.of, of_ours n acts (after a s) are.1)
 
@@ -93,16 +93,16 @@ module _ (waits : Line → Bool) (n : ℕ) (o : OpenEntry) (b v : Seen) (base : 
   }
 
 module _ (waits : Line → Bool) (n : ℕ) (o : OpenEntry) (b : Seen) (base : IsBase n b) where
-  our_cuts : (cuts : List Action) (v t : Seen) → IsMid waits n o b v → AreCut n cuts v t → AreOurs n cuts v
+  our_cuts : (cuts : List Action) (v t : Seen) → IsMid waits n o b v → AttemptsAreCut n cuts v t → AreOurs n cuts v
   our_cuts [] v t is are = tt
   our_cuts (act ∷ cuts) v t is are =
       let one : IsOneCut n v act o = one_cut n v act o is.left.done is.book.places is.current are.0 in (
         our_cut waits n o b v base act one,
         subst (AreOurs n cuts) (sym one.does)
-            (our_cuts cuts (cut_off one.attempt v) t (mid_cut waits n o b v base is act one) (subst (λ (z : Seen). AreCut n cuts z t) one.does are.1)),
+            (our_cuts cuts (cut_off one.attempt v) t (mid_cut waits n o b v base is act one) (subst (λ (z : Seen). AttemptsAreCut n cuts z t) one.does are.1)),
       )
 
-  our_resets : (acts : List Action) (v u : Seen) → IsReset waits n o b v → AreReset acts v u → AreOurs n acts v
+  our_resets : (acts : List Action) (v u : Seen) → IsReset waits n o b v → StreamsAreReset acts v u → AreOurs n acts v
   our_resets [] v u is are = tt
   our_resets (act ∷ acts) v u is are =
       let one : IsOneReset n v act = one_reset waits n o b v is act are.0 in

@@ -13,14 +13,14 @@ use Rattle.channel_actions.proofs.Settles.{is_with_open, reopened, with_open}
 use Rattle.channel_actions.proofs.Stamps.{counted_at}
 use Rattle.channel_actions.specs.Agrees.{Agrees}
 use Rattle.channel_actions.specs.Calls.{HasSlot}
-use Rattle.channel_actions.specs.Calm.{IsAt}
+use Rattle.channel_actions.specs.Quiescent.{IsAt}
 use Rattle.channel_actions.specs.Stages.{IsAnswered}
 use Rattle.channel_core.specs.Applying as channel
 use Rattle.channel_core.specs.Applying.{AnswersBy}
 use Rattle.channel_core.specs.Arrivals.{cancelled}
 use Rattle.channel_core.specs.States.{StateSeen}
 use Rattle.channel_core.specs.Tables.{cancel_reply_of}
-use Rattle.call_cases.specs.EndsFollow.Cuts.{AreUnreset}
+use Rattle.call_cases.specs.EndsFollow.Cuts.{NoStreamIsToReset}
 use Rattle.grpc_base.specs.declared.event.EndCause.{EndCause}
 use Rattle.grpc_base.specs.declared.event.EndCause.TheVariants as ending
 use Rattle.grpc_base.specs.declared.event.Event.{Event}
@@ -47,10 +47,10 @@ use Rattle.session_actions.specs.declared.call.MarkKind.TheVariants as mark
 use Rattle.session_actions.specs.declared.entry.OpenEntry.{OpenEntry}
 use Rattle.session_actions.specs.declared.entry.Stage.TheVariants as stage
 use Rattle.session_actions.specs.declared.seen.Seen.{Seen}
-use Rattle.session_order.proofs.Calms.{calm_is_exact, first_line_gives}
+use Rattle.session_order.proofs.Quiescence.{quiescence_is_exact, first_line_gives}
 use Rattle.session_order.proofs.Ended.{ended_leaves}
 use Rattle.session_order.proofs.Posts.{answered_leaves}
-use Rattle.session_order.specs.Calm.{IsStill}
+use Rattle.session_order.specs.Quiescent.{IsStill}
 use Rattle.session_order.specs.Lines.{is_line, rank}
 use Rattle.session_order.specs.declared.line.Line.{Line}
 use Rattle.session_order.specs.declared.line.Line.TheVariants as line
@@ -112,17 +112,17 @@ less_by : (a b : Bool) → (a ≡ true → b ≡ true) → b ≡ false → a ≡
 less_by true b turn e = absurd (let bad : true ≡ false = sym (turn refl) ∙ e in (cc))
 less_by false b turn e = refl
 
-none_narrow : (p q : Call → Bool) (xs : List Call) → ((c : Call) → p c ≡ true → q c ≡ true) → list_any q xs ≡ false → list_any p xs ≡ false
-none_narrow p q [] turn e = refl
-none_narrow p q (x ∷ xs) turn e =
+none_restricted : (p q : Call → Bool) (xs : List Call) → ((c : Call) → p c ≡ true → q c ≡ true) → list_any q xs ≡ false → list_any p xs ≡ false
+none_restricted p q [] turn e = refl
+none_restricted p q (x ∷ xs) turn e =
     let parts : (q x ≡ false) × (list_any q xs ≡ false) = parts_of_or (q x) (list_any q xs) e in
-    ap (λ (b : Bool). b || list_any p xs) (less_by (p x) (q x) (turn x) parts.0) ∙ none_narrow p q xs turn parts.1
+    ap (λ (b : Bool). b || list_any p xs) (less_by (p x) (q x) (turn x) parts.0) ∙ none_restricted p q xs turn parts.1
 
-request_narrow : (a l b m p : Bool) → p ≡ false → (a && (l || p)) ≡ true → (a && (l || (b && m))) ≡ true
-request_narrow a l b m true e h = absurd (cc)
-request_narrow true true b m false e h = refl
-request_narrow true false b m false e h = absurd (cc)
-request_narrow false l b m false e h = absurd (cc)
+request_restricted : (a l b m p : Bool) → p ≡ false → (a && (l || p)) ≡ true → (a && (l || (b && m))) ≡ true
+request_restricted a l b m true e h = absurd (cc)
+request_restricted true true b m false e h = refl
+request_restricted true false b m false e h = absurd (cc)
+request_restricted false l b m false e h = absurd (cc)
 
 last_true : (a b c : Bool) → (a && b && c) ≡ true → c ≡ true
 last_true true true c h = h
@@ -139,7 +139,7 @@ none_cause o p e h = sym e ∙ ap (option_map (λ (k : CallEnd). k.cause)) h
 
 module _ (ends : OneCallEnds) (x : StateSeen) (o : OpenEntry) (s : Seen) (h : Agrees x s) (at : IsAt stage.Event o s) (fresh : o.turn ≡ None) (timely : next_deadline s ≡ None)
     (n : ℕ) (is : o.event ≡ event.Cancel n) (kept : channel.refusal_of (event.Cancel n) x ≡ None) (c : Call) (there : numbered s.calls n ≡ Some c) (going : c.end ≡ None)
-    (unreset : AreUnreset s) where
+    (unreset : NoStreamIsToReset s) where
   abbrev o1 : OpenEntry
   o1 = replied_entry reply.Done o
 
@@ -163,7 +163,7 @@ module _ (ends : OneCallEnds) (x : StateSeen) (o : OpenEntry) (s : Seen) (h : Ag
   answered = ap (λ (q : Option OpenEntry). after_if q (action.EventAnswered reply.Done) s) at.current ∙ replied_is reply.Done o s at.current
 
   still0 : (l : Line) → IsStill l o s
-  still0 = (calm_is_exact o s).0 (at.calm.calls, at.calm.links, at.calm.policies)
+  still0 = (quiescence_is_exact o s).0 (at.quiescent.calls, at.quiescent.links, at.quiescent.policies)
 
   other_lines : (l : Line) → is_line l line.Cancelled ≡ false → is_line l line.Request ≡ false → IsStill l o1 s1
   other_lines l e f =
@@ -173,8 +173,8 @@ module _ (ends : OneCallEnds) (x : StateSeen) (o : OpenEntry) (s : Seen) (h : Ag
 
   request : IsStill line.Request o1 s1
   request =
-      none_narrow (has_long_request o1 s1) (has_long_request o s) s.calls
-      (λ d e. request_narrow (is_open_call d) (list_any (λ (m : List ℕ). is_too_long m d s) d.messages) (is_after_event o) (sends_too_long o.event d s)
+      none_restricted (has_long_request o1 s1) (has_long_request o s) s.calls
+      (λ d e. request_restricted (is_open_call d) (list_any (λ (m : List ℕ). is_too_long m d s) d.messages) (is_after_event o) (sends_too_long o.event d s)
       (is_after_event o1 && sends_too_long o.event d s1) (ap (λ (v : Event). sends_too_long v d s1) is) e)
       (still0 line.Request)
 
@@ -312,12 +312,12 @@ module _ (ends : OneCallEnds) (x : StateSeen) (o : OpenEntry) (s : Seen) (h : Ag
   if_none true z e = e
   if_none false z e = refl
 
-  calm_again : (l : Line) → IsStill l o1 ended.seen
-  calm_again l = ended.still l refl
+  quiescent_again : (l : Line) → IsStill l o1 ended.seen
+  quiescent_again l = ended.still l refl
 
   pub is_answered : IsAnswered (cancelled n x).state reply.Done o s
   is_answered =
-      let back = (calm_is_exact o1 ended.seen).1 calm_again in
+      let back = (quiescence_is_exact o1 ended.seen).1 quiescent_again in
       record {
         reaches = record {
           actions = action.EventAnswered reply.Done ∷ action.CallEnds n ending.Cancelled ∷ ended.actions;
@@ -326,7 +326,7 @@ module _ (ends : OneCallEnds) (x : StateSeen) (o : OpenEntry) (s : Seen) (h : Ag
           does = (event_next o s at timely (action.EventAnswered reply.Done) asked, subst (λ (z : Seen). Does (action.CallEnds n ending.Cancelled ∷ ended.actions) z ended.seen) (sym answered) ended.does);
           posts = ended.posts;
           same = record { moment = refl; word = refl; event = refl; entries = ended.entries; setup = ended.setup };
-          at = record { current = ended.current; stage_is = refl; calm = record { calls = back.0; links = back.1; policies = back.2 } };
+          at = record { current = ended.current; stage_is = refl; quiescent = record { calls = back.0; links = back.1; policies = back.2 } };
           agrees = ended.agrees;
         };
         reply = refl;

@@ -285,7 +285,7 @@ module _ (waits : Line → Bool) (n : ℕ) (why : EndCause) (x : StateSeen) (o :
   pub timers_on : TimersAgree w u
   timers_on =
       let k = timers_agree waits n why x o s is on.kept in
-      record { dues = k.dues; deadlines = k.deadlines; bare = k.bare; impatient = k.impatient }
+      record { dues = k.dues; deadlines = k.deadlines; awaiting_config = k.awaiting_config; fail_fast = k.fail_fast }
 
   pub agree : AgreesApart y u
   agree = subst (λ (z : StateSeen). AgreesApart z u) (sym whole)

@@ -13,7 +13,7 @@ use Rattle.channel_actions.specs.Links.{HasLink, SeesLinks}
 use Rattle.channel_core.specs.States.{StateSeen}
 use Rattle.call_cases.proofs.EndsFollow.Follow.{cuts_are_out, ends_follow}
 use Rattle.call_cases.proofs.EndsFollow.Steps.{call_number}
-use Rattle.call_cases.specs.EndsFollow.Cuts.{AreReset}
+use Rattle.call_cases.specs.EndsFollow.Cuts.{StreamsAreReset}
 use Rattle.call_cases.specs.EndsFollow.Laws.{AreAllOut, FollowsOn, IsNextToEnd, is_late}
 use Rattle.call_actions.proofs.EndsInOrder.InOrder.{ends_stay_in_order}
 use Rattle.call_actions.specs.EndsInOrder.Laws.{EndsInOrder}
@@ -21,7 +21,7 @@ use Rattle.grpc_base.specs.declared.event.EndCause.{EndCause}
 use Rattle.channel_actions.proofs.KeptSessions.Along.{kept_along, kept_stays}
 use Rattle.channel_actions.specs.KeptSessions.Kept.{IsKept}
 use Rattle.call_cases.proofs.LinkEnds.Ends.{calls_end_off_links, cuts_are_reset}
-use Rattle.call_cases.specs.LinkEnds.Laws.{AreResetToo, with_cuts}
+use Rattle.call_cases.specs.LinkEnds.Laws.{StreamsAreResetToo, with_cuts}
 use Rattle.net_actions.proofs.NetFrames.Left.{same_nets_agree}
 use Rattle.session_actions.specs.Actions.{after, after_if}
 use Rattle.session_actions.specs.AttemptEnds.{cut, cut_end, end_of, reset_code_of, reset_of}
@@ -39,7 +39,7 @@ use Rattle.grpc_base.specs.declared.event.Stamped.{Stamped}
 use Rattle.session_actions.specs.declared.seen.Seen.{Seen}
 use Rattle.session_order.specs.declared.line.Line.{Line}
 use Rattle.session_order.specs.declared.line.Line.TheVariants as line
-use Rattle.call_actions.specs.TakeActions.Cuts.{AreCut}
+use Rattle.call_actions.specs.TakeActions.Cuts.{AttemptsAreCut}
 
 -- no event is posted by cuts and resets
 cut_if : (b : Bool) (one act : Action) (o : Option Action) → posted_by one ≡ None → (o ≡ Some act → posted_by act ≡ None)
@@ -52,7 +52,7 @@ cut_unposted s [] act e = absurd (cc)
 cut_unposted s (a ∷ xs) act e =
     cut_if (is_outstanding a && is_over a s) (action.AttemptEnds a.place (end_of a cut_end s)) act (first_of (cut s) xs) refl (cut_unposted s xs act) e
 
-pub cuts_unposted : (n : ℕ) (acts : List Action) (s t : Seen) → AreCut n acts s t → posted_in acts ≡ []
+pub cuts_unposted : (n : ℕ) (acts : List Action) (s t : Seen) → AttemptsAreCut n acts s t → posted_in acts ≡ []
 cuts_unposted n [] s t are = refl
 cuts_unposted n (act ∷ acts) s t are =
     ap (λ (o : Option Stamped). option_to_list o ++ posted_in acts) (cut_unposted s (filter (λ (a : Attempt). a.row.call == n) s.attempts) act are.0)
@@ -66,7 +66,7 @@ reset_unposted : (s : Seen) (o : Option Attempt) (act : Action) → option_and_t
 reset_unposted s None act e = absurd (cc)
 reset_unposted s (Some a) act e = reset_if a.place (reset_code_of s a) act e
 
-pub resets_unposted : (acts : List Action) (s t : Seen) → AreReset acts s t → posted_in acts ≡ []
+pub resets_unposted : (acts : List Action) (s t : Seen) → StreamsAreReset acts s t → posted_in acts ≡ []
 resets_unposted [] s t are = refl
 resets_unposted (act ∷ acts) s t are =
     ap (λ (o : Option Stamped). option_to_list o ++ posted_in acts) (reset_unposted s _ act are.0) ∙ resets_unposted acts (after act s) t are.1
@@ -116,13 +116,13 @@ module _ (waits : Line → Bool) (n : ℕ) (why : EndCause) (x : StateSeen) (o :
   abbrev pub their : List Action
   their = ended.ended.cuts
 
-  pub are_cut : AreCut n their b t
-  are_cut = subst (λ (k : ℕ). AreCut k their (call_ended k why s) t) own ended.ended.cut
+  pub are_cut : AttemptsAreCut n their b t
+  are_cut = subst (λ (k : ℕ). AttemptsAreCut k their (call_ended k why s) t) own ended.ended.cut
 
   pub out : AreAllOut n why s t
   out = cuts_are_out waits n why o s t their next are_cut
 
-  pub resets : AreResetToo (with_cuts out.attempts x) t
+  pub resets : StreamsAreResetToo (with_cuts out.attempts x) t
   resets = is.reset t out.attempts out.all out.off
 
   pub on : FollowsOn waits n why o s (their ++ resets.actions) resets.seen

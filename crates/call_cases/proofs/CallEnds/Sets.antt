@@ -7,7 +7,7 @@ use Rattle.call_cases.proofs.CallEnds.Alone.{goes_apart, has_cut}
 use Rattle.call_cases.proofs.CallEnds.On.{next, resets, t}
 use Rattle.call_cases.specs.CallEnds.Ends.{IsToEnd, TimersAgree}
 use Rattle.channel_actions.specs.Calls.{HasSlot, deadline_of, due_of}
-use Rattle.channel_actions.specs.Sets.{AreExactly, is_in_bare, is_in_deadlines, is_in_dues, is_in_impatient, is_patient}
+use Rattle.channel_actions.specs.Sets.{PairsAreExactly, is_awaiting_config, is_in_deadlines, is_in_dues, is_in_fail_fast, is_ready_waiter}
 use Rattle.channel_core.specs.States.{StateSeen}
 use Rattle.channel_core.specs.Timing.{timer_moved}
 use Rattle.call_cases.proofs.EndsFollow.Cuts.{IsDone}
@@ -55,9 +55,9 @@ closed_by_end None e = absurd (cc)
 closed_by_end (Some x) e = refl
 
 -- a pair of the call that is taken out of such a set
-module _ (n : ℕ) (pairs : List (ℕ × ℕ)) (test other : ℕ → ℕ → Bool) (h : AreExactly pairs test) (away : (m k : ℕ) → (k == n) ≡ false → other m k ≡ test m k)
+module _ (n : ℕ) (pairs : List (ℕ × ℕ)) (test other : ℕ → ℕ → Bool) (h : PairsAreExactly pairs test) (away : (m k : ℕ) → (k == n) ≡ false → other m k ≡ test m k)
     (gone : (m : ℕ) → (test m n && not (is_same (0, n) (m, n))) ≡ false) (none : (m : ℕ) → other m n ≡ false) where
-  pub taken_out : AreExactly (remove_key (is_same (0, n)) pairs) other
+  pub taken_out : PairsAreExactly (remove_key (is_same (0, n)) pairs) other
   taken_out =
       exactly_by (remove_key (is_same (0, n)) pairs) (λ (a b : ℕ). test a b && not (is_same (0, n) (a, b))) other (exactly_remove pairs test (0, n) h)
       (λ a b. by_number n (λ (i j : ℕ). test i j && not (is_same (0, n) (i, j))) other
@@ -93,8 +93,8 @@ module _ (waits : Line → Bool) (n : ℕ) (why : EndCause) (x : StateSeen) (o :
         ap (holds (λ (c : Call). is_number m (deadline_of u c))) done.there
         ∙ ap (λ (b : Bool). is_number m (if b then deadline done.call u else None)) closed
 
-    none_bare : (m : ℕ) → is_in_bare u m n ≡ false
-    none_bare m =
+    none_unconfigured : (m : ℕ) → is_awaiting_config u m n ≡ false
+    none_unconfigured m =
         ap (λ (q : Option Call). (m == 0) && holds (λ (c : Call). is_open_call c && is_none c.config) q) done.there
         ∙ ap (λ (b : Bool). (m == 0) && (b && is_none done.call.config)) closed ∙ and_false (m == 0)
 
@@ -104,8 +104,8 @@ module _ (waits : Line → Bool) (n : ℕ) (why : EndCause) (x : StateSeen) (o :
     pub timers_agree : TimersAgree (record x {
       dues = timer_moved n has.slot.due None x.dues;
       deadlines = timer_moved n has.slot.deadline None x.deadlines;
-      bare = remove_key (is_same (0, n)) x.bare;
-      impatient = remove_key (is_same (0, n)) x.impatient;
+      awaiting_config = remove_key (is_same (0, n)) x.awaiting_config;
+      fail_fast = remove_key (is_same (0, n)) x.fail_fast;
     }) u
     timers_agree = record {
       dues = timers_exactly n x.dues (is_in_dues s) has.slot.due None is.agrees.sets.dues
@@ -114,9 +114,9 @@ module _ (waits : Line → Bool) (n : ℕ) (why : EndCause) (x : StateSeen) (o :
       deadlines = timers_exactly n x.deadlines (is_in_deadlines s) has.slot.deadline None is.agrees.sets.deadlines
           (λ m. ap (holds (λ (c : Call). is_number m (deadline_of s c))) is.there ∙ ap (is_number m) has.sees.deadline_is)
           (is_in_deadlines u) (λ m k e. apart.deadlines m k e) none_past;
-      bare = taken_out n x.bare (is_in_bare s) (is_in_bare u) is.agrees.sets.bare (λ m k e. apart.bare m k e)
-          (λ m. gone_by (m == 0) (is_same (0, n) (m, n)) (holds (λ (c : Call). is_open_call c && is_none c.config) (numbered s.calls n)) (zero_key m)) none_bare;
-      impatient = taken_out n x.impatient (is_in_impatient s) (is_in_impatient u) is.agrees.sets.impatient (λ m k e. apart.impatient m k e)
-          (λ m. gone_too (m == 0) (is_same (0, n) (m, n)) (holds (λ (c : Call). is_open_call c && is_none c.config) (numbered s.calls n)) (not (is_patient s n)) (zero_key m))
-          (λ m. ap (λ (b : Bool). b && not (is_patient u n)) (none_bare m));
+      awaiting_config = taken_out n x.awaiting_config (is_awaiting_config s) (is_awaiting_config u) is.agrees.sets.awaiting_config (λ m k e. apart.awaiting_config m k e)
+          (λ m. gone_by (m == 0) (is_same (0, n) (m, n)) (holds (λ (c : Call). is_open_call c && is_none c.config) (numbered s.calls n)) (zero_key m)) none_unconfigured;
+      fail_fast = taken_out n x.fail_fast (is_in_fail_fast s) (is_in_fail_fast u) is.agrees.sets.fail_fast (λ m k e. apart.fail_fast m k e)
+          (λ m. gone_too (m == 0) (is_same (0, n) (m, n)) (holds (λ (c : Call). is_open_call c && is_none c.config) (numbered s.calls n)) (not (is_ready_waiter s n)) (zero_key m))
+          (λ m. ap (λ (b : Bool). b && not (is_ready_waiter u n)) (none_unconfigured m));
     }

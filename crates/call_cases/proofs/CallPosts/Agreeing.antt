@@ -1,12 +1,12 @@
--- Once a call was told something, channel and session agree: where the channel changed the slot of that call alone, and the call's own agreement holds.
+-- Once a call was notified of something, channel and session agree: where the channel changed the slot of that call alone, and the call's own agreement holds.
 use Rattle.call_actions.proofs.Lists.{changed_here}
 use Rattle.call_core.specs.declared.state.CallState.{CallState}
-use Rattle.call_cases.proofs.CallPosts.Fed.{link_told}
-use Rattle.call_cases.proofs.CallPosts.Told.{bare_told, buckets_told, calls_told, deadlines_told, due_told, f, map_changed, order_told, patient_told, s, t, turn_told, waiting_told}
+use Rattle.call_cases.proofs.CallPosts.Fed.{link_reported}
+use Rattle.call_cases.proofs.CallPosts.Report.{unconfigured_reported, buckets_reported, calls_reported, deadlines_reported, due_reported, f, map_changed, order_reported, wait_for_ready_reported, s, t, turn_reported, waiting_reported}
 use Rattle.channel_actions.specs.Agrees.{Agrees}
 use Rattle.channel_actions.specs.Calls.{HasSlot, SeesCall, SeesCalls, due_of, lent_to}
 use Rattle.channel_actions.specs.Columns.{SeesColumns}
-use Rattle.channel_actions.specs.Sets.{is_in_bare, is_in_dues, is_in_impatient, is_in_patient, is_in_queue, is_patient, is_waiting}
+use Rattle.channel_actions.specs.Sets.{is_awaiting_config, is_in_dues, is_in_fail_fast, is_in_ready_waiters, is_in_queue, is_ready_waiter, is_waiting}
 use Rattle.channel_core.specs.States.{StateSeen}
 use Rattle.channel_core.specs.Tables.{numbered as slot_numbered, with_call}
 use Rattle.channel_core.specs.declared.state.slots.CallSlot.{CallSlot}
@@ -62,7 +62,7 @@ module _ (along : KeptAlong) (s0 : Seen) (o : OpenEntry) (r : Reply) (c : Call) 
     columns : SeesColumns x.book.ledger v
     columns = record {
       rows = h.columns.rows;
-      calls = calls_told s0 o r c messages finished taken end_taken ∙ h.columns.calls;
+      calls = calls_reported s0 o r c messages finished taken end_taken ∙ h.columns.calls;
       asks = h.columns.asks;
       generations = h.columns.generations;
       links = h.columns.links;
@@ -72,7 +72,7 @@ module _ (along : KeptAlong) (s0 : Seen) (o : OpenEntry) (r : Reply) (c : Call) 
     books = record {
       entry_is = h.clock.entry_is;
       columns = columns;
-      buckets = buckets_told s0 o r c messages finished taken end_taken x.book.buckets h.buckets;
+      buckets = buckets_reported s0 o r c messages finished taken end_taken x.book.buckets h.buckets;
       slots = put.others;
     }
 
@@ -84,9 +84,9 @@ module _ (along : KeptAlong) (s0 : Seen) (o : OpenEntry) (r : Reply) (c : Call) 
       sees = record {
         bucket = sees.bucket;
         serves = serves;
-        order = order_told s0 o r c messages finished taken end_taken c sees.order;
-        turn = turn_told s0 o r c messages finished taken end_taken c sees.turn;
-        due = due_told s0 o r c messages finished taken end_taken c ∙ sees.due;
+        order = order_reported s0 o r c messages finished taken end_taken c sees.order;
+        turn = turn_reported s0 o r c messages finished taken end_taken c sees.turn;
+        due = due_reported s0 o r c messages finished taken end_taken c ∙ sees.due;
         deadline_is = sees.deadline_is;
       };
     }
@@ -112,7 +112,7 @@ module _ (along : KeptAlong) (s0 : Seen) (o : OpenEntry) (r : Reply) (c : Call) 
     own_due : (moment : ℕ) → is_in_dues v moment c.number ≡ is_in_dues u moment c.number
     own_due moment =
         ap (holds (λ (d : Call). is_number moment (due_of v d))) (changed_here g c.number s0.calls c own)
-        ∙ ap (is_number moment) (due_told s0 o r c messages finished taken end_taken c)
+        ∙ ap (is_number moment) (due_reported s0 o r c messages finished taken end_taken c)
         ∙ sym (ap (holds (λ (d : Call). is_number moment (due_of u d))) own)
 
     due_by : (moment k : ℕ) (b : Bool) → (k == c.number) ≡ b → is_in_dues v moment k ≡ is_in_dues u moment k
@@ -123,36 +123,36 @@ module _ (along : KeptAlong) (s0 : Seen) (o : OpenEntry) (r : Reply) (c : Call) 
 
     queue_same : (k row : ℕ) → is_in_queue v k row ≡ is_in_queue u k row
     queue_same k row =
-        ap (λ (b : Bool). b && not (is_patient v k)) (waiting_told s0 o r c messages finished taken end_taken k row)
-        ∙ ap (λ (b : Bool). is_waiting u k row && not b) (patient_told s0 o r c messages finished taken end_taken k)
+        ap (λ (b : Bool). b && not (is_ready_waiter v k)) (waiting_reported s0 o r c messages finished taken end_taken k row)
+        ∙ ap (λ (b : Bool). is_waiting u k row && not b) (wait_for_ready_reported s0 o r c messages finished taken end_taken k)
 
-    patient_same : (k row : ℕ) → is_in_patient v k row ≡ is_in_patient u k row
-    patient_same k row =
-        ap (λ (b : Bool). b && is_patient v k) (waiting_told s0 o r c messages finished taken end_taken k row)
-        ∙ ap (λ (b : Bool). is_waiting u k row && b) (patient_told s0 o r c messages finished taken end_taken k)
+    wait_for_ready_same : (k row : ℕ) → is_in_ready_waiters v k row ≡ is_in_ready_waiters u k row
+    wait_for_ready_same k row =
+        ap (λ (b : Bool). b && is_ready_waiter v k) (waiting_reported s0 o r c messages finished taken end_taken k row)
+        ∙ ap (λ (b : Bool). is_waiting u k row && b) (wait_for_ready_reported s0 o r c messages finished taken end_taken k)
 
-    impatient_same : (zero_ k : ℕ) → is_in_impatient v zero_ k ≡ is_in_impatient u zero_ k
-    impatient_same zero_ k =
-        ap (λ (b : Bool). b && not (is_patient v k)) (bare_told s0 o r c messages finished taken end_taken zero_ k)
-        ∙ ap (λ (b : Bool). is_in_bare u zero_ k && not b) (patient_told s0 o r c messages finished taken end_taken k)
+    fail_fast_same : (zero_ k : ℕ) → is_in_fail_fast v zero_ k ≡ is_in_fail_fast u zero_ k
+    fail_fast_same zero_ k =
+        ap (λ (b : Bool). b && not (is_ready_waiter v k)) (unconfigured_reported s0 o r c messages finished taken end_taken zero_ k)
+        ∙ ap (λ (b : Bool). is_awaiting_config u zero_ k && not b) (wait_for_ready_reported s0 o r c messages finished taken end_taken k)
 
-    pub told_agrees : Agrees y v
-    told_agrees = record {
+    pub reported_agrees : Agrees y v
+    reported_agrees = record {
       clock = record { entry_is = h.clock.entry_is; moment = h.clock.moment; draws = h.clock.draws };
       columns = columns;
       configs = record { authority = h.configs.authority; shut = h.configs.shut; held = h.configs.held; unconfigured = h.configs.unconfigured; policy = h.configs.policy };
-      buckets = buckets_told s0 o r c messages finished taken end_taken x.book.buckets h.buckets;
+      buckets = buckets_reported s0 o r c messages finished taken end_taken x.book.buckets h.buckets;
       calls = calls;
-      links = record { count = h.links.count; each = λ k l at. link_told s0 o r c messages finished taken end_taken grows x y k l refl h.kept.attempts (h.links.each k l at) };
+      links = record { count = h.links.count; each = λ k l at. link_reported s0 o r c messages finished taken end_taken grows x y k l refl h.kept.attempts (h.links.each k l at) };
       net = h.net;
       orderly = h.orderly;
       sets = record {
         queue = record { rising = h.sets.queue.rising; exact = λ a b. h.sets.queue.exact a b ∙ sym (queue_same a b) };
-        patient = record { rising = h.sets.patient.rising; exact = λ a b. h.sets.patient.exact a b ∙ sym (patient_same a b) };
+        ready_waiters = record { rising = h.sets.ready_waiters.rising; exact = λ a b. h.sets.ready_waiters.exact a b ∙ sym (wait_for_ready_same a b) };
         dues = record { rising = h.sets.dues.rising; exact = λ a b. h.sets.dues.exact a b ∙ sym (due_by a b (b == c.number) refl) };
-        deadlines = record { rising = h.sets.deadlines.rising; exact = λ a b. h.sets.deadlines.exact a b ∙ sym (deadlines_told s0 o r c messages finished taken end_taken a b) };
-        bare = record { rising = h.sets.bare.rising; exact = λ a b. h.sets.bare.exact a b ∙ sym (bare_told s0 o r c messages finished taken end_taken a b) };
-        impatient = record { rising = h.sets.impatient.rising; exact = λ a b. h.sets.impatient.exact a b ∙ sym (impatient_same a b) };
+        deadlines = record { rising = h.sets.deadlines.rising; exact = λ a b. h.sets.deadlines.exact a b ∙ sym (deadlines_reported s0 o r c messages finished taken end_taken a b) };
+        awaiting_config = record { rising = h.sets.awaiting_config.rising; exact = λ a b. h.sets.awaiting_config.exact a b ∙ sym (unconfigured_reported s0 o r c messages finished taken end_taken a b) };
+        fail_fast = record { rising = h.sets.fail_fast.rising; exact = λ a b. h.sets.fail_fast.exact a b ∙ sym (fail_fast_same a b) };
         outstanding = h.sets.outstanding;
         resets = h.sets.resets;
       };

@@ -1,11 +1,11 @@
--- An event by which a call is told something is answered so: one action, which leaves channel and session in agreement, and nothing follows at once.
+-- An event by which a call is notified of something is answered so: one action, which leaves channel and session in agreement, and nothing follows at once.
 use Rattle.call_core.specs.declared.state.CallState.{CallState}
-use Rattle.call_cases.proofs.CallPosts.Agreeing.{IsPut, told_agrees}
-use Rattle.call_cases.proofs.CallPosts.Told.{f, p, s, t}
+use Rattle.call_cases.proofs.CallPosts.Agreeing.{IsPut, reported_agrees}
+use Rattle.call_cases.proofs.CallPosts.Report.{f, p, s, t}
 use Rattle.channel_actions.proofs.Answering.{event_next}
 use Rattle.channel_actions.specs.Agrees.{Agrees}
 use Rattle.channel_actions.specs.Calls.{HasSlot, SeesCall, lent_to}
-use Rattle.channel_actions.specs.Calm.{IsAt, IsCalm}
+use Rattle.channel_actions.specs.Quiescent.{IsAt, IsQuiescent}
 use Rattle.channel_actions.specs.Stages.{IsAnswered}
 use Rattle.channel_actions.proofs.Refusing.{none_numbered}
 use Rattle.channel_actions.proofs.Stamps.{counted_at}
@@ -31,19 +31,19 @@ use Rattle.session_actions.specs.declared.call.Call.{Call}
 use Rattle.session_actions.specs.declared.entry.OpenEntry.{OpenEntry}
 use Rattle.session_actions.specs.declared.entry.Stage.TheVariants as stage
 use Rattle.session_actions.specs.declared.seen.Seen.{Seen}
-use Rattle.session_order.proofs.Calms.{calm_is_exact}
-use Rattle.session_order.specs.Calm as order
+use Rattle.session_order.proofs.Quiescence.{quiescence_is_exact}
+use Rattle.session_order.specs.Quiescent as order
 use Rattle.std.proofs.Common.{Bool, List, None, Option, Some, [], ap, false, if◌then◌else◌, length, nat_lt, option_map, refl, slice_get, suc, sym, true, zero, ℕ, ◌∙◌, ◌∷◌, ◌≡◌, ◌≤◌}
 use Rattle.std.proofs.lemmas.Bool.{eqb-false}
 use Rattle.std.specs.Option.{option_map_or}
 use Rattle.call_actions.specs.TakeActions.Serves.{Serves}
 
--- either words for calm
-pub to_order : (o : OpenEntry) (z : Seen) → IsCalm o z → order.IsCalm o z
-to_order o z c = (calm_is_exact o z).0 (c.calls, c.links, c.policies)
+-- either words for quiescent
+pub to_order : (o : OpenEntry) (z : Seen) → IsQuiescent o z → order.IsQuiescent o z
+to_order o z c = (quiescence_is_exact o z).0 (c.calls, c.links, c.policies)
 
-pub of_order : (o : OpenEntry) (z : Seen) → order.IsCalm o z → IsCalm o z
-of_order o z c = let back = (calm_is_exact o z).1 c in record { calls = back.0; links = back.1; policies = back.2 }
+pub of_order : (o : OpenEntry) (z : Seen) → order.IsQuiescent o z → IsQuiescent o z
+of_order o z c = let back = (quiescence_is_exact o z).1 c in record { calls = back.0; links = back.1; policies = back.2 }
 
 -- the call of a slot
 pub record Posted (x : StateSeen) (z : Seen) (number : ℕ) : Type 0 where
@@ -110,12 +110,12 @@ module _ (along : KeptAlong) (s0 : Seen) (o : OpenEntry) (r : Reply) (c : Call) 
       (put : IsPut c.number call slot x.book.calls now) (serves : Serves v (g c) (record (lent_to x u slot) { call = call }))
       (act : Action) (does : after act u ≡ v) (apart : IsOfCall c.number act u)
       (at : IsAt stage.Event o u) (fresh : o.turn ≡ None) (timely : next_deadline u ≡ None) (gives : event_action o.event u ≡ Some act)
-      (next_is : following u ≡ Some act → IsNext act u) (posts : posted_in (act ∷ []) ≡ []) (calm : order.IsCalm q v) (none : frame_action q v ≡ None) where
+      (next_is : following u ≡ Some act → IsNext act u) (posts : posted_in (act ∷ []) ≡ []) (quiescent : order.IsQuiescent q v) (none : frame_action q v ≡ None) where
     next : IsNext act u
     next = next_is (event_next o u at timely act gives)
 
-    pub told_answered : IsAnswered (record x { book = record x.book { calls = now } }) r o u
-    told_answered = record {
+    pub reported_answered : IsAnswered (record x { book = record x.book { calls = now } }) r o u
+    reported_answered = record {
       reaches = record {
         actions = act ∷ [];
         seen = v;
@@ -123,8 +123,8 @@ module _ (along : KeptAlong) (s0 : Seen) (o : OpenEntry) (r : Reply) (c : Call) 
         does = (next, sym does);
         posts = posts;
         same = record { moment = refl; word = refl; event = refl; entries = refl; setup = refl };
-        at = record { current = refl; stage_is = refl; calm = of_order q v calm };
-        agrees = told_agrees along s0 o r c messages finished taken end_taken grows x h slot own sees call now put serves act next does apart;
+        at = record { current = refl; stage_is = refl; quiescent = of_order q v quiescent };
+        agrees = reported_agrees along s0 o r c messages finished taken end_taken grows x h slot own sees call now put serves act next does apart;
       };
       reply = refl;
       fresh = fresh;

@@ -2,14 +2,14 @@
 use Rattle.call_core.specs.Steps as steps
 use Rattle.call_core.specs.Steps.{Stepped}
 use Rattle.call_core.specs.declared.state.CallState.{CallState}
-use Rattle.call_cases.proofs.CallPosts.Answered.{Posted, posted, put_is, put_none, to_order, told_answered}
+use Rattle.call_cases.proofs.CallPosts.Answered.{Posted, posted, put_is, put_none, to_order, reported_answered}
 use Rattle.call_cases.specs.CallPosts.Cases.{IsFinish}
 use Rattle.channel_actions.proofs.Answering.{plain_frame, refused_so, replied_entry}
 use Rattle.channel_actions.proofs.Dialling.{unshut_by}
 use Rattle.channel_actions.proofs.Settles.{is_with_open, with_open}
 use Rattle.channel_actions.specs.Agrees.{Agrees}
 use Rattle.channel_actions.specs.Calls.{SeesCall, lent_to}
-use Rattle.channel_actions.specs.Calm.{IsAt}
+use Rattle.channel_actions.specs.Quiescent.{IsAt}
 use Rattle.channel_actions.specs.Stages.{EventsAnswered, IsAnswered}
 use Rattle.channel_core.specs.Applying as channel
 use Rattle.channel_core.specs.Applying.{AnswersBy}
@@ -59,11 +59,11 @@ module _ (along : KeptAlong) (x : StateSeen) (o : OpenEntry) (s0 : Seen) (h : Ag
   -- refused
   finish_refused : (why : Refusal) → refusal_by (is_some c.end) c.finished ≡ Some why → Done
   finish_refused why e =
-      let told_why : steps.send_refusal slot.call ≡ Some why = refused_by u c st sees.serves (Some why) e in
-      let same : steps.finished slot.call ≡ slot.call = ap (λ (z : Option Refusal). steps.finished_if z slot.call) told_why in
+      let reported_why : steps.send_refusal slot.call ≡ Some why = refused_by u c st sees.serves (Some why) e in
+      let same : steps.finished slot.call ≡ slot.call = ap (λ (z : Option Refusal). steps.finished_if z slot.call) reported_why in
       refused_so x (finished_by c.number x).state (finished_by c.number x).reply why o u h at fresh timely (gives (Some why) e)
       (ap (λ (calls : List CallSlot). record x { book = record x.book { calls = calls } }) (put_none steps.finished x.book.calls c.number slot there same))
-      (ap finish_reply_of there ∙ ap steps.finish_reply_if told_why)
+      (ap finish_reply_of there ∙ ap steps.finish_reply_if reported_why)
 
   -- or done
   abbrev p0 : IsPosted (event.Finish c.number) u
@@ -71,17 +71,17 @@ module _ (along : KeptAlong) (x : StateSeen) (o : OpenEntry) (s0 : Seen) (h : Ag
 
   finish_accepted : refusal_by (is_some c.end) c.finished ≡ None → Done
   finish_accepted e =
-      let told_none : steps.send_refusal slot.call ≡ None = refused_by u c st sees.serves None e in
-      let becomes : record slot.call { is_finished = true } ≡ steps.finished slot.call = sym (ap (λ (z : Option Refusal). steps.finished_if z slot.call) told_none) in
+      let reported_none : steps.send_refusal slot.call ≡ None = refused_by u c st sees.serves None e in
+      let becomes : record slot.call { is_finished = true } ≡ steps.finished slot.call = sym (ap (λ (z : Option Refusal). steps.finished_if z slot.call) reported_none) in
       let done : IsAnswered (finished_by c.number x).state reply.Done o u
-      = told_answered along s0 o reply.Done c (λ (k : Call). k.messages) (λ (k : Call). true) (λ (k : Call). k.taken) (λ (k : Call). k.end_taken) (λ d. omega arith)
+      = reported_answered along s0 o reply.Done c (λ (k : Call). k.messages) (λ (k : Call). true) (λ (k : Call). k.taken) (λ (k : Call). k.end_taken) (λ d. omega arith)
       x h slot own sees (steps.finished slot.call) (changed_call steps.finished x.book.calls c.number) (put_is steps.finished x.book.calls c.number slot there)
       (subst (λ (z : CallState). Serves (request_finished c.number u) (record c { finished = true }) (record st { call = z })) becomes (serves_done u c st p0 unshut sees.serves))
       (action.RequestFinished c.number) refl (record { acts = eq-eqb c.number c.number refl; passes = λ d mine off. refl })
       at fresh timely (gives None e) (λ z. z) refl
-      (λ l. finished_leaves c.number o u refl is l (replied_entry reply.Done o) refl refl (to_order o u at.calm l))
+      (λ l. finished_leaves c.number o u refl is l (replied_entry reply.Done o) refl refl (to_order o u at.quiescent l))
       (plain_frame reply.Done o (request_finished c.number u) (event.Finish c.number) is (record { cancels_none = λ n. refl; sends_none = λ d z. refl; no_result = refl; no_frame = λ q z. refl })) in
-      subst (λ (r : Reply). IsAnswered (finished_by c.number x).state r o u) (sym (ap finish_reply_of there ∙ ap steps.finish_reply_if told_none)) done
+      subst (λ (r : Reply). IsAnswered (finished_by c.number x).state r o u) (sym (ap finish_reply_of there ∙ ap steps.finish_reply_if reported_none)) done
 
   finish_by : (z : Option Refusal) → refusal_by (is_some c.end) c.finished ≡ z → Done
   finish_by (Some why) e = finish_refused why e

@@ -8,9 +8,9 @@ use Rattle.call_core.specs.Parts.{has_room, pushed_over}
 use Rattle.call_core.specs.Steps as steps
 use Rattle.call_core.specs.Steps.{Stepped, accepted_if, committed_over, full_reply, full_with, lent, with_message}
 use Rattle.call_core.specs.declared.state.CallState.{CallState}
-use Rattle.call_cases.proofs.CallPosts.Answered.{Posted, posted, to_order, told_answered}
+use Rattle.call_cases.proofs.CallPosts.Answered.{Posted, posted, to_order, reported_answered}
 use Rattle.call_cases.proofs.CallPosts.Asked.{IsAsked, asked, deadline_right, due_right}
-use Rattle.call_cases.proofs.CallPosts.Told.{f, t}
+use Rattle.call_cases.proofs.CallPosts.Report.{f, t}
 use Rattle.call_cases.specs.CallPosts.Cases.{IsPlainSend}
 use Rattle.channel_actions.proofs.Answering.{refused_so, replied_entry}
 use Rattle.channel_actions.proofs.Dialling.{unshut_by}
@@ -18,7 +18,7 @@ use Rattle.channel_actions.proofs.Settles.{is_with_open, with_open}
 use Rattle.channel_actions.proofs.Stamps.{counted_at}
 use Rattle.channel_actions.specs.Agrees.{Agrees}
 use Rattle.channel_actions.specs.Calls.{SeesCall, lent_to}
-use Rattle.channel_actions.specs.Calm.{IsAt}
+use Rattle.channel_actions.specs.Quiescent.{IsAt}
 use Rattle.channel_actions.specs.Stages.{EventsAnswered, IsAnswered}
 use Rattle.channel_core.specs.Applying as channel
 use Rattle.channel_core.specs.Applying.{AnswersBy}
@@ -57,9 +57,9 @@ use Rattle.session_actions.specs.declared.seen.Seen.{Seen}
 use Rattle.session_order.proofs.Changed.{none_each_changed, none_from, passes_not}
 use Rattle.session_order.proofs.Messages.{accepted_leaves}
 use Rattle.session_order.proofs.Posts.{answered_leaves}
-use Rattle.session_order.specs.Calm as order
-use Rattle.session_order.specs.Calm.{has_outstanding, is_overflowing}
-use Rattle.session_order.specs.Stirs.{AreNumbered, stirs}
+use Rattle.session_order.specs.Quiescent as order
+use Rattle.session_order.specs.Quiescent.{has_outstanding, is_overflowing}
+use Rattle.session_order.specs.Stirs.{CallsHaveTheirNumbers, stirs}
 use Rattle.session_order.specs.declared.line.Line.{Line}
 use Rattle.session_order.specs.declared.line.Line.TheVariants as line
 use Rattle.std.proofs.Common.{Bool, Err, List, None, Ok, Option, Some, [], ap, arith, false, if◌then◌else◌, is_none, is_some, length, length-append, max, nat_le, nat_lt, not, refl, subst, sym, true, ℕ, ◌&&◌, ◌||◌, ◌++◌, ◌+◌, ◌-◌, ◌==◌, ◌∙◌, ◌∷◌, ◌≡◌, ◌≤◌}
@@ -100,10 +100,10 @@ and_none : (b : Bool) → (b && false) ≡ false
 and_none true = refl
 and_none false = refl
 
-request_narrow : (a l p : Bool) → (a && (l || p)) ≡ false → (a && (l || false)) ≡ false
-request_narrow true true p e = absurd (cc)
-request_narrow true false p e = refl
-request_narrow false l p e = refl
+request_restricted : (a l p : Bool) → (a && (l || p)) ≡ false → (a && (l || false)) ≡ false
+request_restricted true true p e = absurd (cc)
+request_restricted true false p e = refl
+request_restricted false l p e = refl
 
 module _ (along : KeptAlong) (x : StateSeen) (o : OpenEntry) (s0 : Seen) (h : Agrees x (with_open o s0)) (at : IsAt stage.Event o (with_open o s0)) (fresh : o.turn ≡ None)
     (timely : next_deadline (with_open o s0) ≡ None) (c : Call) (slot : CallSlot) (own : numbered s0.calls c.number ≡ Some c) (there : slot_at x.book c.number ≡ Some slot)
@@ -147,9 +147,9 @@ module _ (along : KeptAlong) (x : StateSeen) (o : OpenEntry) (s0 : Seen) (h : Ag
 
   send_refused : (why : Refusal) → refusal_by (is_some c.end) c.finished ≡ Some why → Done
   send_refused why e =
-      let told_why : steps.send_refusal slot.call ≡ Some why = refused_by u c st sees.serves (Some why) e in
-      refused_so x y0 r0 why o u h at fresh timely (gives (Some why) e) (idle_is (step_by (Some why) told_why))
-      (ap (send_reply_of m) there ∙ ap (λ (z : Option Refusal). steps.send_reply_if z m slot.call) told_why)
+      let reported_why : steps.send_refusal slot.call ≡ Some why = refused_by u c st sees.serves (Some why) e in
+      refused_so x y0 r0 why o u h at fresh timely (gives (Some why) e) (idle_is (step_by (Some why) reported_why))
+      (ap (send_reply_of m) there ∙ ap (λ (z : Option Refusal). steps.send_reply_if z m slot.call) reported_why)
 
   -- the frames of a Send: none
   no_frame : (r : Reply) (v : Seen) → frame_action (replied_entry r o) v ≡ None
@@ -158,15 +158,15 @@ module _ (along : KeptAlong) (x : StateSeen) (o : OpenEntry) (s0 : Seen) (h : Ag
   -- it is not refused: the call is open
   module _ (free : refusal_by (is_some c.end) c.finished ≡ None) (is_open : c.end ≡ None) (short : parts.is_too_long slot.call.chosen (length m) ≡ false)
       (room : pushed_over slot.call.buffer (framed m) (parts.furthest slot.call.buffer slot.call.live) ≡ false) where
-    told_none : steps.send_refusal slot.call ≡ None
-    told_none = refused_by u c st sees.serves None free
+    reported_none : steps.send_refusal slot.call ≡ None
+    reported_none = refused_by u c st sees.serves None free
 
     reply_is : r0 ≡ full_reply (full_with (length m) slot.call)
     reply_is = ap (send_reply_of m) there ∙ reply_free u c st m p0 unshut sees.serves short free is_open
 
     step_is : steps.sent m x.book.moment (lends slot.call) ≡ accepted_if (full_with (length m) slot.call) m x.book.moment (lends slot.call)
     step_is =
-        step_by None told_none
+        step_by None reported_none
         ∙ ap (λ (b : Bool). if b then steps.ended_as ending.Request x.book.moment (lends slot.call) else accepted_if (full_with (length m) slot.call) m x.book.moment (lends slot.call)) short
 
     full_as : (b : Bool) → is_accepted c m u ≡ b → full_with (length m) slot.call ≡ (if b then None else Some (held slot.call.buffer))
@@ -181,7 +181,7 @@ module _ (along : KeptAlong) (x : StateSeen) (o : OpenEntry) (s0 : Seen) (h : Ag
         let same : c ≡ d = (let one : Some c ≡ Some d = sym own ∙ e in (cc)) in
         ap (λ (z : Call). is_too_long m z u) (sym same) ∙ long_is u c st m sees.serves ∙ short
 
-    numbers : AreNumbered u
+    numbers : CallsHaveTheirNumbers u
     numbers k d e = counted_at (λ (z : Call). z.number) s0.calls k d h.kept.calls e
 
     -- no room
@@ -222,7 +222,7 @@ module _ (along : KeptAlong) (x : StateSeen) (o : OpenEntry) (s0 : Seen) (h : Ag
       request_one d there_too none =
           ap (λ (z : Event). is_open_call d && (list_any (λ (k : List ℕ). is_too_long k d w) d.messages || sends_too_long z d w)) is
           ∙ ap (λ (b : Bool). is_open_call d && (list_any (λ (k : List ℕ). is_too_long k d w) d.messages || b)) (long_by d (c.number == d.number) refl there_too)
-          ∙ request_narrow (is_open_call d) (list_any (λ (k : List ℕ). is_too_long k d u) d.messages) (is_after_event o && sends_too_long o.event d u) none
+          ∙ request_restricted (is_open_call d) (list_any (λ (k : List ℕ). is_too_long k d u) d.messages) (is_after_event o && sends_too_long o.event d u) none
 
       request_still : order.IsStill line.Request o u → order.IsStill line.Request q w
       request_still none =
@@ -236,23 +236,23 @@ module _ (along : KeptAlong) (x : StateSeen) (o : OpenEntry) (s0 : Seen) (h : Ag
 
       still : (l : Line) → order.IsStill l q w
       still line.Cancelled = cancelled_still
-      still line.Request = request_still (to_order o u at.calm line.Request)
-      still l = answered_leaves full o u refl no_result l q refl refl (to_order o u at.calm l)
+      still line.Request = request_still (to_order o u at.quiescent line.Request)
+      still l = answered_leaves full o u refl no_result l q refl refl (to_order o u at.quiescent l)
         where
           no_result : addresses_in o.event ≡ None
           no_result = ap addresses_in is
 
-      calm : (l : Line) → order.IsStill l q v
-      calm l = subst (λ (calls : List Call). order.IsStill l q (record s0 { calls = calls; current = Some q })) (sym same_calls) (still l)
+      quiescent : (l : Line) → order.IsStill l q v
+      quiescent l = subst (λ (calls : List Call). order.IsStill l q (record s0 { calls = calls; current = Some q })) (sym same_calls) (still l)
 
       send_full : Done
       send_full =
           let k : IsAsked x c.number slot slot.call y0 = idle_asked stays in
           let answered : IsAnswered (record x { book = record x.book { calls = k.calls } }) full o u
-          = told_answered along s0 o full c (λ (d : Call). d.messages) (λ (d : Call). d.finished) (λ (d : Call). d.taken) (λ (d : Call). d.end_taken) (λ d. omega arith)
+          = reported_answered along s0 o full c (λ (d : Call). d.messages) (λ (d : Call). d.finished) (λ (d : Call). d.taken) (λ (d : Call). d.end_taken) (λ d. omega arith)
           x h slot own sees slot.call k.calls k.put (serves_same u c st (Some q) refl sees.serves)
           (action.EventAnswered full) does (record { acts = refl; passes = λ d mine off. refl })
-          at fresh timely (next_is false e) (λ z. z) refl calm (no_frame full v) in
+          at fresh timely (next_is false e) (λ z. z) refl quiescent (no_frame full v) in
           subst (λ (r : Reply). IsAnswered y0 r o u) (sym reply_full)
           (subst (λ (z : StateSeen). IsAnswered z full o u) (sym k.is) answered)
 
@@ -304,10 +304,10 @@ module _ (along : KeptAlong) (x : StateSeen) (o : OpenEntry) (s0 : Seen) (h : Ag
       -- no more bytes than are kept
       fits_now : commitment c u ≡ None → nat_le (held_bytes c u + length (framed m)) 262144 ≡ true
       fits_now none =
-          let bare : is_some slot.call.buffer.committed ≡ false = has.committed ∙ ap (λ (z : Option Attempt). is_some z) none in
+          let awaiting_config : is_some slot.call.buffer.committed ≡ false = has.committed ∙ ap (λ (z : Option Attempt). is_some z) none in
           ap (λ (n : ℕ). nat_le (n + length (framed m)) 262144) (sym (held_is u c slot.call.buffer has))
           ∙ fits_by (is_some slot.call.buffer.committed) (nat_lt (held slot.call.buffer) 65536) (nat_le (held slot.call.buffer + length (framed m)) 262144) (is_some row)
-          (fault.Full (held slot.call.buffer)) bare (sym (answer_is slot.call.buffer m row) ∙ answer_kept slot.call.buffer m row roomy room)
+          (fault.Full (held slot.call.buffer)) awaiting_config (sym (answer_is slot.call.buffer m row) ∙ answer_kept slot.call.buffer m row roomy room)
 
       held_all : commitment c u ≡ None → held_bytes c u ≡ accepted_bytes c
       held_all none =
@@ -334,19 +334,19 @@ module _ (along : KeptAlong) (x : StateSeen) (o : OpenEntry) (s0 : Seen) (h : Ag
       still_by : (l : Line) → stirs (action.MessageAccepted c.number) l ≡ false → order.IsStill l qa va
       still_by l away =
           subst (order.IsStill l qa) made
-          (accepted_leaves c.number o u refl (m, is, numbers, short_now) l qa (ap (λ (z : Seen). z.current) made) away (to_order o u at.calm l))
+          (accepted_leaves c.number o u refl (m, is, numbers, short_now) l qa (ap (λ (z : Seen). z.current) made) away (to_order o u at.quiescent l))
 
-      calm_now : (l : Line) → order.IsStill l qa va
-      calm_now line.Overflow = overflow_still (to_order o u at.calm line.Overflow)
-      calm_now l = still_by l refl
+      quiescent_now : (l : Line) → order.IsStill l qa va
+      quiescent_now line.Overflow = overflow_still (to_order o u at.quiescent line.Overflow)
+      quiescent_now l = still_by l refl
 
       send_accepted : Done
       send_accepted =
           let answered : IsAnswered (record x { book = record x.book { calls = asked_so.calls } }) reply.Done o u
-          = told_answered along s0 o reply.Done c (λ (z : Call). z.messages ++ m ∷ []) (λ (z : Call). z.finished) (λ (z : Call). z.taken) (λ (z : Call). z.end_taken) grows
+          = reported_answered along s0 o reply.Done c (λ (z : Call). z.messages ++ m ∷ []) (λ (z : Call). z.finished) (λ (z : Call). z.taken) (λ (z : Call). z.end_taken) grows
           x h slot own sees longer asked_so.calls asked_so.put (serves_sent u c st m p0 unshut sees.serves short free is_open)
           (action.MessageAccepted c.number) made (record { acts = eq-eqb c.number c.number refl; passes = λ d mine off. refl })
-          at fresh timely (next_is true e) (λ z. z) refl calm_now (no_frame reply.Done va) in
+          at fresh timely (next_is true e) (λ z. z) refl quiescent_now (no_frame reply.Done va) in
           subst (λ (r : Reply). IsAnswered y0 r o u) (sym (reply_is ∙ ap full_reply full_none))
           (subst (λ (z : StateSeen). IsAnswered z reply.Done o u) (sym asked_so.is) answered)
 

@@ -8,14 +8,14 @@ use Rattle.call_core.specs.Parts.{code_of, end_at, end_reply, first_of, is_by_ro
 use Rattle.call_core.specs.Steps as steps
 use Rattle.call_core.specs.Steps.{Stepped, ended_reply, item_reply, message_reply, taken_end, taken_item, taken_message, with_rest, without_head}
 use Rattle.call_core.specs.declared.state.CallState.{CallState}
-use Rattle.call_cases.proofs.CallPosts.Answered.{Posted, posted, put_is, put_none, to_order, told_answered}
+use Rattle.call_cases.proofs.CallPosts.Answered.{Posted, posted, put_is, put_none, to_order, reported_answered}
 use Rattle.call_cases.proofs.CallPosts.Within.{IsWithin, item_within}
 use Rattle.call_cases.specs.CallPosts.Cases.{IsTake}
 use Rattle.channel_actions.proofs.Answering.{IsPlain, answered_so, plain_frame, refused_so, replied_entry}
 use Rattle.channel_actions.proofs.Settles.{is_with_open, with_open}
 use Rattle.channel_actions.specs.Agrees.{Agrees}
 use Rattle.channel_actions.specs.Calls.{SeesCall, lent_to}
-use Rattle.channel_actions.specs.Calm.{IsAt}
+use Rattle.channel_actions.specs.Quiescent.{IsAt}
 use Rattle.channel_actions.specs.Stages.{EventsAnswered, IsAnswered}
 use Rattle.channel_core.specs.Applying as channel
 use Rattle.channel_core.specs.Applying.{AnswersBy}
@@ -63,8 +63,8 @@ end_some_by why o false e = absurd (cc)
 end_some : (rows : List Row) (committed : Option ℕ) (why : EndCause) → end_reply rows committed why ≡ reply.NotYet → ⊥
 end_some rows committed why e = end_some_by why (end_at rows committed) (is_by_row why) e
 
-abbrev bare : CallState → Option (List Field) → List (List ℕ) → CallState
-bare call head messages = record call { inbox = record call.inbox { head = head; messages = messages } }
+abbrev awaiting_config : CallState → Option (List Field) → List (List ℕ) → CallState
+awaiting_config call head messages = record call { inbox = record call.inbox { head = head; messages = messages } }
 
 nothing_ended : (ledger : Ledger) (call : CallState) (o : Option EndCause) → ended_reply o ledger call ≡ reply.NotYet → (k : CallState) → taken_end o k ≡ k
 nothing_ended ledger call None e k = refl
@@ -78,7 +78,7 @@ nothing_left ledger call None (m ∷ ms) eh em e =
 nothing_left ledger call None [] eh em e =
     let says : ended_reply call.ended ledger call ≡ reply.NotYet = sym (ap (λ (l : List (List ℕ)). message_reply (first_of l) ledger call) em) ∙ e in
     ap (λ (l : List (List ℕ)). taken_message (first_of l) (without_head call)) em ∙ nothing_ended ledger call call.ended says (with_rest (without_head call))
-    ∙ ap (λ (l : List (List ℕ)). bare call None (rest_of l)) em ∙ ap (λ (l : List (List ℕ)). bare call None l) (sym em) ∙ ap (λ (z : Option (List Field)). bare call z call.inbox.messages) (sym eh)
+    ∙ ap (λ (l : List (List ℕ)). awaiting_config call None (rest_of l)) em ∙ ap (λ (l : List (List ℕ)). awaiting_config call None l) (sym em) ∙ ap (λ (z : Option (List Field)). awaiting_config call z call.inbox.messages) (sym eh)
 
 nothing_by : (ledger : Ledger) (call : CallState) (b : Bool) → call.inbox.is_end_taken ≡ b → steps.take_reply ledger call ≡ reply.NotYet → steps.taken call ≡ call
 nothing_by ledger call true e says =
@@ -220,11 +220,11 @@ module _ (along : KeptAlong) (x : StateSeen) (o : OpenEntry) (s0 : Seen) (h : Ag
       take_item : Done
       take_item =
           let answered : IsAnswered y0 item o u
-          = told_answered along s0 o item c (λ (d : Call). d.messages) (λ (d : Call). d.finished) (λ (d : Call). d.taken + 1) (λ (d : Call). is_end item) (λ d. omega arith)
+          = reported_answered along s0 o item c (λ (d : Call). d.messages) (λ (d : Call). d.finished) (λ (d : Call). d.taken + 1) (λ (d : Call). is_end item) (λ d. omega arith)
           x h slot own sees (steps.taken slot.call) (changed_call steps.taken x.book.calls c.number) (put_is steps.taken x.book.calls c.number slot there) serves
           a refl (record { acts = eq-eqb c.number c.number refl; passes = λ d mine off. refl })
           at fresh timely (gives a given) (λ z. z) refl
-          (λ l. taken_leaves c.number item o u refl is l (replied_entry item o) refl refl (to_order o u at.calm l))
+          (λ l. taken_leaves c.number item o u refl is l (replied_entry item o) refl refl (to_order o u at.quiescent l))
           (plain_frame item o (item_taken c.number item u) (event.Take c.number) is (take_plain c.number)) in
           subst (λ (r : Reply). IsAnswered y0 r o u) (sym (reply_is item (item_within c u item next) (replies a item given refl))) answered
 

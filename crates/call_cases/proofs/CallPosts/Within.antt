@@ -7,7 +7,7 @@ use Rattle.grpc_base.specs.declared.event.EndCause.TheVariants as ending
 use Rattle.grpc_base.specs.declared.event.Reply.{Reply}
 use Rattle.grpc_base.specs.declared.event.Reply.TheVariants as reply
 use Rattle.grpc_base.specs.declared.fields.Field.{Field}
-use Rattle.grpc_frame.specs.Messages.{Messages, length_told, messages_by, messages_of, messages_within, next_by, next_of}
+use Rattle.grpc_frame.specs.Messages.{Messages, length_reported, messages_by, messages_of, messages_within, next_by, next_of}
 use Rattle.grpc_frame.specs.declared.next.MessageFault.{MessageFault}
 use Rattle.grpc_frame.specs.declared.next.MessageFault.TheVariants as fault
 use Rattle.grpc_frame.specs.declared.next.NextMessage.{NextMessage}
@@ -58,27 +58,27 @@ long_by limit n size false true e len is =
     let test : nat_lt limit len ≡ false = sym (ap (nat_lt limit) same) ∙ e in grind (arith, nat_tests)
 long_by limit n size false false e len is = absurd (cc)
 
-told_by : (limit size : ℕ) (o : Option ℕ) (len : ℕ) → next_by limit size o ≡ next.Whole len → len ≤ limit
-told_by limit size None len is = absurd (cc)
-told_by limit size (Some n) len is = long_by limit n size (nat_lt limit n) (nat_le (5 + n) size) refl len is
+reported_by : (limit size : ℕ) (o : Option ℕ) (len : ℕ) → next_by limit size o ≡ next.Whole len → len ≤ limit
+reported_by limit size None len is = absurd (cc)
+reported_by limit size (Some n) len is = long_by limit n size (nat_lt limit n) (nat_le (5 + n) size) refl len is
 
 whole_within : (limit : ℕ) (text : List ℕ) (len : ℕ) → next_of limit text ≡ next.Whole len → len ≤ limit
 whole_within limit [] len is = absurd (cc)
-whole_within limit (zero ∷ text) len is = told_by limit (length (zero ∷ text)) (length_told (zero ∷ text)) len is
+whole_within limit (zero ∷ text) len is = reported_by limit (length (zero ∷ text)) (length_reported (zero ∷ text)) len is
 whole_within limit (suc flag ∷ text) len is = absurd (cc)
 
-front_short : (limit len : ℕ) (text : List ℕ) → len ≤ limit → length (take len text) ≤ limit
-front_short limit len text e =
+prefix_short : (limit len : ℕ) (text : List ℕ) → len ≤ limit → length (take len text) ≤ limit
+prefix_short limit len text e =
     let cut : length (take len text) ≡ min len (length text) = length-take len text in grind (arith, nat_tests)
 
 within_by : (limit most : ℕ) (text : List ℕ) (n : NextMessage) → next_of limit text ≡ n → ((rest : List ℕ) → AreShort limit (messages_within limit most rest).whole)
     → AreShort limit (messages_within limit (suc most) text).whole
-within_by limit most text (next.Whole len) e behind =
+within_by limit most text (next.Whole len) e afterwards =
     subst (λ (m : Messages). AreShort limit m.whole) (sym (ap (λ (n : NextMessage). messages_by n text (messages_within limit most)) e))
-    (front_short limit len (drop 5 text) (whole_within limit text len e), behind (drop len (drop 5 text)))
-within_by limit most text next.Partial e behind =
+    (prefix_short limit len (drop 5 text) (whole_within limit text len e), afterwards (drop len (drop 5 text)))
+within_by limit most text next.Partial e afterwards =
     subst (λ (m : Messages). AreShort limit m.whole) (sym (ap (λ (n : NextMessage). messages_by n text (messages_within limit most)) e)) tt
-within_by limit most text (next.Fault f) e behind =
+within_by limit most text (next.Fault f) e afterwards =
     subst (λ (m : Messages). AreShort limit m.whole) (sym (ap (λ (n : NextMessage). messages_by n text (messages_within limit most)) e)) tt
 
 all_within : (limit most : ℕ) (text : List ℕ) → AreShort limit (messages_within limit most text).whole

@@ -6,7 +6,7 @@ use Rattle.call_cases.specs.CallSends.Laws.{CallsCommitAlike, CommitsAlike, IsSe
 use Rattle.channel_actions.proofs.Dialling.{unshut_by}
 use Rattle.channel_actions.proofs.Does.{does_on}
 use Rattle.channel_actions.specs.Agrees.{Agrees}
-use Rattle.channel_actions.specs.Calm.{IsAt}
+use Rattle.channel_actions.specs.Quiescent.{IsAt}
 use Rattle.channel_actions.specs.Stages.{IsAnswered}
 use Rattle.channel_core.specs.Applying as channel
 use Rattle.channel_core.specs.Applying.{AnswersBy}
@@ -43,7 +43,7 @@ module _ (number : ℕ) (why : CommitCause) (x y : StateSeen) (r : Reply) (o : O
       does = does_on (action.MessageAccepted number ∷ []) (action.CallCommitted h.attempt.place why ∷ e.actions) s h.seen e.seen h.does e.does;
       posts = e.posts;
       same = record { moment = h.same.moment; word = h.same.word; event = h.same.event; entries = e.entries ∙ h.same.entries; setup = e.setup ∙ h.same.setup };
-      at = record { current = e.current; stage_is = h.stage_is; calm = e.calm };
+      at = record { current = e.current; stage_is = h.stage_is; quiescent = e.quiescent };
       agrees = subst (λ (z : StateSeen). Agrees z e.seen) (sym h.commits_so) e.agrees;
     };
     reply = h.reply;

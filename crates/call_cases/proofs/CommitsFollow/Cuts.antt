@@ -6,7 +6,7 @@ use Rattle.attempt_ledger.specs.declared.ledger.CallEnd.{CallEnd}
 use Rattle.attempt_ledger.specs.declared.row.RowEnd.{RowEnd}
 use Rattle.call_actions.proofs.TakeActions.CutAttempts.{end_by_cut, ended_mark}
 use Rattle.call_actions.proofs.TakeActions.CutOne.{cut_end_is, marked_also, one_is_cut, undrawn}
-use Rattle.call_actions.specs.Order.{AreNumbered}
+use Rattle.call_actions.specs.Order.{AttemptsAreNumbered}
 use Rattle.call_actions.specs.TakeActions.Cuts.{next_cut_of}
 use Rattle.call_cases.proofs.EndsFollow.Cuts.{place_suc}
 use Rattle.call_cases.specs.EndsFollow.Cuts.{IsOut, cut_off}
@@ -77,7 +77,7 @@ module _ (number : ℕ) (k : Attempt) (v : Seen) (done : IsTaken number k v) whe
       never true false d = refl
       never false c d = refl
 
-  -- an attempt in front that is not cut
+  -- an attempt before that is not cut
   skip : (x : Attempt) (xs : List Attempt) (act : Action) → test x ≡ false → IsFirst number j v xs act → IsFirst number j v (x ∷ xs) act
   skip x xs act out f = record {
     attempt = f.attempt;
@@ -164,7 +164,7 @@ pub record IsOneCut (number own_number : ℕ) (v : Seen) (act : Action) (o : Ope
 undrawn_is : (o : OpenEntry) → undrawn o ≡ o
 undrawn_is o = ap (λ (k : ℕ). record o { drawn = k }) (let e : o.drawn + 0 ≡ o.drawn = omega arith in e)
 
-pub one_cut : (number : ℕ) (k : Attempt) (v : Seen) (act : Action) (o : OpenEntry) → IsTaken number k v → AreNumbered 1 v.attempts → v.current ≡ Some o
+pub one_cut : (number : ℕ) (k : Attempt) (v : Seen) (act : Action) (o : OpenEntry) → IsTaken number k v → AttemptsAreNumbered 1 v.attempts → v.current ≡ Some o
     → next_cut_of number v ≡ Some act → IsOneCut number k.row.number v act o
 one_cut number k v act o done places current next =
     let f : IsFirst number k.row.number v v.attempts act = is_first number k v done v.attempts act next in

@@ -17,7 +17,7 @@ use Rattle.call_cases.proofs.CommitsFollow.Cuts.{IsOneCut, none_out, one_cut}
 use Rattle.call_cases.proofs.CommitsFollow.Stays.{IsLeft, uncut}
 use Rattle.call_cases.proofs.CommitsFollow.Steps.{IsMid, IsOneReset, IsReset, after_is, mid_cut, one_reset, reset_mid}
 use Rattle.call_cases.specs.CommitsFollow.Laws.{CommitFollowsOn, CommitsFollow, IsNextToCommit, OthersAreCutOff, OthersAreOut, is_other_out}
-use Rattle.call_cases.specs.EndsFollow.Cuts.{AreCutOff, AreReset, cut_off}
+use Rattle.call_cases.specs.EndsFollow.Cuts.{AttemptsAreCutOff, StreamsAreReset, cut_off}
 use Rattle.call_cases.specs.EndsFollow.Laws.{IsSameRest, is_late}
 use Rattle.session_actions.specs.Actions.{after, following}
 use Rattle.session_actions.specs.AttemptEnds.{cut, cut_end, end_of, next_cut, next_reset, reset_code_of}
@@ -34,14 +34,14 @@ use Rattle.session_actions.specs.declared.attempt.Attempt.{Attempt}
 use Rattle.session_actions.specs.declared.call.Call.{Call}
 use Rattle.session_actions.specs.declared.entry.OpenEntry.{OpenEntry}
 use Rattle.session_actions.specs.declared.seen.Seen.{Seen}
-use Rattle.session_order.proofs.Calms.{first_line_gives}
+use Rattle.session_order.proofs.Quiescence.{first_line_gives}
 use Rattle.session_order.proofs.Changed.{passes_not}
 use Rattle.session_order.proofs.Lines.{lines_are_still}
-use Rattle.session_order.specs.Calm.{IsStill, is_to_cut, is_to_reset}
+use Rattle.session_order.specs.Quiescent.{IsStill, is_to_cut, is_to_reset}
 use Rattle.session_order.specs.Lines.{is_line, rank}
 use Rattle.session_order.specs.declared.line.Line.{Line}
 use Rattle.session_order.specs.declared.line.Line.TheVariants as line
-use Rattle.call_actions.specs.TakeActions.Cuts.{AreCut, next_cut_of}
+use Rattle.call_actions.specs.TakeActions.Cuts.{AttemptsAreCut, next_cut_of}
 
 does_on : (these those : List Action) (s t u : Seen) → Does these s t → Does those t u → Does (these ++ those) s u
 does_on [] those s t u d e = subst (λ (v : Seen). Does those v u) d e
@@ -133,7 +133,7 @@ module _ (waits : Line → Bool) (late : (l : Line) → waits l ≡ true → is_
   pub record HasCut (v t : Seen) (cuts : List Action) : Type 0 where
     pub attempts : List Attempt
     pub all : attempts ≡ filter (is_other_out n k.row.number) v.attempts
-    pub off : AreCutOff attempts v t
+    pub off : AttemptsAreCutOff attempts v t
     pub does : Does cuts v t
     pub reset : IsReset waits n k o b t
     pub steady : StaysSteady t n
@@ -168,7 +168,7 @@ module _ (waits : Line → Bool) (late : (l : Line) → waits l ≡ true → is_
       by_line true f = at_cut l f
       by_line false f = mid.still l f e w
 
-  pub cut_walk : (cuts : List Action) (v t : Seen) → IsMid waits n k o b v → AreCut n cuts v t → HasCut v t cuts
+  pub cut_walk : (cuts : List Action) (v t : Seen) → IsMid waits n k o b v → AttemptsAreCut n cuts v t → HasCut v t cuts
   cut_walk [] v t mid are =
       subst (λ (z : Seen). HasCut v z []) (sym are.1) (record {
         attempts = [];
@@ -183,7 +183,7 @@ module _ (waits : Line → Bool) (late : (l : Line) → waits l ≡ true → is_
       let one : IsOneCut n k.row.number v act o = one_cut n k v act o mid.left.done mid.book.places mid.current are.0 in
       let u : Seen = cut_off one.attempt v in
       let rest : HasCut u t cuts
-      = cut_walk cuts u t (mid_cut waits n k o b v base goes mid act one) (subst (λ (z : Seen). AreCut n cuts z t) one.does are.1) in
+      = cut_walk cuts u t (mid_cut waits n k o b v base goes mid act one) (subst (λ (z : Seen). AttemptsAreCut n cuts z t) one.does are.1) in
       let next : IsNext act v
       = subst (λ (x : Action). IsNext x v) (sym one.act_is) (cut_follows v act mid are.0 ∙ ap (λ (x : Action). Some x) one.act_is) in
       record {
@@ -208,7 +208,7 @@ module _ (waits : Line → Bool) (late : (l : Line) → waits l ≡ true → is_
     pub none : next_reset u ≡ None
     pub rest : IsSameRest v u
 
-  pub reset_walk : (resets : List Action) (v u : Seen) → IsReset waits n k o b v → AreReset resets v u → HasReset v u resets
+  pub reset_walk : (resets : List Action) (v u : Seen) → IsReset waits n k o b v → StreamsAreReset resets v u → HasReset v u resets
   reset_walk [] v u mid are =
       subst (λ (z : Seen). HasReset v z []) (sym are.1) (record { does = refl; reset = mid; none = are.0; rest = rest_self v })
   reset_walk (act ∷ resets) v u mid are =
@@ -308,12 +308,12 @@ module _ (waits : Line → Bool) (n : ℕ) (why : CommitCause) (o : OpenEntry) (
   less true q e = e
   less false q e = refl
 
-  calm_by : (xs : List Attempt) → list_any (λ (x : Attempt). wants_follower x s) xs ≡ false → list_any (waits_for s c) xs ≡ false
-  calm_by [] e = refl
-  calm_by (x ∷ xs) e =
+  quiescent_by : (xs : List Attempt) → list_any (λ (x : Attempt). wants_follower x s) xs ≡ false → list_any (waits_for s c) xs ≡ false
+  quiescent_by [] e = refl
+  quiescent_by (x ∷ xs) e =
       let parts : (wants_follower x s ≡ false) × (list_any (λ (y : Attempt). wants_follower y s) xs ≡ false)
       = or_parts (wants_follower x s) (list_any (λ (y : Attempt). wants_follower y s) xs) e in
-      ap (λ (q : Bool). q || list_any (waits_for s c) xs) (less (is_of c x) (wants_follower x s) parts.0) ∙ calm_by xs parts.1
+      ap (λ (q : Bool). q || list_any (waits_for s c) xs) (less (is_of c x) (wants_follower x s) parts.0) ∙ quiescent_by xs parts.1
 
   pub steady : StaysSteady b n
   steady =
@@ -321,7 +321,7 @@ module _ (waits : Line → Bool) (n : ℕ) (why : CommitCause) (o : OpenEntry) (
       let book : IsBook (call_committed a.place s) = subst IsBook (sym committed_is) book_b in
       subst (StaysSteady b) own_number
       (subst (λ (z : Seen). StaysSteady z c.number) committed_is
-      (committing_keeps s c a.place a book (record { own = there; there = is.can.at; mine = is.can.mine }) (record { turn = is.turn; calm = calm_by s.attempts is.unfollowed })))
+      (committing_keeps s c a.place a book (record { own = there; there = is.can.at; mine = is.can.mine }) (record { turn = is.turn; quiescent = quiescent_by s.attempts is.unfollowed })))
 
   pub mid : IsMid waits n k o b b
   mid = record { current = is.current; book = book_b; left = left; steady = steady; still = λ l e f w. still_b l e w }
@@ -350,14 +350,14 @@ module _ (waits : Line → Bool) (n : ℕ) (why : CommitCause) (o : OpenEntry) (
   out_by zero at = absurd (cc)
   out_by (suc i) at = ap (λ (o : Option Attempt). filter (is_other_out n a.row.number) (changed_if put (suc i) s.attempts o)) at ∙ out_set s.attempts i at
 
-  pub all_out : (t : Seen) (cuts : List Action) → AreCut n cuts (call_committed a.place s) t → OthersAreOut n a s t
+  pub all_out : (t : Seen) (cuts : List Action) → AttemptsAreCut n cuts (call_committed a.place s) t → OthersAreOut n a s t
   all_out t cuts are =
-      let cut : HasCut waits is.late n k o b base goes b t cuts = cut_walk waits is.late n k o b base goes cuts b t mid (subst (λ (z : Seen). AreCut n cuts z t) committed_is are) in
-      record { attempts = cut.attempts; all = cut.all ∙ out_by a.place is.can.at; off = subst (λ (z : Seen). AreCutOff cut.attempts z t) (sym committed_is) cut.off }
+      let cut : HasCut waits is.late n k o b base goes b t cuts = cut_walk waits is.late n k o b base goes cuts b t mid (subst (λ (z : Seen). AttemptsAreCut n cuts z t) committed_is are) in
+      record { attempts = cut.attempts; all = cut.all ∙ out_by a.place is.can.at; off = subst (λ (z : Seen). AttemptsAreCutOff cut.attempts z t) (sym committed_is) cut.off }
 
-  module _ (t u : Seen) (cuts resets : List Action) (are : AreCut n cuts (call_committed a.place s) t) (then_ : AreReset resets t u) where
+  module _ (t u : Seen) (cuts resets : List Action) (are : AttemptsAreCut n cuts (call_committed a.place s) t) (then_ : StreamsAreReset resets t u) where
     pub cut_all : HasCut waits is.late n k o b base goes b t cuts
-    cut_all = cut_walk waits is.late n k o b base goes cuts b t mid (subst (λ (z : Seen). AreCut n cuts z t) committed_is are)
+    cut_all = cut_walk waits is.late n k o b base goes cuts b t mid (subst (λ (z : Seen). AttemptsAreCut n cuts z t) committed_is are)
 
     pub reset_all : HasReset waits is.late n k o b base goes t u resets
     reset_all = reset_walk waits is.late n k o b base goes resets t u cut_all.reset then_

@@ -22,7 +22,7 @@ use Rattle.session_actions.specs.declared.call.Call.{Call}
 use Rattle.session_actions.specs.declared.call.Mark.{Mark}
 use Rattle.session_actions.specs.declared.seen.Seen.{Seen}
 use Rattle.session_order.proofs.Changed.{none_from, passes_not}
-use Rattle.session_order.specs.Calm.{is_to_cut}
+use Rattle.session_order.specs.Quiescent.{is_to_cut}
 
 -- a session that went on from there by what was done to the call
 pub record IsLeft (n : ℕ) (k : Attempt) (b v : Seen) : Type 0 where

@@ -6,10 +6,10 @@ use Rattle.std.specs.List.{list_any}
 use Rattle.std.specs.Option.{option_and_then, option_map, option_map_or, option_or}
 use Rattle.std.specs.Prelude.{slice_set}
 use Rattle.attempt_ledger.specs.declared.row.RowEnd.{RowEnd}
-use Rattle.call_actions.specs.Order.{AreNumbered}
+use Rattle.call_actions.specs.Order.{AttemptsAreNumbered}
 use Rattle.call_actions.proofs.CallsApart.Acts.{apart_joins, others_stay}
 use Rattle.call_actions.proofs.CallsApart.Books.{books_stay}
-use Rattle.call_actions.specs.CallsApart.Apart.{AreCalls, IsApart, IsBook}
+use Rattle.call_actions.specs.CallsApart.Apart.{CallsAreNumbered, IsApart, IsBook}
 use Rattle.call_actions.proofs.CallsInTurn.Rows.{ending_keeps}
 use Rattle.call_actions.specs.CallsInTurn.Turns.{StaysSteady, waits as waits_for}
 use Rattle.call_cases.proofs.EndsFollow.Codes.{ended_code, going_code, reset_code}
@@ -20,7 +20,7 @@ use Rattle.call_cases.proofs.EndsFollow.Streams.{IsForemost, by_stream_order, is
 use Rattle.call_cases.specs.EndsFollow.Cuts.{cut_off}
 use Rattle.call_cases.proofs.CommitsFollow.Cuts.{IsOneCut}
 use Rattle.call_cases.proofs.CommitsFollow.Stays.{IsLeft, final_still, row_still, unfollowed}
-use Rattle.link_actions.specs.Sees.{ArePlaced}
+use Rattle.link_actions.specs.Sees.{AttemptsStandInPlace}
 use Rattle.session_actions.specs.Actions.{after, after_if}
 use Rattle.session_actions.specs.AttemptEnds.{cut_end, end_of, next_reset, reset_code_of, reset_of, stream_reset, stream_reset_of, with_end, with_reset_queued}
 use Rattle.session_actions.specs.Attempts.{is_commitment, wants_follower}
@@ -36,7 +36,7 @@ use Rattle.session_actions.specs.declared.seen.Seen.{Seen}
 use Rattle.session_order.proofs.AttemptDone.{attempt_leaves}
 use Rattle.session_order.proofs.Changed.{changed_away, changed_here, none_from, passes_not}
 use Rattle.session_order.proofs.StreamResets.{reset_leaves}
-use Rattle.session_order.specs.Calm.{IsStill}
+use Rattle.session_order.specs.Quiescent.{IsStill}
 use Rattle.session_order.specs.Lines.{is_line}
 use Rattle.session_order.specs.Stirs.{stirs}
 use Rattle.session_order.specs.declared.line.Line.{Line}
@@ -128,7 +128,7 @@ module _ (waits : Line → Bool) (n : ℕ) (k : Attempt) (o : OpenEntry) (b v : 
   abbrev end : RowEnd
   end = end_of a cut_end v
 
-  places : ArePlaced 1 v.attempts
+  places : AttemptsStandInPlace 1 v.attempts
   places = placed_of 1 v.attempts mid.book.places
 
   of_it : a.row.call ≡ n
@@ -220,19 +220,19 @@ module _ (waits : Line → Bool) (n : ℕ) (k : Attempt) (o : OpenEntry) (b v : 
   leaves : (l : Line) → stirs (action.AttemptEnds a.place end) l ≡ false → IsStill l o v → IsStill l o u
   leaves l off h = attempt_leaves a.place end o v mid.current tt l o current_cut off h
 
-  steady_calm : (p : ℕ) (x : Attempt) (q : Bool) → (x.row.call == n) ≡ q → numbered u.attempts p ≡ Some x → wants_follower x u ≡ false
-  steady_calm p x false e at = unfollowed n k b u base goes left_cut p x at e
-  steady_calm p x true e at =
+  steady_quiescent : (p : ℕ) (x : Attempt) (q : Bool) → (x.row.call == n) ≡ q → numbered u.attempts p ≡ Some x → wants_follower x u ≡ false
+  steady_quiescent p x false e at = unfollowed n k b u base goes left_cut p x at e
+  steady_quiescent p x true e at =
       let number : steady_cut.call.number ≡ n = call_number n u.calls steady_cut.call book_cut.calls steady_cut.own in
       second (x.row.call == steady_cut.call.number) (wants_follower x u) (ap (λ (k : ℕ). x.row.call == k) number ∙ e)
-      (passes_not (waits_for u steady_cut.call) u.attempts p x steady_cut.steady.calm at)
+      (passes_not (waits_for u steady_cut.call) u.attempts p x steady_cut.steady.quiescent at)
     where
       second : (c d : Bool) → c ≡ true → (c && d) ≡ false → d ≡ false
       second true d e h = h
       second false d e h = absurd (cc)
 
   transparent_cut : list_any (λ (x : Attempt). wants_follower x u) u.attempts ≡ false
-  transparent_cut = none_from (λ (x : Attempt). wants_follower x u) u.attempts (λ p x at. steady_calm p x (x.row.call == n) refl at)
+  transparent_cut = none_from (λ (x : Attempt). wants_follower x u) u.attempts (λ p x at. steady_quiescent p x (x.row.call == n) refl at)
 
   still_cut : (l : Line) → is_line l line.Cut ≡ false → is_line l line.Reset ≡ false → waits l ≡ false → IsStill l o u
   still_cut line.Cut e f w = absurd (cc)

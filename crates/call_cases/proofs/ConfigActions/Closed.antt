@@ -4,7 +4,7 @@ use Rattle.std.specs.Set.{remove_key}
 use Rattle.a6_numbers.specs.Throttling.{Bucket}
 use Rattle.attempt_ledger.specs.declared.ledger.Ledger.{Ledger}
 use Rattle.call_core.specs.Steps as call
-use Rattle.call_core.specs.Steps.{Stepped, lent, told_all}
+use Rattle.call_core.specs.Steps.{Stepped, lent, reported_all}
 use Rattle.call_core.specs.declared.act.CallAct.{CallAct}
 use Rattle.call_core.specs.declared.act.CallAct.TheVariants as act
 use Rattle.call_core.specs.declared.live.LiveRow.{LiveRow}
@@ -12,7 +12,7 @@ use Rattle.call_core.specs.declared.state.CallState.{CallState}
 use Rattle.channel_core.proofs.Places.{put_there}
 use Rattle.channel_core.specs.Books.{BookActs, book_asked, deadline_of, due_at, slot_at}
 use Rattle.channel_core.specs.States.{StateSeen}
-use Rattle.channel_core.specs.Steps.{closed, clothed, followed, links_sealed, resets_taken, sealed, timers_moved}
+use Rattle.channel_core.specs.Steps.{closed, given_config, followed, links_sealed, resets_taken, sealed, timers_moved}
 use Rattle.channel_core.specs.Tables.{changed_slot, numbered, tokens_in, with_call, with_timers}
 use Rattle.channel_core.specs.declared.state.book.Book.{Book}
 use Rattle.channel_core.specs.declared.state.slots.CallSlot.{CallSlot}
@@ -25,7 +25,7 @@ closed_acts : (why : EndCause) (c : CallState) (l : Ledger) (tokens : Option Buc
     → (call.closed_by why m (lent c l tokens [])).acts ≡ act.End why ∷ []
 closed_acts why c l tokens m live open_now =
     ap (λ (e : Option EndCause). (call.ended_if (not (is_some e)) why m (lent c l tokens [])).acts) open_now
-    ∙ ap (λ (rows : List LiveRow). told_all None rows [] ++ act.End why ∷ []) live
+    ∙ ap (λ (rows : List LiveRow). reported_all None rows [] ++ act.End why ∷ []) live
 
 module _ (why : EndCause) (n : ℕ) (slot : CallSlot) (live : slot.call.live ≡ []) (open_now : slot.call.ended ≡ None) where
   abbrev booked : StateSeen → BookActs
@@ -33,31 +33,31 @@ module _ (why : EndCause) (n : ℕ) (slot : CallSlot) (live : slot.call.live ≡
 
   -- without the acts of the call
   abbrev pub closed_plain : StateSeen → StateSeen
-  closed_plain s = record (timers_moved n (clothed n (record s { book = (booked s).book }))) { resets = [] }
+  closed_plain s = record (timers_moved n (given_config n (record s { book = (booked s).book }))) { resets = [] }
 
   acts_are : (s : StateSeen) → slot_at s.book n ≡ Some slot → (booked s).acts ≡ act.End why ∷ []
   acts_are s there =
       ap (λ (b : BookActs). b.acts) (asked_is (call.closed_by why s.book.moment) n s.book slot there)
       ∙ closed_acts why slot.call s.book.ledger (tokens_in s.book.buckets slot.bucket) s.book.moment live open_now
 
-  abbrev clothed_in : StateSeen → StateSeen
-  clothed_in s = timers_moved n (clothed n (record s { book = (booked s).book }))
+  abbrev given_config_in : StateSeen → StateSeen
+  given_config_in s = timers_moved n (given_config n (record s { book = (booked s).book }))
 
   pub closed_is : (s : StateSeen) → slot_at s.book n ≡ Some slot → s.resets ≡ [] → closed why n s ≡ closed_plain s
   closed_is s there unreset =
       ap (λ (acts : List CallAct). sealed (followed n acts (record s { book = (booked s).book }))) (acts_are s there)
-      ∙ ap (λ (links : List ℕ). links_sealed links (resets_taken (clothed_in s))) unreset
+      ∙ ap (λ (links : List ℕ). links_sealed links (resets_taken (given_config_in s))) unreset
 
   -- where it is the first of those that do not wait for ready, it leaves the others
-  pub closed_first : (z : StateSeen) (rest : List (ℕ × ℕ)) → slot_at z.book n ≡ Some slot → z.resets ≡ [] → closed why n (record z { impatient = (0, n) ∷ rest }) ≡ record (closed why n z) { impatient = rest }
+  pub closed_first : (z : StateSeen) (rest : List (ℕ × ℕ)) → slot_at z.book n ≡ Some slot → z.resets ≡ [] → closed why n (record z { fail_fast = (0, n) ∷ rest }) ≡ record (closed why n z) { fail_fast = rest }
   closed_first z rest there unreset =
-      closed_is (record z { impatient = (0, n) ∷ rest }) there unreset
-      ∙ ap (λ (l : List (ℕ × ℕ)). record (closed_plain z) { impatient = l }) (head_out (0, n) rest)
-      ∙ sym (ap (λ (y : StateSeen). record y { impatient = rest }) (closed_is z there unreset))
+      closed_is (record z { fail_fast = (0, n) ∷ rest }) there unreset
+      ∙ ap (λ (l : List (ℕ × ℕ)). record (closed_plain z) { fail_fast = l }) (head_out (0, n) rest)
+      ∙ sym (ap (λ (y : StateSeen). record y { fail_fast = rest }) (closed_is z there unreset))
 
-  pub closed_last : (z : StateSeen) → slot_at z.book n ≡ Some slot → z.resets ≡ [] → z.impatient ≡ [] → (closed why n z).impatient ≡ []
+  pub closed_last : (z : StateSeen) → slot_at z.book n ≡ Some slot → z.resets ≡ [] → z.fail_fast ≡ [] → (closed why n z).fail_fast ≡ []
   closed_last z there unreset none =
-      ap (λ (y : StateSeen). y.impatient) (closed_is z there unreset) ∙ ap (remove_key (is_same (0, n))) none
+      ap (λ (y : StateSeen). y.fail_fast) (closed_is z there unreset) ∙ ap (remove_key (is_same (0, n))) none
 
   -- the other calls, the net, the moment and what configs came are as they were
   abbrev slots_moved : Book → List CallSlot
@@ -98,5 +98,5 @@ module _ (why : EndCause) (n : ℕ) (slot : CallSlot) (live : slot.call.live ≡
   pub closed_resets : (s : StateSeen) → slot_at s.book n ≡ Some slot → s.resets ≡ [] → (closed why n s).resets ≡ []
   closed_resets s there unreset = ap (λ (y : StateSeen). y.resets) (closed_is s there unreset)
 
-  pub closed_bare : (s : StateSeen) → slot_at s.book n ≡ Some slot → s.resets ≡ [] → (closed why n s).unconfigured ≡ s.unconfigured
-  closed_bare s there unreset = ap (λ (y : StateSeen). y.unconfigured) (closed_is s there unreset)
+  pub closed_unconfigured : (s : StateSeen) → slot_at s.book n ≡ Some slot → s.resets ≡ [] → (closed why n s).unconfigured ≡ s.unconfigured
+  closed_unconfigured s there unreset = ap (λ (y : StateSeen). y.unconfigured) (closed_is s there unreset)

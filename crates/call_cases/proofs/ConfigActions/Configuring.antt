@@ -69,7 +69,7 @@ module _ (n : ℕ) (config : Config) (slot : CallSlot) (open_now : slot.call.end
 
     -- without the sets of calls that have no config
     abbrev plain : StateSeen
-    plain = record (with_config chosen n slot z) { bare = z.bare; impatient = z.impatient }
+    plain = record (with_config chosen n slot z) { awaiting_config = z.awaiting_config; fail_fast = z.fail_fast }
 
     timers_are : timers_moved n booked ≡ plain
     timers_are =
@@ -84,11 +84,11 @@ module _ (n : ℕ) (config : Config) (slot : CallSlot) (open_now : slot.call.end
 
     -- where it is the first of those without a config
     pub configured_first : z.held ≡ Some config → (rest others : List (ℕ × ℕ))
-        → with_config chosen n slot (record z { bare = (0, n) ∷ rest; impatient = others })
-        ≡ record (configured_call n z) { bare = rest; impatient = remove_key (is_same (0, n)) others }
+        → with_config chosen n slot (record z { awaiting_config = (0, n) ∷ rest; fail_fast = others })
+        ≡ record (configured_call n z) { awaiting_config = rest; fail_fast = remove_key (is_same (0, n)) others }
     configured_first held rest others =
-        ap (λ (l : List (ℕ × ℕ)). record plain { bare = l; impatient = remove_key (is_same (0, n)) others }) (head_out (0, n) rest)
-        ∙ sym (ap (λ (y : StateSeen). record y { bare = rest; impatient = remove_key (is_same (0, n)) others }) (configured_is held))
+        ap (λ (l : List (ℕ × ℕ)). record plain { awaiting_config = l; fail_fast = remove_key (is_same (0, n)) others }) (head_out (0, n) rest)
+        ∙ sym (ap (λ (y : StateSeen). record y { awaiting_config = rest; fail_fast = remove_key (is_same (0, n)) others }) (configured_is held))
 
     pub configured_away : z.held ≡ Some config → (m : ℕ) → (m == n) ≡ false → slot_at (configured_call n z).book m ≡ slot_at z.book m
     configured_away held m away =

@@ -7,7 +7,7 @@ use Rattle.std.specs.Prelude.{find}
 use Rattle.call_actions.proofs.Lists.{changed_twice}
 use Rattle.channel_actions.proofs.Stamps.{counted_at}
 use Rattle.channel_actions.specs.Agrees.{Agrees}
-use Rattle.call_cases.specs.EndsFollow.Cuts.{AreUnreset}
+use Rattle.call_cases.specs.EndsFollow.Cuts.{NoStreamIsToReset}
 use Rattle.call_cases.proofs.LongSends.Found.{found}
 use Rattle.call_cases.proofs.OneCallEnds.Whole.{one_call_ends}
 use Rattle.call_cases.specs.CallEnds.Ends.{EndsNext, HasEnded}
@@ -24,10 +24,10 @@ use Rattle.session_actions.specs.declared.call.MarkKind.TheVariants as mark
 use Rattle.session_actions.specs.declared.entry.OpenEntry.{OpenEntry}
 use Rattle.session_actions.specs.declared.seen.Seen.{Seen}
 use Rattle.session_order.proofs.Aside.{long_as}
-use Rattle.session_order.proofs.Calms.{first_line_gives}
+use Rattle.session_order.proofs.Quiescence.{first_line_gives}
 use Rattle.session_order.proofs.Changed.{none_each_changed}
 use Rattle.session_order.proofs.Ended.{ended_leaves}
-use Rattle.session_order.specs.Calm.{IsStill}
+use Rattle.session_order.specs.Quiescent.{IsStill}
 use Rattle.session_order.specs.Lines.{is_before, is_line, rank}
 use Rattle.session_order.specs.declared.line.Line.{Line}
 use Rattle.session_order.specs.declared.line.Line.TheVariants as line
@@ -37,7 +37,7 @@ or_none b e = ap (λ (z : Bool). z || false) e
 
 module _ (o : OpenEntry) (t : Seen) (n : ℕ) (c : Call) (mid : StateSeen) (h : Agrees mid t) (current : t.current ≡ Some o) (own : numbered t.calls n ≡ Some c) (goes : c.end ≡ None)
     (reason : has_long_request o t c ≡ true) (others : (k : ℕ) (d : Call) → (k == n) ≡ false → numbered t.calls k ≡ Some d → has_long_request o t d ≡ false)
-    (still : (l : Line) → is_line l line.Request ≡ false → IsStill l o t) (unreset : AreUnreset t) where
+    (still : (l : Line) → is_line l line.Request ≡ false → IsStill l o t) (unreset : NoStreamIsToReset t) where
   abbrev after : Seen
   after = call_ended n ending.Request t
 

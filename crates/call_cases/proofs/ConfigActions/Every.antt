@@ -5,15 +5,15 @@ use Rattle.std.specs.Set.{remove_key}
 use Rattle.call_actions.proofs.Places.{places_below}
 use Rattle.call_core.specs.Parts.{is_too_long}
 use Rattle.channel_actions.specs.Agrees.{Agrees}
-use Rattle.channel_actions.specs.Calm.{IsAt}
-use Rattle.channel_actions.specs.Sets.{is_in_bare, is_in_impatient, is_patient}
+use Rattle.channel_actions.specs.Quiescent.{IsAt}
+use Rattle.channel_actions.specs.Sets.{is_awaiting_config, is_in_fail_fast, is_ready_waiter}
 use Rattle.channel_core.specs.States.{StateSeen}
-use Rattle.channel_core.specs.Steps.{all_configured, all_unconfigured, bare_served, configured_call}
+use Rattle.channel_core.specs.Steps.{all_configured, all_unconfigured, unconfigured_served, configured_call}
 use Rattle.channel_core.specs.Timing.{due_keys, later, number_of}
 use Rattle.call_cases.proofs.ConfigActions.Unserved.{below_all, is_zero, within_word}
 use Rattle.session_order.specs.ConfigStirs.Laws.{ConfigsStir}
 use Rattle.call_cases.specs.ConfiguredCalls.Laws.{CallsGetConfigs, Frames}
-use Rattle.channel_actions.specs.KeptCalls.Laws.{CallsAreBare, EarlyAlong}
+use Rattle.channel_actions.specs.KeptCalls.Laws.{CallsAreUnconfigured, EarlyAlong}
 use Rattle.net_actions.specs.Laws.{ClockChanges, ClockRests, NoneConnects, TakeOversAreSame, WishesConnect}
 use Rattle.picker_gate.specs.Pairs.{has, is_same}
 use Rattle.service_config.specs.Choice.{chosen_for}
@@ -22,29 +22,29 @@ use Rattle.session_actions.specs.Words.{numbered}
 use Rattle.session_actions.specs.declared.entry.OpenEntry.{OpenEntry}
 use Rattle.session_actions.specs.declared.entry.Stage.TheVariants as stage
 use Rattle.session_actions.specs.declared.seen.Seen.{Seen}
-use Rattle.session_order.specs.Laws.{CalmIsExact}
+use Rattle.session_order.specs.Laws.{QuiescenceIsExact}
 use Rattle.channel_actions.proofs.Links.Settings.Keys.{are_plain, keys_next, none_later, plain_by}
 use Rattle.channel_actions.proofs.Links.Settings.Pairs.{self_same}
 use Rattle.call_cases.proofs.SettlingActions.Composed.{leads_on, stays_at}
 use Rattle.call_cases.specs.SettlingActions.Sound.{IsSound}
 use Rattle.call_cases.specs.SettlingActions.Steps.{IsJoined, IsTended, Leads}
-use Rattle.call_cases.proofs.ConfigActions.Tended.{Gets, OneServed, bare_first, bare_there, empty_by}
+use Rattle.call_cases.proofs.ConfigActions.Tended.{Gets, OneServed, unconfigured_first, unconfigured_there, empty_by}
 use Rattle.call_cases.proofs.ConfigActions.Served.{long_served, own, served_tended, short_served}
 
-module _ (exact : CalmIsExact) (stir : ConfigsStir) (clocks : ClockChanges) (rests : ClockRests) (overs : TakeOversAreSame) (wishes : WishesConnect) (nones : NoneConnects)
-    (gets : CallsGetConfigs) (frames : Frames) (along : EarlyAlong) (bares : CallsAreBare) (config : Config) where
-  no_others_left : (s : Seen) (others : List (ℕ × ℕ)) (y : StateSeen) → Agrees y s → y.bare ≡ [] → y.impatient ≡ []
+module _ (exact : QuiescenceIsExact) (stir : ConfigsStir) (clocks : ClockChanges) (rests : ClockRests) (overs : TakeOversAreSame) (wishes : WishesConnect) (nones : NoneConnects)
+    (gets : CallsGetConfigs) (frames : Frames) (along : EarlyAlong) (awaiting_configs : CallsAreUnconfigured) (config : Config) where
+  no_others_left : (s : Seen) (others : List (ℕ × ℕ)) (y : StateSeen) → Agrees y s → y.awaiting_config ≡ [] → y.fail_fast ≡ []
   no_others_left s others y h none =
-      empty_by y.impatient (is_in_impatient s) h.sets.impatient
-      (λ a b e. absurd (let bad : false ≡ true = ap (λ (l : List (ℕ × ℕ)). has l (a, b)) (sym none) ∙ h.sets.bare.exact a b ∙ (and_parts (is_in_bare s a b) (not (is_patient s b)) e).0 in (cc)))
+      empty_by y.fail_fast (is_in_fail_fast s) h.sets.fail_fast
+      (λ a b e. absurd (let bad : false ≡ true = ap (λ (l : List (ℕ × ℕ)). has l (a, b)) (sym none) ∙ h.sets.awaiting_config.exact a b ∙ (and_parts (is_awaiting_config s a b) (not (is_ready_waiter s b)) e).0 in (cc)))
 
   -- whether a message that it sent is too long or not
   step_by : (n : ℕ) (rest others : List (ℕ × ℕ)) (z : StateSeen) (o : OpenEntry) (s : Seen) (w : Gets config ((0, n) ∷ rest) others z o s) (b : Bool)
-      → is_too_long (Some (chosen_for config (own exact stir clocks rests overs wishes nones gets frames along bares config n rest others z o s w).slot.call.request.path))
-      (own exact stir clocks rests overs wishes nones gets frames along bares config n rest others z o s w).slot.call.longest ≡ b
+      → is_too_long (Some (chosen_for config (own exact stir clocks rests overs wishes nones gets frames along awaiting_configs config n rest others z o s w).slot.call.request.path))
+      (own exact stir clocks rests overs wishes nones gets frames along awaiting_configs config n rest others z o s w).slot.call.longest ≡ b
       → OneServed config n rest others z o s
-  step_by n rest others z o s w true e = long_served exact stir clocks rests overs wishes nones gets frames along bares config n rest others z o s w e
-  step_by n rest others z o s w false e = short_served exact stir clocks rests overs wishes nones gets frames along bares config n rest others z o s w e
+  step_by n rest others z o s w true e = long_served exact stir clocks rests overs wishes nones gets frames along awaiting_configs config n rest others z o s w e
+  step_by n rest others z o s w false e = short_served exact stir clocks rests overs wishes nones gets frames along awaiting_configs config n rest others z o s w e
 
   step : (n : ℕ) (rest others : List (ℕ × ℕ)) (z : StateSeen) (o : OpenEntry) (s : Seen) → Gets config ((0, n) ∷ rest) others z o s → OneServed config n rest others z o s
   step n rest others z o s w = step_by n rest others z o s w _ refl
@@ -53,11 +53,11 @@ module _ (exact : CalmIsExact) (stir : ConfigsStir) (clocks : ClockChanges) (res
   all_served : (pairs others : List (ℕ × ℕ)) (z : StateSeen) (o : OpenEntry) (s : Seen) → are_plain pairs ≡ true → Gets config pairs others z o s
       → Leads (all_configured (due_keys 0 pairs) z) o s IsTended
   all_served [] others z o s plain w =
-      let none : others ≡ [] = no_others_left s others (record z { bare = []; impatient = others }) w.agrees refl in
-      let same : record z { bare = []; impatient = others } ≡ z
-      = ap (λ (l : List (ℕ × ℕ)). record z { bare = []; impatient = l }) (none ∙ sym w.no_others) ∙ ap (λ (l : List (ℕ × ℕ)). record z { bare = l }) (sym w.no_bare) in
+      let none : others ≡ [] = no_others_left s others (record z { awaiting_config = []; fail_fast = others }) w.agrees refl in
+      let same : record z { awaiting_config = []; fail_fast = others } ≡ z
+      = ap (λ (l : List (ℕ × ℕ)). record z { awaiting_config = []; fail_fast = l }) (none ∙ sym w.no_others) ∙ ap (λ (l : List (ℕ × ℕ)). record z { awaiting_config = l }) (sym w.no_unconfigured) in
       subst (λ (x : StateSeen). Leads x o s IsTended) same
-      (stays_at (record z { bare = []; impatient = others }) o s IsTended w.agrees w.at (served_tended config others z o s w))
+      (stays_at (record z { awaiting_config = []; fail_fast = others }) o s IsTended w.agrees w.at (served_tended config others z o s w))
   all_served (p ∷ rest) others z o s plain w =
       let both = and_parts (p.0 == 0) (are_plain rest) plain in
       let head : p ≡ (0, p.1) = ap (λ (m : ℕ). (m, p.1)) (is_zero p.0 both.0) in
@@ -70,36 +70,36 @@ module _ (exact : CalmIsExact) (stir : ConfigsStir) (clocks : ClockChanges) (res
       let keys : all_configured (due_keys 0 (p ∷ rest)) z ≡ all_configured (due_keys 0 rest) (configured_call p.1 z)
       = ap (λ (l : List ℕ). all_configured l z) (keys_next p rest plain) ∙ ap (λ (m : ℕ). all_configured (due_keys 0 rest) (configured_call m z)) small in
       subst (λ (x : StateSeen). Leads x o s IsTended) (sym keys)
-      (leads_on (record (configured_call p.1 z) { bare = rest; impatient = left }) (all_configured (due_keys 0 rest) (configured_call p.1 z)) o s (λ q u. Unit {0}) IsTended one.leads more)
+      (leads_on (record (configured_call p.1 z) { awaiting_config = rest; fail_fast = left }) (all_configured (due_keys 0 rest) (configured_call p.1 z)) o s (λ q u. Unit {0}) IsTended one.leads more)
 
   -- the whole step
   module _ (x : StateSeen) (o : OpenEntry) (s : Seen) (h : Agrees x s) (sound : IsSound x s) (at : IsAt stage.Settling o s) (joined : IsJoined o s)
       (held : x.held ≡ Some config) where
-    plain_bare : are_plain x.bare ≡ true
-    plain_bare = plain_by x.bare (is_in_bare s) h.sets.bare (bare_first s)
+    plain_unconfigured : are_plain x.awaiting_config ≡ true
+    plain_unconfigured = plain_by x.awaiting_config (is_awaiting_config s) h.sets.awaiting_config (unconfigured_first s)
 
-    gets_first : Gets config x.bare x.impatient (record x { bare = later 0 x.bare; impatient = [] }) o s
+    gets_first : Gets config x.awaiting_config x.fail_fast (record x { awaiting_config = later 0 x.awaiting_config; fail_fast = [] }) o s
     gets_first = record {
       agrees = h;
-      no_bare = none_later x.bare plain_bare;
+      no_unconfigured = none_later x.awaiting_config plain_unconfigured;
       no_others = refl;
       at = at;
       joined = joined;
       held = held;
       early = sound.early;
       few =
-          λ n e. let d = bare_there s n (numbered s.calls n) refl (sym (h.sets.bare.exact 0 n) ∙ e) in
+          λ n e. let d = unconfigured_there s n (numbered s.calls n) refl (sym (h.sets.awaiting_config.exact 0 n) ∙ e) in
           below_all n (length s.calls) (places_below s.calls n d.0 d.1) sound.few;
     }
 
-    served_is : bare_served x ≡ all_configured (due_keys 0 x.bare) (record x { bare = later 0 x.bare; impatient = [] })
-    unfolding bare_served
+    served_is : unconfigured_served x ≡ all_configured (due_keys 0 x.awaiting_config) (record x { awaiting_config = later 0 x.awaiting_config; fail_fast = [] })
+    unfolding unconfigured_served
     served_is =
-        ap (λ (c : Option Config). if is_some c then all_configured (due_keys 0 x.bare) (record x { bare = later 0 x.bare; impatient = [] })
-        else if x.unconfigured then all_unconfigured (due_keys 0 x.impatient) (record x { impatient = later 0 x.impatient })
+        ap (λ (c : Option Config). if is_some c then all_configured (due_keys 0 x.awaiting_config) (record x { awaiting_config = later 0 x.awaiting_config; fail_fast = [] })
+        else if x.unconfigured then all_unconfigured (due_keys 0 x.fail_fast) (record x { fail_fast = later 0 x.fail_fast })
         else x) held
 
-    pub served_get : Leads (bare_served x) o s IsTended
+    pub served_get : Leads (unconfigured_served x) o s IsTended
     served_get =
         subst (λ (y : StateSeen). Leads y o s IsTended) (sym served_is)
-        (all_served x.bare x.impatient (record x { bare = later 0 x.bare; impatient = [] }) o s plain_bare gets_first)
+        (all_served x.awaiting_config x.fail_fast (record x { awaiting_config = later 0 x.awaiting_config; fail_fast = [] }) o s plain_unconfigured gets_first)

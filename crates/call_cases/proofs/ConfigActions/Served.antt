@@ -6,15 +6,15 @@ use Rattle.std.specs.Option.{option_map, option_map_or}
 use Rattle.std.specs.Prelude.{nat_lt, option_and_then}
 use Rattle.std.specs.Set.{remove_key}
 use Rattle.attempt_ledger.specs.declared.ledger.CallEnd.{CallEnd}
-use Rattle.call_actions.proofs.Bare.{none_live}
-use Rattle.call_actions.specs.Laws.{IsBare}
+use Rattle.call_actions.proofs.Unconfigured.{none_live}
+use Rattle.call_actions.specs.Laws.{IsUnconfigured}
 use Rattle.call_core.specs.Parts.{is_too_long}
 use Rattle.channel_actions.proofs.Settles.{follows_by}
 use Rattle.channel_actions.proofs.Stamps.{counted_at}
 use Rattle.channel_actions.specs.Agrees.{Agrees}
 use Rattle.channel_actions.specs.Calls.{HasSlot, deadline_of, due_of}
-use Rattle.channel_actions.specs.Calm.{IsAt}
-use Rattle.channel_actions.specs.Sets.{is_in_bare}
+use Rattle.channel_actions.specs.Quiescent.{IsAt}
+use Rattle.channel_actions.specs.Sets.{is_awaiting_config}
 use Rattle.channel_core.specs.Books.{slot_at}
 use Rattle.channel_core.specs.States.{StateSeen}
 use Rattle.call_cases.specs.CallEnds.Ends.{HasEnded}
@@ -30,7 +30,7 @@ use Rattle.call_cases.specs.ConfiguredCalls.Steps.{with_config}
 use Rattle.grpc_base.specs.declared.event.EndCause.TheVariants as ending
 use Rattle.grpc_base.specs.Requests.{RequestSeen}
 use Rattle.grpc_base.specs.declared.plan.Chosen.{Chosen}
-use Rattle.channel_actions.specs.KeptCalls.Laws.{CallsAreBare, EarlyAlong}
+use Rattle.channel_actions.specs.KeptCalls.Laws.{CallsAreUnconfigured, EarlyAlong}
 use Rattle.net_actions.specs.Laws.{ClockChanges, ClockRests, NoneConnects, TakeOversAreSame, WishesConnect}
 use Rattle.picker_gate.specs.Pairs.{has, is_same}
 use Rattle.service_config.specs.Choice.{chosen_for}
@@ -58,16 +58,16 @@ use Rattle.session_actions.specs.declared.entry.Stage.TheVariants as stage
 use Rattle.session_actions.specs.declared.seen.Seen.{Seen}
 use Rattle.session_order.proofs.Aside.{long_as}
 use Rattle.session_order.proofs.Changed.{changed_away, changed_here, none_from, passes_not}
-use Rattle.session_order.specs.Calm as order
-use Rattle.session_order.specs.Calm.{IsStill}
-use Rattle.session_order.specs.Laws.{CalmIsExact, Leaves}
+use Rattle.session_order.specs.Quiescent as order
+use Rattle.session_order.specs.Quiescent.{IsStill}
+use Rattle.session_order.specs.Laws.{QuiescenceIsExact, Leaves}
 use Rattle.session_order.specs.Lines.{is_line}
 use Rattle.session_order.specs.declared.line.Line.{Line}
 use Rattle.session_order.specs.declared.line.Line.TheVariants as line
 use Rattle.channel_actions.proofs.Links.Settings.Firsts.{first_numbered, none_numbered}
 use Rattle.channel_actions.proofs.Links.Settings.Keys.{below_fails, head_passes}
 use Rattle.call_cases.specs.SettlingActions.Steps.{IsTended, Leads}
-use Rattle.call_cases.proofs.ConfigActions.Tended.{gives_config, gives_nothing, is_bare_call, short_from, long_from, none_below, quiet_request, Gets, OneServed, HasConfig, bare_there, has_config}
+use Rattle.call_cases.proofs.ConfigActions.Tended.{gives_config, gives_nothing, is_unconfigured_call, short_from, long_from, none_below, quiet_request, Gets, OneServed, HasConfig, unconfigured_there, has_config}
 
 -- none is left
 pub served_tended : (config : Config) (others : List (ℕ × ℕ)) (z : StateSeen) (o : OpenEntry) (s : Seen) → Gets config [] others z o s → IsTended o s
@@ -77,22 +77,22 @@ served_tended config others z o s w = record {
   connected = w.joined.connected;
   configs =
       none_numbered (config_action s) s.calls
-      (λ m d there. gives_nothing (record z { bare = []; impatient = others }) s w.agrees config w.held m d there (sym (w.agrees.sets.bare.exact 0 m)));
+      (λ m d there. gives_nothing (record z { awaiting_config = []; fail_fast = others }) s w.agrees config w.held m d there (sym (w.agrees.sets.awaiting_config.exact 0 m)));
   pass = no_pass o s w.joined.turn;
 }
 
 -- the next one gets its config
-module _ (exact : CalmIsExact) (stir : ConfigsStir) (clocks : ClockChanges) (rests : ClockRests) (overs : TakeOversAreSame) (wishes : WishesConnect) (nones : NoneConnects)
-    (gets : CallsGetConfigs) (frames : Frames) (along : EarlyAlong) (bares : CallsAreBare) (config : Config) where
+module _ (exact : QuiescenceIsExact) (stir : ConfigsStir) (clocks : ClockChanges) (rests : ClockRests) (overs : TakeOversAreSame) (wishes : WishesConnect) (nones : NoneConnects)
+    (gets : CallsGetConfigs) (frames : Frames) (along : EarlyAlong) (awaiting_configs : CallsAreUnconfigured) (config : Config) where
   module _ (n : ℕ) (rest others : List (ℕ × ℕ)) (z : StateSeen) (o : OpenEntry) (s : Seen) (w : Gets config ((0, n) ∷ rest) others z o s) where
     abbrev pub y : StateSeen
-    y = record z { bare = (0, n) ∷ rest; impatient = others }
+    y = record z { awaiting_config = (0, n) ∷ rest; fail_fast = others }
 
-    pub in_set : is_in_bare s 0 n ≡ true
-    in_set = head_passes (0, n) rest (is_in_bare s) w.agrees.sets.bare
+    pub in_set : is_awaiting_config s 0 n ≡ true
+    in_set = head_passes (0, n) rest (is_awaiting_config s) w.agrees.sets.awaiting_config
 
     pub found : (d : Call) × (numbered s.calls n ≡ Some d)
-    found = bare_there s n (numbered s.calls n) refl in_set
+    found = unconfigured_there s n (numbered s.calls n) refl in_set
 
     abbrev pub c : Call
     c = found.0
@@ -101,7 +101,7 @@ module _ (exact : CalmIsExact) (stir : ConfigsStir) (clocks : ClockChanges) (res
     g = has_config y s w.agrees config w.held
 
     pub below : (m : ℕ) (d : Call) → m < n → numbered s.calls m ≡ Some d → config_action s d ≡ None
-    below m d less there = gives_nothing y s w.agrees config w.held m d there (below_fails (0, n) rest (is_in_bare s) m w.agrees.sets.bare refl less)
+    below m d less there = gives_nothing y s w.agrees config w.held m d there (below_fails (0, n) rest (is_awaiting_config s) m w.agrees.sets.awaiting_config refl less)
 
     abbrev pub does_it : Action
     does_it = action.CallConfigured n (length s.configs)
@@ -118,7 +118,7 @@ module _ (exact : CalmIsExact) (stir : ConfigsStir) (clocks : ClockChanges) (res
     pub follows : following s ≡ Some does_it
     follows =
         ap (option_and_then (following_in s)) w.at.current
-        ∙ follows_by (of_calls o s) (of_links o s) (of_policies o s) (of_stage o s o.stage) does_it w.at.calm.calls w.at.calm.links w.at.calm.policies stage_gives
+        ∙ follows_by (of_calls o s) (of_links o s) (of_policies o s) (of_stage o s o.stage) does_it w.at.quiescent.calls w.at.quiescent.links w.at.quiescent.policies stage_gives
 
     pub own : HasSlot y s c n
     own = w.agrees.calls.each n c found.1
@@ -126,11 +126,11 @@ module _ (exact : CalmIsExact) (stir : ConfigsStir) (clocks : ClockChanges) (res
     pub here : slot_at z.book n ≡ Some own.slot
     here = own.there
 
-    pub bare : IsBare s c
-    bare = is_bare_call y s w.agrees config w.held n c found.1 bares w.early in_set
+    pub awaiting_config : IsUnconfigured s c
+    awaiting_config = is_unconfigured_call y s w.agrees config w.held n c found.1 awaiting_configs w.early in_set
 
     pub next_one : ConfigNext n y o s
-    next_one = record { current = w.at.current; agrees = w.agrees; call = c; there = found.1; bare = bare; held = g.held; is_held = g.is; next = follows }
+    next_one = record { current = w.at.current; agrees = w.agrees; call = c; there = found.1; awaiting_config = awaiting_config; held = g.held; is_held = g.is; next = follows }
 
     abbrev pub t : Seen
     t = call_configured n (length s.configs) s
@@ -144,11 +144,11 @@ module _ (exact : CalmIsExact) (stir : ConfigsStir) (clocks : ClockChanges) (res
 
     -- the same as what the channel makes of it
     pub unended : own.slot.call.ended ≡ None
-    unended = sym own.sees.serves.sees.ended ∙ ap (option_map (λ (e : CallEnd). e.cause)) bare.end
+    unended = sym own.sees.serves.sees.ended ∙ ap (option_map (λ (e : CallEnd). e.cause)) awaiting_config.end
 
     pub unchosen : own.slot.call.chosen ≡ None
     unchosen =
-        sym own.sees.serves.sees.chosen ∙ ap (λ (q : Option ℕ). option_map (λ (k : HeldConfig). chosen_for k.config c.request.path) (option_and_then (numbered s.configs) q)) bare.config
+        sym own.sees.serves.sees.chosen ∙ ap (λ (q : Option ℕ). option_map (λ (k : HeldConfig). chosen_for k.config c.request.path) (option_and_then (numbered s.configs) q)) awaiting_config.config
 
     pub chosen_same : chosen_for g.held.config c.request.path ≡ chosen_for config own.slot.call.request.path
     chosen_same = ap (λ (k : Config). chosen_for k c.request.path) g.same ∙ ap (λ (r : RequestSeen). chosen_for config r.path) own.sees.serves.sees.request
@@ -160,8 +160,8 @@ module _ (exact : CalmIsExact) (stir : ConfigsStir) (clocks : ClockChanges) (res
     others_left = remove_key (is_same (0, n)) others
 
     -- nothing follows at once
-    pub calm : order.IsCalm o s
-    calm = (exact o s).0 (w.at.calm.calls, w.at.calm.links, w.at.calm.policies)
+    pub quiescent : order.IsQuiescent o s
+    quiescent = (exact o s).0 (w.at.quiescent.calls, w.at.quiescent.links, w.at.quiescent.policies)
 
     pub numbers : (k : ℕ) (d : Call) → numbered s.calls k ≡ Some d → d.number ≡ k
     numbers k d there = counted_at (λ (e : Call). e.number) s.calls k d w.agrees.kept.calls there
@@ -172,7 +172,7 @@ module _ (exact : CalmIsExact) (stir : ConfigsStir) (clocks : ClockChanges) (res
     pub leaves : Leaves does_it o s
     leaves =
         stir n (length s.configs) o s w.at.current numbers
-        (subst (λ (k : ℕ). list_any (λ (a : Attempt). a.row.call == k) s.attempts ≡ false) own_number bare.none)
+        (subst (λ (k : ℕ). list_any (λ (a : Attempt). a.row.call == k) s.attempts ≡ false) own_number awaiting_config.none)
 
     abbrev pub c1 : Call
     c1 = record c { marks = c.marks ++ record { what = mark.Configured; moment = now s } ∷ []; config = Some (length s.configs); configured = Some (entry s) }
@@ -198,7 +198,7 @@ module _ (exact : CalmIsExact) (stir : ConfigsStir) (clocks : ClockChanges) (res
 
     -- where no message that it sent is too long
     module _ (small : is_too_long (Some (chosen_for config own.slot.call.request.path)) own.slot.call.longest ≡ false) where
-      mid_is : mid ≡ record after_one { bare = rest; impatient = others_left }
+      mid_is : mid ≡ record after_one { awaiting_config = rest; fail_fast = others_left }
       mid_is =
           ap (λ (k : Chosen). with_config k n own.slot y) chosen_same
           ∙ configured_first n config own.slot unended unchosen small z here w.held rest others
@@ -220,42 +220,42 @@ module _ (exact : CalmIsExact) (stir : ConfigsStir) (clocks : ClockChanges) (res
           let both : Some c1 ≡ Some d = sym own_now ∙ ap (numbered t.calls) (sym (equal_numbers k n e)) ∙ there in
           let one : c1 ≡ d = (cc) in ap (has_long_request o t) (sym one) ∙ request_own
       request_by k d false e there =
-          long_as o d d t s refl refl refl (λ m. refl) ∙ passes_not (has_long_request o s) s.calls k d (calm line.Request) (sym (other_now k e) ∙ there)
+          long_as o d d t s refl refl refl (λ m. refl) ∙ passes_not (has_long_request o s) s.calls k d (quiescent line.Request) (sym (other_now k e) ∙ there)
 
       still : (l : Line) → IsStill l o t
       still line.Request = none_from (has_long_request o t) t.calls (λ k d there. request_by k d (k == n) refl there)
-      still line.Cut = leaves line.Cut o w.at.current refl (calm line.Cut)
-      still line.Transparent = leaves line.Transparent o w.at.current refl (calm line.Transparent)
-      still line.Inherited = leaves line.Inherited o w.at.current refl (calm line.Inherited)
-      still line.Row = leaves line.Row o w.at.current refl (calm line.Row)
-      still line.Final = leaves line.Final o w.at.current refl (calm line.Final)
-      still line.Cancelled = leaves line.Cancelled o w.at.current refl (calm line.Cancelled)
-      still line.Overflow = leaves line.Overflow o w.at.current refl (calm line.Overflow)
-      still line.Head = leaves line.Head o w.at.current refl (calm line.Head)
-      still line.Response = leaves line.Response o w.at.current refl (calm line.Response)
-      still line.Pick = leaves line.Pick o w.at.current refl (calm line.Pick)
-      still line.Link = leaves line.Link o w.at.current refl (calm line.Link)
-      still line.WireEnd = leaves line.WireEnd o w.at.current refl (calm line.WireEnd)
-      still line.Reset = leaves line.Reset o w.at.current refl (calm line.Reset)
-      still line.Shut = leaves line.Shut o w.at.current refl (calm line.Shut)
-      still line.Retire = leaves line.Retire o w.at.current refl (calm line.Retire)
-      still line.Begin = leaves line.Begin o w.at.current refl (calm line.Begin)
-      still line.Give = leaves line.Give o w.at.current refl (calm line.Give)
-      still line.Drop = leaves line.Drop o w.at.current refl (calm line.Drop)
-      still line.Add = leaves line.Add o w.at.current refl (calm line.Add)
+      still line.Cut = leaves line.Cut o w.at.current refl (quiescent line.Cut)
+      still line.Transparent = leaves line.Transparent o w.at.current refl (quiescent line.Transparent)
+      still line.Inherited = leaves line.Inherited o w.at.current refl (quiescent line.Inherited)
+      still line.Row = leaves line.Row o w.at.current refl (quiescent line.Row)
+      still line.Final = leaves line.Final o w.at.current refl (quiescent line.Final)
+      still line.Cancelled = leaves line.Cancelled o w.at.current refl (quiescent line.Cancelled)
+      still line.Overflow = leaves line.Overflow o w.at.current refl (quiescent line.Overflow)
+      still line.Head = leaves line.Head o w.at.current refl (quiescent line.Head)
+      still line.Response = leaves line.Response o w.at.current refl (quiescent line.Response)
+      still line.Pick = leaves line.Pick o w.at.current refl (quiescent line.Pick)
+      still line.Link = leaves line.Link o w.at.current refl (quiescent line.Link)
+      still line.WireEnd = leaves line.WireEnd o w.at.current refl (quiescent line.WireEnd)
+      still line.Reset = leaves line.Reset o w.at.current refl (quiescent line.Reset)
+      still line.Shut = leaves line.Shut o w.at.current refl (quiescent line.Shut)
+      still line.Retire = leaves line.Retire o w.at.current refl (quiescent line.Retire)
+      still line.Begin = leaves line.Begin o w.at.current refl (quiescent line.Begin)
+      still line.Give = leaves line.Give o w.at.current refl (quiescent line.Give)
+      still line.Drop = leaves line.Drop o w.at.current refl (quiescent line.Drop)
+      still line.Add = leaves line.Add o w.at.current refl (quiescent line.Add)
 
-      agrees_after : Agrees (record after_one { bare = rest; impatient = others_left }) t
+      agrees_after : Agrees (record after_one { awaiting_config = rest; fail_fast = others_left }) t
       agrees_after = subst (λ (x : StateSeen). Agrees x t) mid_is agrees_mid
 
       gets_after : Gets config rest others_left after_one o t
       gets_after = record {
         agrees = agrees_after;
-        no_bare = ap (λ (x : StateSeen). x.bare) (configured_is n config own.slot unended unchosen small z here w.held) ∙ w.no_bare;
-        no_others = ap (λ (x : StateSeen). x.impatient) (configured_is n config own.slot unended unchosen small z here w.held) ∙ w.no_others;
+        no_unconfigured = ap (λ (x : StateSeen). x.awaiting_config) (configured_is n config own.slot unended unchosen small z here w.held) ∙ w.no_unconfigured;
+        no_others = ap (λ (x : StateSeen). x.fail_fast) (configured_is n config own.slot unended unchosen small z here w.held) ∙ w.no_others;
         at = record {
           current = w.at.current;
           stage_is = w.at.stage_is;
-          calm = (let back = (exact o t).1 still in record { calls = back.0; links = back.1; policies = back.2 });
+          quiescent = (let back = (exact o t).1 still in record { calls = back.0; links = back.1; policies = back.2 });
         };
         joined = record {
           turn = w.joined.turn;
@@ -268,7 +268,7 @@ module _ (exact : CalmIsExact) (stir : ConfigsStir) (clocks : ClockChanges) (res
         few = λ m e. w.few m (later_in m e);
       }
 
-      one_served : Leads (record after_one { bare = rest; impatient = others_left }) o s (λ p u. Unit {0})
+      one_served : Leads (record after_one { awaiting_config = rest; fail_fast = others_left }) o s (λ p u. Unit {0})
       one_served = record {
         reaches = record {
           actions = does_it ∷ [];
@@ -300,21 +300,21 @@ module _ (exact : CalmIsExact) (stir : ConfigsStir) (clocks : ClockChanges) (res
       reason : has_long_request o t c1 ≡ true
       reason =
           ap (λ (b : Bool). is_open_call c && (b || (is_after_event o && sends_too_long o.event c1 t))) long_is
-          ∙ ap (λ (q : Option CallEnd). is_none q && true) bare.end
+          ∙ ap (λ (q : Option CallEnd). is_none q && true) awaiting_config.end
 
       others_short : (k : ℕ) (d : Call) → (k == n) ≡ false → numbered t.calls k ≡ Some d → has_long_request o t d ≡ false
       others_short k d e there =
-          long_as o d d t s refl refl refl (λ m. refl) ∙ passes_not (has_long_request o s) s.calls k d (calm line.Request) (sym (other_now k e) ∙ there)
+          long_as o d d t s refl refl refl (λ m. refl) ∙ passes_not (has_long_request o s) s.calls k d (quiescent line.Request) (sym (other_now k e) ∙ there)
 
       quiet : (l : Line) → is_line l line.Request ≡ false → IsStill l o t
       quiet line.Request e = absurd (cc)
-      quiet l e = leaves l o w.at.current refl (calm l)
+      quiet l e = leaves l o w.at.current refl (quiescent l)
 
       pub ended : HasEnded (λ (l : Line). false) n ending.Request mid o t
-      ended = long_ended o t n c1 mid agrees_mid w.at.current own_now bare.end reason others_short quiet (along (does_it ∷ []) s t w.agrees.kept w.early does).resets
+      ended = long_ended o t n c1 mid agrees_mid w.at.current own_now awaiting_config.end reason others_short quiet (along (does_it ∷ []) s t w.agrees.kept w.early does).resets
 
       live : own.slot.call.live ≡ []
-      live = sym own.sees.serves.sees.live ∙ none_live s c bare.none
+      live = sym own.sees.serves.sees.live ∙ none_live s c awaiting_config.none
 
       due_was : (m : ℕ) → has z.dues (m, n) ≡ is_number m own.slot.due
       due_was m = w.agrees.sets.dues.exact m n ∙ ap (holds (λ (d : Call). is_number m (due_of s d))) found.1 ∙ ap (is_number m) own.sees.due
@@ -323,13 +323,13 @@ module _ (exact : CalmIsExact) (stir : ConfigsStir) (clocks : ClockChanges) (res
       deadline_was m =
           w.agrees.sets.deadlines.exact m n ∙ ap (holds (λ (d : Call). is_number m (deadline_of s d))) found.1 ∙ ap (is_number m) own.sees.deadline_is
 
-      closed_is : closed ending.Request n mid ≡ record after_one { bare = rest; impatient = others_left }
+      closed_is : closed ending.Request n mid ≡ record after_one { awaiting_config = rest; fail_fast = others_left }
       closed_is =
           ap (λ (k : Chosen). closed ending.Request n (with_config k n own.slot y)) chosen_same
-          ∙ configured_ends n config own.slot unended unchosen live long z here rest others w.agrees.sets.resets w.agrees.sets.bare.rising w.agrees.sets.impatient.rising
+          ∙ configured_ends n config own.slot unended unchosen live long z here rest others w.agrees.sets.resets w.agrees.sets.awaiting_config.rising w.agrees.sets.fail_fast.rising
           w.agrees.sets.dues.rising w.agrees.sets.deadlines.rising due_was deadline_was w.held
 
-      agrees_end : Agrees (record after_one { bare = rest; impatient = others_left }) ended.seen
+      agrees_end : Agrees (record after_one { awaiting_config = rest; fail_fast = others_left }) ended.seen
       agrees_end = subst (λ (x : StateSeen). Agrees x ended.seen) closed_is ended.agrees
 
       does_end : Does (does_it ∷ (action.CallEnds n ending.Request ∷ ended.actions)) s ended.seen
@@ -339,28 +339,28 @@ module _ (exact : CalmIsExact) (stir : ConfigsStir) (clocks : ClockChanges) (res
       at_end = record {
         current = ended.current;
         stage_is = w.at.stage_is;
-        calm = (let back = (exact o ended.seen).1 (λ l. ended.still l refl) in record { calls = back.0; links = back.1; policies = back.2 });
+        quiescent = (let back = (exact o ended.seen).1 (λ l. ended.still l refl) in record { calls = back.0; links = back.1; policies = back.2 });
       }
 
-      configured_so : configured_call n z ≡ ended_shape n config own.slot unended unchosen live long z here (remove_key (is_same (0, n)) z.bare) (remove_key (is_same (0, n)) z.impatient) z.resets
+      configured_so : configured_call n z ≡ ended_shape n config own.slot unended unchosen live long z here (remove_key (is_same (0, n)) z.awaiting_config) (remove_key (is_same (0, n)) z.fail_fast) z.resets
       configured_so = long_configured n config own.slot unended unchosen live long z here w.held
 
       gets_end : Gets config rest others_left after_one o ended.seen
       gets_end = record {
         agrees = agrees_end;
-        no_bare = ap (λ (x : StateSeen). x.bare) configured_so ∙ ap (remove_key (is_same (0, n))) w.no_bare;
-        no_others = ap (λ (x : StateSeen). x.impatient) configured_so ∙ ap (remove_key (is_same (0, n))) w.no_others;
+        no_unconfigured = ap (λ (x : StateSeen). x.awaiting_config) configured_so ∙ ap (remove_key (is_same (0, n))) w.no_unconfigured;
+        no_others = ap (λ (x : StateSeen). x.fail_fast) configured_so ∙ ap (remove_key (is_same (0, n))) w.no_others;
         at = at_end;
         joined = record {
           turn = w.joined.turn;
           clock =
-              clock_stays clocks rests overs wishes nones y (record after_one { bare = rest; impatient = others_left }) s ended.seen w.agrees agrees_end
+              clock_stays clocks rests overs wishes nones y (record after_one { awaiting_config = rest; fail_fast = others_left }) s ended.seen w.agrees agrees_end
               (ap (λ (x : StateSeen). x.net) configured_so) (ap (λ (x : StateSeen). x.book.moment) configured_so) w.joined.clock;
           take_over =
-              over_stays clocks rests overs wishes nones y (record after_one { bare = rest; impatient = others_left }) s ended.seen w.agrees agrees_end
+              over_stays clocks rests overs wishes nones y (record after_one { awaiting_config = rest; fail_fast = others_left }) s ended.seen w.agrees agrees_end
               (ap (λ (x : StateSeen). x.net) configured_so) w.joined.take_over;
           connected =
-              wish_stays clocks rests overs wishes nones y (record after_one { bare = rest; impatient = others_left }) s ended.seen w.agrees agrees_end
+              wish_stays clocks rests overs wishes nones y (record after_one { awaiting_config = rest; fail_fast = others_left }) s ended.seen w.agrees agrees_end
               (ap (λ (x : StateSeen). x.net) configured_so) w.joined.connected;
         };
         held = ap (λ (x : StateSeen). x.held) configured_so ∙ w.held;

@@ -6,17 +6,17 @@ use Rattle.std.specs.List.{list_any}
 use Rattle.std.specs.Option.{option_map}
 use Rattle.std.specs.Prelude.{fold, nat_lt}
 use Rattle.std.specs.Set.{remove_key}
-use Rattle.call_actions.specs.Laws.{IsBare}
+use Rattle.call_actions.specs.Laws.{IsUnconfigured}
 use Rattle.channel_actions.proofs.Stamps.{counted_at}
 use Rattle.channel_actions.specs.Agrees.{Agrees}
-use Rattle.channel_actions.specs.Calm.{IsAt}
-use Rattle.channel_actions.specs.Sets.{AreExactly, is_in_bare}
+use Rattle.channel_actions.specs.Quiescent.{IsAt}
+use Rattle.channel_actions.specs.Sets.{PairsAreExactly, is_awaiting_config}
 use Rattle.channel_core.specs.States.{StateSeen}
 use Rattle.channel_core.specs.Steps.{configured_call}
 use Rattle.call_cases.proofs.ConfigActions.Unserved.{none_of}
 use Rattle.grpc_base.specs.declared.event.EndCause.TheVariants as ending
 use Rattle.channel_actions.specs.KeptCalls.Early.{IsEarlyKept}
-use Rattle.channel_actions.specs.KeptCalls.Laws.{CallsAreBare}
+use Rattle.channel_actions.specs.KeptCalls.Laws.{CallsAreUnconfigured}
 use Rattle.picker_gate.specs.Pairs.{has, is_same}
 use Rattle.service_config.specs.declared.config.Config.{Config}
 use Rattle.session_actions.specs.Actions.{config_action}
@@ -83,15 +83,15 @@ pub quiet_request : (a b c : Bool) → b ≡ false → c ≡ false → (a && (b 
 quiet_request true b c e f = ap (λ (x : Bool). x || c) e ∙ f
 quiet_request false b c e f = refl
 
-pub empty_by : (pairs : List (ℕ × ℕ)) (test : ℕ → ℕ → Bool) → AreExactly pairs test → ((a b : ℕ) → test a b ≡ true → ⊥) → pairs ≡ []
+pub empty_by : (pairs : List (ℕ × ℕ)) (test : ℕ → ℕ → Bool) → PairsAreExactly pairs test → ((a b : ℕ) → test a b ≡ true → ⊥) → pairs ≡ []
 empty_by [] test exact never = refl
 empty_by (p ∷ pairs) test exact never = absurd (never p.0 p.1 (head_passes p pairs test exact))
 
 -- where the loop stands: these are left
 pub record Gets (config : Config) (pairs others : List (ℕ × ℕ)) (z : StateSeen) (o : OpenEntry) (s : Seen) : Type 0 where
-  pub agrees : Agrees (record z { bare = pairs; impatient = others }) s
-  pub no_bare : z.bare ≡ []
-  pub no_others : z.impatient ≡ []
+  pub agrees : Agrees (record z { awaiting_config = pairs; fail_fast = others }) s
+  pub no_unconfigured : z.awaiting_config ≡ []
+  pub no_others : z.fail_fast ≡ []
   pub at : IsAt stage.Settling o s
   pub joined : IsJoined o s
   pub held : z.held ≡ Some config
@@ -100,7 +100,7 @@ pub record Gets (config : Config) (pairs others : List (ℕ × ℕ)) (z : StateS
 
 -- the first of them was served, and these are left
 pub record OneServed (config : Config) (n : ℕ) (rest others : List (ℕ × ℕ)) (z : StateSeen) (o : OpenEntry) (s : Seen) : Type 0 where
-  pub leads : Leads (record (configured_call n z) { bare = rest; impatient = remove_key (is_same (0, n)) others }) o s (λ p u. Unit {0})
+  pub leads : Leads (record (configured_call n z) { awaiting_config = rest; fail_fast = remove_key (is_same (0, n)) others }) o s (λ p u. Unit {0})
   pub gets : Gets config rest (remove_key (is_same (0, n)) others) (configured_call n z) leads.reaches.entry leads.reaches.seen
 
 -- a session that agrees with a channel that holds a config holds it too
@@ -120,31 +120,31 @@ module _ (y : StateSeen) (s : Seen) (h : Agrees y s) (config : Config) (held : y
   has_config = config_by (held_config s) refl
 
   module _ (m : ℕ) (d : Call) (there : numbered s.calls m ≡ Some d) where
-    bare_is : is_in_bare s 0 m ≡ (is_open_call d && is_none d.config)
-    bare_is = ap (λ (q : Option Call). (0 == 0) && holds (λ (k : Call). is_open_call k && is_none k.config) q) there
+    unconfigured_is : is_awaiting_config s 0 m ≡ (is_open_call d && is_none d.config)
+    unconfigured_is = ap (λ (q : Option Call). (0 == 0) && holds (λ (k : Call). is_open_call k && is_none k.config) q) there
 
-    pub gives_config : is_in_bare s 0 m ≡ true → config_action s d ≡ Some (action.CallConfigured m (length s.configs))
+    pub gives_config : is_awaiting_config s 0 m ≡ true → config_action s d ≡ Some (action.CallConfigured m (length s.configs))
     gives_config in_set =
         ap (λ (b : Bool). if b then Some (action.CallConfigured d.number (length s.configs)) else if lacks_config s d then Some (action.CallEnds d.number ending.NoConfig) else None)
-        (configures_by (is_none d.end) (is_none d.config) (is_some (held_config s)) (sym bare_is ∙ in_set) (ap (λ (q : Option HeldConfig). is_some q) has_config.is))
+        (configures_by (is_none d.end) (is_none d.config) (is_some (held_config s)) (sym unconfigured_is ∙ in_set) (ap (λ (q : Option HeldConfig). is_some q) has_config.is))
         ∙ ap (λ (n : ℕ). Some (action.CallConfigured n (length s.configs))) (counted_at (λ (c : Call). c.number) s.calls m d h.kept.calls there)
 
-    pub gives_nothing : is_in_bare s 0 m ≡ false → config_action s d ≡ None
+    pub gives_nothing : is_awaiting_config s 0 m ≡ false → config_action s d ≡ None
     gives_nothing out =
         ap (λ (b : Bool). if b then Some (action.CallConfigured d.number (length s.configs)) else if lacks_config s d then Some (action.CallEnds d.number ending.NoConfig) else None)
-        (configures_not (is_none d.end) (is_none d.config) (is_some (held_config s)) (sym bare_is ∙ out))
+        (configures_not (is_none d.end) (is_none d.config) (is_some (held_config s)) (sym unconfigured_is ∙ out))
         ∙ ap (λ (b : Bool). if b then Some (action.CallEnds d.number ending.NoConfig) else None)
         (lacks_none (is_open_call d) (is_none (held_config s)) s.answered (not (waits_for_ready d s)) (ap (λ (q : Option HeldConfig). is_none q) has_config.is))
 
-    pub is_bare_call : CallsAreBare → IsEarlyKept s → is_in_bare s 0 m ≡ true → IsBare s d
-    is_bare_call bares early in_set =
-        let both = and_parts (is_open_call d) (is_none d.config) (sym bare_is ∙ in_set) in
-        bares s m d h.kept early there (none_of d.end both.0) (none_of d.config both.1)
+    pub is_unconfigured_call : CallsAreUnconfigured → IsEarlyKept s → is_awaiting_config s 0 m ≡ true → IsUnconfigured s d
+    is_unconfigured_call awaiting_configs early in_set =
+        let both = and_parts (is_open_call d) (is_none d.config) (sym unconfigured_is ∙ in_set) in
+        awaiting_configs s m d h.kept early there (none_of d.end both.0) (none_of d.config both.1)
 
-pub bare_there : (s : Seen) (m : ℕ) (q : Option Call) → numbered s.calls m ≡ q → is_in_bare s 0 m ≡ true → (d : Call) × (numbered s.calls m ≡ Some d)
-bare_there s m None e in_set =
+pub unconfigured_there : (s : Seen) (m : ℕ) (q : Option Call) → numbered s.calls m ≡ q → is_awaiting_config s 0 m ≡ true → (d : Call) × (numbered s.calls m ≡ Some d)
+unconfigured_there s m None e in_set =
     absurd (let bad : false ≡ true = sym (ap (λ (q : Option Call). (0 == 0) && holds (λ (k : Call). is_open_call k && is_none k.config) q) e) ∙ in_set in (cc))
-bare_there s m (Some d) e in_set = (d, e)
+unconfigured_there s m (Some d) e in_set = (d, e)
 
-pub bare_first : (s : Seen) (a b : ℕ) → is_in_bare s a b ≡ true → (a == 0) ≡ true
-bare_first s a b e = (and_parts (a == 0) _ e).0
+pub unconfigured_first : (s : Seen) (a b : ℕ) → is_awaiting_config s a b ≡ true → (a == 0) ≡ true
+unconfigured_first s a b e = (and_parts (a == 0) _ e).0

@@ -9,7 +9,7 @@ use Rattle.std.specs.declared.cmp.Ordering.{Ordering}
 use Rattle.std.specs.declared.cmp.Ordering.TheVariants.{Equal, Greater, Less}
 use Rattle.channel_actions.proofs.Links.Settings.Keys.{head_out}
 use Rattle.channel_actions.proofs.Links.Settings.Pairs.{has_remove}
-use Rattle.channel_actions.specs.Sets.{AreRising}
+use Rattle.channel_actions.specs.Sets.{PairsAreRising}
 use Rattle.channel_core.specs.Timing.{is_same_moment, timer_moved, timer_off, timer_on}
 use Rattle.picker_gate.specs.Pairs.{has, is_same, pair_cmp}
 use Rattle.session_actions.specs.Words.{is_number}
@@ -56,7 +56,7 @@ and_some : (a b : Bool) → a ≡ false → (a && b) ≡ false
 and_some true b e = absurd (cc)
 and_some false b e = refl
 
-module _ (n : ℕ) (d : List (ℕ × ℕ)) (rising : AreRising d) where
+module _ (n : ℕ) (d : List (ℕ × ℕ)) (rising : PairsAreRising d) where
   -- the pair of another moment is not there, once the first is gone
   off_has : (a : Option ℕ) (m : ℕ) → has d (m, n) ≡ false → has (timer_off n a d) (m, n) ≡ false
   off_has None m e = e

@@ -5,9 +5,9 @@ use Rattle.std.proofs.lemmas.Bool.Decides.{nat_tests}
 use Rattle.std.specs.Option.{option_map, option_map_or}
 use Rattle.std.specs.Prelude.{option_and_then}
 use Rattle.attempt_ledger.specs.declared.ledger.CallEnd.{CallEnd}
-use Rattle.call_actions.proofs.Bare.{none_live}
+use Rattle.call_actions.proofs.Unconfigured.{none_live}
 use Rattle.call_actions.proofs.Places.{places_below}
-use Rattle.call_actions.specs.Laws.{IsBare}
+use Rattle.call_actions.specs.Laws.{IsUnconfigured}
 use Rattle.call_actions.specs.CallsApart.Apart.{has_config}
 use Rattle.channel_actions.proofs.Gone.{all_numbered}
 use Rattle.channel_actions.proofs.Settles.{follows_by}
@@ -15,19 +15,19 @@ use Rattle.channel_actions.proofs.Stamps.{counted_at}
 use Rattle.channel_actions.proofs.States.{unconfigured}
 use Rattle.channel_actions.specs.Agrees.{Agrees}
 use Rattle.channel_actions.specs.Calls.{HasSlot}
-use Rattle.channel_actions.specs.Calm.{IsAt}
-use Rattle.channel_actions.specs.Sets.{is_in_impatient, is_patient}
+use Rattle.channel_actions.specs.Quiescent.{IsAt}
+use Rattle.channel_actions.specs.Sets.{is_in_fail_fast, is_ready_waiter}
 use Rattle.channel_core.specs.Books.{slot_at}
 use Rattle.channel_core.specs.States.{StateSeen}
-use Rattle.channel_core.specs.Steps.{all_configured, all_unconfigured, bare_served, closed}
+use Rattle.channel_core.specs.Steps.{all_configured, all_unconfigured, unconfigured_served, closed}
 use Rattle.channel_core.specs.Timing.{due_keys, later, number_of}
 use Rattle.channel_core.specs.declared.state.slots.CallSlot.{CallSlot}
-use Rattle.call_cases.proofs.ConfigActions.Closed.{closed_away, closed_bare, closed_first, closed_held, closed_last, closed_moment, closed_net}
+use Rattle.call_cases.proofs.ConfigActions.Closed.{closed_away, closed_unconfigured, closed_first, closed_held, closed_last, closed_moment, closed_net}
 use Rattle.call_cases.proofs.ConfigActions.NetLines.{clock_stays, over_stays, wish_stays}
 use Rattle.grpc_base.specs.declared.event.EndCause.TheVariants as ending
-use Rattle.call_cases.specs.ConfigActions.Ends.{BareCallsEnd, BareEndsNext, BareHasEnded}
+use Rattle.call_cases.specs.ConfigActions.Ends.{UnconfiguredCallsEnd, UnconfiguredEndsNext, UnconfiguredHasEnded}
 use Rattle.channel_actions.specs.KeptCalls.Early.{IsEarlyKept}
-use Rattle.channel_actions.specs.KeptCalls.Laws.{CallsAreBare, EarlyAlong}
+use Rattle.channel_actions.specs.KeptCalls.Laws.{CallsAreUnconfigured, EarlyAlong}
 use Rattle.net_actions.specs.Laws.{ClockChanges, ClockRests, NoneConnects, TakeOversAreSame, WishesConnect}
 use Rattle.picker_gate.specs.Pairs.{has, is_same}
 use Rattle.service_config.specs.declared.config.Config.{Config}
@@ -47,11 +47,11 @@ use Rattle.session_actions.specs.declared.entry.OpenEntry.{OpenEntry}
 use Rattle.session_actions.specs.declared.entry.Stage.TheVariants as stage
 use Rattle.session_actions.specs.declared.entry.Turn.{Turn}
 use Rattle.session_actions.specs.declared.seen.Seen.{Seen}
-use Rattle.session_order.specs.Calm as order
-use Rattle.session_order.specs.Laws.{CalmIsExact}
+use Rattle.session_order.specs.Quiescent as order
+use Rattle.session_order.specs.Laws.{QuiescenceIsExact}
 use Rattle.channel_actions.proofs.Links.Settings.Firsts.{first_numbered, none_numbered}
 use Rattle.channel_actions.proofs.Links.Settings.Keys.{are_plain, below_fails, head_passes, keys_next, none_later, plain_by}
-use Rattle.channel_actions.proofs.Links.Settings.Pairs.{none_behind, self_same}
+use Rattle.channel_actions.proofs.Links.Settings.Pairs.{none_afterwards, self_same}
 use Rattle.call_cases.proofs.SettlingActions.Composed.{leads_on, stays_at}
 use Rattle.call_cases.specs.SettlingActions.Sound.{IsSound}
 use Rattle.call_cases.specs.SettlingActions.Steps.{IsJoined, IsTended, Leads}
@@ -131,16 +131,16 @@ module _ (y : StateSeen) (s : Seen) (h : Agrees y s) (unheld : y.held ≡ None) 
       absurd (let bad : false ≡ true = sym (ap (λ (l : List HeldConfig). is_some (numbered l k)) (none_last s.configs session_unheld) ∙ ap (λ (c : Option HeldConfig). is_some c) (none_there k))
       ∙ sym (ap (λ (c : Option ℕ). option_map_or (λ (j : ℕ). is_some (numbered s.configs j)) c true) e) ∙ there in (cc))
 
-  pub calls_bare : (m : ℕ) (d : Call) → numbered s.calls m ≡ Some d → is_none d.config ≡ true
-  calls_bare m d there = config_by d d.config refl (all_numbered (has_config s) s.calls m d there h.kept.book.configs)
+  pub calls_unconfigured : (m : ℕ) (d : Call) → numbered s.calls m ≡ Some d → is_none d.config ≡ true
+  calls_unconfigured m d there = config_by d d.config refl (all_numbered (has_config s) s.calls m d there h.kept.book.configs)
 
   configures_not : (d : Call) → is_to_configure s d ≡ false
   configures_not d = no_held (is_none d.end) (is_none d.config) (is_some (held_config s)) (ap (λ (o : Option HeldConfig). is_some o) session_unheld)
 
-  -- what the line of configs gives of a call: that it ends, where it is one of the impatient
+  -- what the line of configs gives of a call: that it ends, where it is one of the fail-fast
   module _ (m : ℕ) (d : Call) (there : numbered s.calls m ≡ Some d) where
-    impatient_is : is_in_impatient s 0 m ≡ ((is_open_call d && is_none d.config) && not (waits_for_ready d s))
-    impatient_is =
+    fail_fast_is : is_in_fail_fast s 0 m ≡ ((is_open_call d && is_none d.config) && not (waits_for_ready d s))
+    fail_fast_is =
         ap (λ (o : Option Call). ((0 == 0) && holds (λ (c : Call). is_open_call c && is_none c.config) o) && not (holds (λ (c : Call). waits_for_ready c s) o)) there
 
     gives_by : (b : Bool) → lacks_config s d ≡ b → config_action s d ≡ (if b then Some (action.CallEnds d.number ending.NoConfig) else None)
@@ -148,42 +148,42 @@ module _ (y : StateSeen) (s : Seen) (h : Agrees y s) (unheld : y.held ≡ None) 
         ap (λ (a : Bool). if a then Some (action.CallConfigured d.number (length s.configs)) else if lacks_config s d then Some (action.CallEnds d.number ending.NoConfig) else None) (configures_not d)
         ∙ ap (λ (a : Bool). if a then Some (action.CallEnds d.number ending.NoConfig) else None) e
 
-    pub gives_none : is_in_impatient s 0 m ≡ false → config_action s d ≡ None
+    pub gives_none : is_in_fail_fast s 0 m ≡ false → config_action s d ≡ None
     gives_none out =
-        gives_by false (lacks_not (is_open_call d) (is_none d.config) (is_unconfigured s) (waits_for_ready d s) (calls_bare m d there) (sym impatient_is ∙ out))
+        gives_by false (lacks_not (is_open_call d) (is_none d.config) (is_unconfigured s) (waits_for_ready d s) (calls_unconfigured m d there) (sym fail_fast_is ∙ out))
 
-    pub gives_end : y.unconfigured ≡ true → is_in_impatient s 0 m ≡ true → config_action s d ≡ Some (action.CallEnds m ending.NoConfig)
-    gives_end bare in_set =
-        gives_by true (lacks_is (is_open_call d) (is_none d.config) (is_unconfigured s) (waits_for_ready d s) (unconfigured y s h unheld ∙ bare) (sym impatient_is ∙ in_set))
+    pub gives_end : y.unconfigured ≡ true → is_in_fail_fast s 0 m ≡ true → config_action s d ≡ Some (action.CallEnds m ending.NoConfig)
+    gives_end awaiting_config in_set =
+        gives_by true (lacks_is (is_open_call d) (is_none d.config) (is_unconfigured s) (waits_for_ready d s) (unconfigured y s h unheld ∙ awaiting_config) (sym fail_fast_is ∙ in_set))
         ∙ ap (λ (n : ℕ). Some (action.CallEnds n ending.NoConfig)) (counted_at (λ (c : Call). c.number) s.calls m d h.kept.calls there)
 
-    pub goes_on : is_in_impatient s 0 m ≡ true → d.end ≡ None
+    pub goes_on : is_in_fail_fast s 0 m ≡ true → d.end ≡ None
     goes_on in_set =
-        none_of d.end (and_parts (is_open_call d) (is_none d.config) (and_parts (is_open_call d && is_none d.config) (not (waits_for_ready d s)) (sym impatient_is ∙ in_set)).0).0
+        none_of d.end (and_parts (is_open_call d) (is_none d.config) (and_parts (is_open_call d && is_none d.config) (not (waits_for_ready d s)) (sym fail_fast_is ∙ in_set)).0).0
 
 -- a call of the set is there
-call_by : (s : Seen) (m : ℕ) (o : Option Call) → numbered s.calls m ≡ o → is_in_impatient s 0 m ≡ true → (d : Call) × (numbered s.calls m ≡ Some d)
+call_by : (s : Seen) (m : ℕ) (o : Option Call) → numbered s.calls m ≡ o → is_in_fail_fast s 0 m ≡ true → (d : Call) × (numbered s.calls m ≡ Some d)
 call_by s m None e in_set =
     absurd (let bad : false ≡ true = sym (ap (λ (o : Option Call). ((0 == 0) && holds (λ (c : Call). is_open_call c && is_none c.config) o) && not (holds (λ (c : Call). waits_for_ready c s) o)) e) ∙ in_set in (cc))
 call_by s m (Some d) e in_set = (d, e)
 
 -- where the loop stands: these are left
 pub record Waits (pairs : List (ℕ × ℕ)) (z : StateSeen) (o : OpenEntry) (s : Seen) : Type 0 where
-  pub agrees : Agrees (record z { impatient = pairs }) s
-  pub empty : z.impatient ≡ []
+  pub agrees : Agrees (record z { fail_fast = pairs }) s
+  pub empty : z.fail_fast ≡ []
   pub at : IsAt stage.Settling o s
   pub joined : IsJoined o s
   pub early : IsEarlyKept s
   pub held : z.held ≡ None
-  pub bare : z.unconfigured ≡ true
+  pub awaiting_config : z.unconfigured ≡ true
   pub few : (n : ℕ) → has pairs (0, n) ≡ true → n ≤ 4294967295
   pub idle : (n : ℕ) (slot : CallSlot) → has pairs (0, n) ≡ true → slot_at z.book n ≡ Some slot → slot.call.live ≡ []
 
 pub no_pass : (o : OpenEntry) (s : Seen) → o.turn ≡ None → next_of_pass o s ≡ None
 no_pass o s fresh = ap (option_and_then (λ (t : Turn). next_asked (is_after t) s)) fresh
 
-zero_first : (s : Seen) (a b : ℕ) → is_in_impatient s a b ≡ true → (a == 0) ≡ true
-zero_first s a b e = (and_parts (a == 0) _ (and_parts _ (not (is_patient s b)) e).0).0
+zero_first : (s : Seen) (a b : ℕ) → is_in_fail_fast s a b ≡ true → (a == 0) ≡ true
+zero_first s a b e = (and_parts (a == 0) _ (and_parts _ (not (is_ready_waiter s b)) e).0).0
 
 -- none is left
 tended : (z : StateSeen) (o : OpenEntry) (s : Seen) → Waits [] z o s → IsTended o s
@@ -193,31 +193,31 @@ tended z o s w = record {
   connected = w.joined.connected;
   configs =
       none_numbered (config_action s) s.calls
-      (λ m d there. gives_none (record z { impatient = [] }) s w.agrees w.held m d there (sym (w.agrees.sets.impatient.exact 0 m)));
+      (λ m d there. gives_none (record z { fail_fast = [] }) s w.agrees w.held m d there (sym (w.agrees.sets.fail_fast.exact 0 m)));
   pass = no_pass o s w.joined.turn;
 }
 
 -- the next one ends
-module _ (exact : CalmIsExact) (clocks : ClockChanges) (rests : ClockRests) (overs : TakeOversAreSame) (wishes : WishesConnect) (nones : NoneConnects)
-    (ends : BareCallsEnd) (along : EarlyAlong) (bares : CallsAreBare) where
+module _ (exact : QuiescenceIsExact) (clocks : ClockChanges) (rests : ClockRests) (overs : TakeOversAreSame) (wishes : WishesConnect) (nones : NoneConnects)
+    (ends : UnconfiguredCallsEnd) (along : EarlyAlong) (awaiting_configs : CallsAreUnconfigured) where
   module _ (n : ℕ) (rest : List (ℕ × ℕ)) (z : StateSeen) (o : OpenEntry) (s : Seen) (w : Waits ((0, n) ∷ rest) z o s) where
     abbrev y : StateSeen
-    y = record z { impatient = (0, n) ∷ rest }
+    y = record z { fail_fast = (0, n) ∷ rest }
 
-    in_set : is_in_impatient s 0 n ≡ true
-    in_set = head_passes (0, n) rest (is_in_impatient s) w.agrees.sets.impatient
+    in_set : is_in_fail_fast s 0 n ≡ true
+    in_set = head_passes (0, n) rest (is_in_fail_fast s) w.agrees.sets.fail_fast
 
     found : (d : Call) × (numbered s.calls n ≡ Some d)
     found = call_by s n (numbered s.calls n) refl in_set
 
     below : (m : ℕ) (d : Call) → m < n → numbered s.calls m ≡ Some d → config_action s d ≡ None
     below m d less there =
-        gives_none y s w.agrees w.held m d there (below_fails (0, n) rest (is_in_impatient s) m w.agrees.sets.impatient refl less)
+        gives_none y s w.agrees w.held m d there (below_fails (0, n) rest (is_in_fail_fast s) m w.agrees.sets.fail_fast refl less)
 
     line_gives : first_of (config_action s) s.calls ≡ Some (action.CallEnds n ending.NoConfig)
     line_gives =
         first_numbered (config_action s) s.calls n found.0 (action.CallEnds n ending.NoConfig) found.1
-        (gives_end y s w.agrees w.held n found.0 found.1 w.bare in_set) below
+        (gives_end y s w.agrees w.held n found.0 found.1 w.awaiting_config in_set) below
 
     stage_gives : of_stage o s o.stage ≡ Some (action.CallEnds n ending.NoConfig)
     stage_gives =
@@ -228,29 +228,29 @@ module _ (exact : CalmIsExact) (clocks : ClockChanges) (rests : ClockRests) (ove
     follows : following s ≡ Some (action.CallEnds n ending.NoConfig)
     follows =
         ap (option_and_then (following_in s)) w.at.current
-        ∙ follows_by (of_calls o s) (of_links o s) (of_policies o s) (of_stage o s o.stage) (action.CallEnds n ending.NoConfig) w.at.calm.calls w.at.calm.links w.at.calm.policies stage_gives
+        ∙ follows_by (of_calls o s) (of_links o s) (of_policies o s) (of_stage o s o.stage) (action.CallEnds n ending.NoConfig) w.at.quiescent.calls w.at.quiescent.links w.at.quiescent.policies stage_gives
 
-    calm : order.IsCalm o s
-    calm = (exact o s).0 (w.at.calm.calls, w.at.calm.links, w.at.calm.policies)
+    quiescent : order.IsQuiescent o s
+    quiescent = (exact o s).0 (w.at.quiescent.calls, w.at.quiescent.links, w.at.quiescent.policies)
 
-    bare_found : IsBare s found.0
-    bare_found =
-        bares s n found.0 w.agrees.kept w.early found.1 (goes_on y s w.agrees w.held n found.0 found.1 in_set)
-        (none_of found.0.config (calls_bare y s w.agrees w.held n found.0 found.1))
+    unconfigured_found : IsUnconfigured s found.0
+    unconfigured_found =
+        awaiting_configs s n found.0 w.agrees.kept w.early found.1 (goes_on y s w.agrees w.held n found.0 found.1 in_set)
+        (none_of found.0.config (calls_unconfigured y s w.agrees w.held n found.0 found.1))
 
-    ends_next : BareEndsNext n ending.NoConfig y o s
+    ends_next : UnconfiguredEndsNext n ending.NoConfig y o s
     ends_next = record {
       current = w.at.current;
       agrees = w.agrees;
       early = w.early;
       call = found.0;
       there = found.1;
-      bare = bare_found;
-      calm = calm;
+      awaiting_config = unconfigured_found;
+      quiescent = quiescent;
       next = follows;
     }
 
-    pub ended : BareHasEnded n ending.NoConfig y o s
+    pub ended : UnconfiguredHasEnded n ending.NoConfig y o s
     ended = ends n ending.NoConfig y o s ends_next
 
     -- its slot
@@ -264,7 +264,7 @@ module _ (exact : CalmIsExact) (clocks : ClockChanges) (rests : ClockRests) (ove
     live = w.idle n own.slot (ap (λ (b : Bool). b || has rest (0, n)) (self_same (0, n))) here
 
     unended : own.slot.call.ended ≡ None
-    unended = sym own.sees.serves.sees.ended ∙ ap (option_map (λ (e : CallEnd). e.cause)) bare_found.end
+    unended = sym own.sees.serves.sees.ended ∙ ap (option_map (λ (e : CallEnd). e.cause)) unconfigured_found.end
 
     quiet : z.resets ≡ []
     quiet = w.agrees.sets.resets
@@ -272,10 +272,10 @@ module _ (exact : CalmIsExact) (clocks : ClockChanges) (rests : ClockRests) (ove
     abbrev pub after : StateSeen
     after = closed ending.NoConfig n z
 
-    same : closed ending.NoConfig n y ≡ record after { impatient = rest }
+    same : closed ending.NoConfig n y ≡ record after { fail_fast = rest }
     same = closed_first ending.NoConfig n own.slot live unended z rest here quiet
 
-    agrees_after : Agrees (record after { impatient = rest }) ended.seen
+    agrees_after : Agrees (record after { fail_fast = rest }) ended.seen
     agrees_after = subst (λ (x : StateSeen). Agrees x ended.seen) same ended.agrees
 
     later_in : (m : ℕ) → has rest (0, m) ≡ true → has ((0, n) ∷ rest) (0, m) ≡ true
@@ -284,7 +284,7 @@ module _ (exact : CalmIsExact) (clocks : ClockChanges) (rests : ClockRests) (ove
     apart_by : (m : ℕ) (b : Bool) → (m == n) ≡ b → has rest (0, m) ≡ true → b ≡ false
     apart_by m false f e = refl
     apart_by m true f e =
-        absurd (let bad : false ≡ true = sym (none_behind (0, n) rest w.agrees.sets.impatient.rising.0) ∙ ap (λ (k : ℕ). has rest (0, k)) (sym (equal_numbers m n f)) ∙ e in (cc))
+        absurd (let bad : false ≡ true = sym (none_afterwards (0, n) rest w.agrees.sets.fail_fast.rising.0) ∙ ap (λ (k : ℕ). has rest (0, k)) (sym (equal_numbers m n f)) ∙ e in (cc))
 
     apart : (m : ℕ) → has rest (0, m) ≡ true → (m == n) ≡ false
     apart m e = apart_by m (m == n) refl e
@@ -296,28 +296,28 @@ module _ (exact : CalmIsExact) (clocks : ClockChanges) (rests : ClockRests) (ove
       at = record {
         current = ended.current;
         stage_is = w.at.stage_is;
-        calm = (let back = (exact o ended.seen).1 ended.calm in record { calls = back.0; links = back.1; policies = back.2 });
+        quiescent = (let back = (exact o ended.seen).1 ended.quiescent in record { calls = back.0; links = back.1; policies = back.2 });
       };
       joined = record {
         turn = w.joined.turn;
         clock =
-            clock_stays clocks rests overs wishes nones y (record after { impatient = rest }) s ended.seen w.agrees agrees_after
+            clock_stays clocks rests overs wishes nones y (record after { fail_fast = rest }) s ended.seen w.agrees agrees_after
             (closed_net ending.NoConfig n own.slot live unended z here quiet) (closed_moment ending.NoConfig n own.slot live unended z here quiet) w.joined.clock;
         take_over =
-            over_stays clocks rests overs wishes nones y (record after { impatient = rest }) s ended.seen w.agrees agrees_after
+            over_stays clocks rests overs wishes nones y (record after { fail_fast = rest }) s ended.seen w.agrees agrees_after
             (closed_net ending.NoConfig n own.slot live unended z here quiet) w.joined.take_over;
         connected =
-            wish_stays clocks rests overs wishes nones y (record after { impatient = rest }) s ended.seen w.agrees agrees_after
+            wish_stays clocks rests overs wishes nones y (record after { fail_fast = rest }) s ended.seen w.agrees agrees_after
             (closed_net ending.NoConfig n own.slot live unended z here quiet) w.joined.connected;
       };
       early = along (action.CallEnds n ending.NoConfig ∷ ended.actions) s ended.seen w.agrees.kept w.early ended.does;
       held = closed_held ending.NoConfig n own.slot live unended z here quiet ∙ w.held;
-      bare = closed_bare ending.NoConfig n own.slot live unended z here quiet ∙ w.bare;
+      awaiting_config = closed_unconfigured ending.NoConfig n own.slot live unended z here quiet ∙ w.awaiting_config;
       few = λ m e. w.few m (later_in m e);
       idle = λ m slot e there. w.idle m slot (later_in m e) (sym (closed_away ending.NoConfig n own.slot live unended z m here quiet (apart m e)) ∙ there);
     }
 
-    pub one_ended : Leads (record after { impatient = rest }) o s (λ p t. Unit {0})
+    pub one_ended : Leads (record after { fail_fast = rest }) o s (λ p t. Unit {0})
     one_ended = record {
       reaches = record {
         actions = action.CallEnds n ending.NoConfig ∷ ended.actions;
@@ -337,8 +337,8 @@ module _ (exact : CalmIsExact) (clocks : ClockChanges) (rests : ClockRests) (ove
   all_ended : (pairs : List (ℕ × ℕ)) (z : StateSeen) (o : OpenEntry) (s : Seen) → are_plain pairs ≡ true → Waits pairs z o s → Leads (all_unconfigured (due_keys 0 pairs) z) o s IsTended
   unfolding one_ended ended
   all_ended [] z o s plain w =
-      subst (λ (x : StateSeen). Leads x o s IsTended) (ap (λ (l : List (ℕ × ℕ)). record z { impatient = l }) (sym w.empty))
-      (stays_at (record z { impatient = [] }) o s IsTended w.agrees w.at (tended z o s w))
+      subst (λ (x : StateSeen). Leads x o s IsTended) (ap (λ (l : List (ℕ × ℕ)). record z { fail_fast = l }) (sym w.empty))
+      (stays_at (record z { fail_fast = [] }) o s IsTended w.agrees w.at (tended z o s w))
   all_ended (p ∷ rest) z o s plain w =
       let both = and_parts (p.0 == 0) (are_plain rest) plain in
       let head : p ≡ (0, p.1) = ap (λ (m : ℕ). (m, p.1)) (is_zero p.0 both.0) in
@@ -350,34 +350,34 @@ module _ (exact : CalmIsExact) (clocks : ClockChanges) (rests : ClockRests) (ove
       let keys : all_unconfigured (due_keys 0 (p ∷ rest)) z ≡ all_unconfigured (due_keys 0 rest) (closed ending.NoConfig p.1 z)
       = ap (λ (l : List ℕ). all_unconfigured l z) (keys_next p rest plain) ∙ ap (λ (m : ℕ). all_unconfigured (due_keys 0 rest) (closed ending.NoConfig m z)) small in
       subst (λ (x : StateSeen). Leads x o s IsTended) (sym keys)
-      (leads_on (record (closed ending.NoConfig p.1 z) { impatient = rest }) (all_unconfigured (due_keys 0 rest) (closed ending.NoConfig p.1 z)) o s (λ q t. Unit {0}) IsTended one more)
+      (leads_on (record (closed ending.NoConfig p.1 z) { fail_fast = rest }) (all_unconfigured (due_keys 0 rest) (closed ending.NoConfig p.1 z)) o s (λ q t. Unit {0}) IsTended one more)
 
   -- the whole step
   module _ (x : StateSeen) (o : OpenEntry) (s : Seen) (h : Agrees x s) (sound : IsSound x s) (at : IsAt stage.Settling o s) (joined : IsJoined o s) (unheld : x.held ≡ None) where
-    plain : are_plain x.impatient ≡ true
-    plain = plain_by x.impatient (is_in_impatient s) h.sets.impatient (zero_first s)
+    plain : are_plain x.fail_fast ≡ true
+    plain = plain_by x.fail_fast (is_in_fail_fast s) h.sets.fail_fast (zero_first s)
 
     same_slot : (n : ℕ) (a b : CallSlot) → slot_at x.book n ≡ Some a → slot_at x.book n ≡ Some b → a ≡ b
     same_slot n a b e f = let both : Some a ≡ Some b = sym e ∙ f in (cc)
 
-    waits_first : x.unconfigured ≡ true → Waits x.impatient (record x { impatient = later 0 x.impatient }) o s
-    waits_first bare = record {
+    waits_first : x.unconfigured ≡ true → Waits x.fail_fast (record x { fail_fast = later 0 x.fail_fast }) o s
+    waits_first awaiting_config = record {
       agrees = h;
-      empty = none_later x.impatient plain;
+      empty = none_later x.fail_fast plain;
       at = at;
       joined = joined;
       early = sound.early;
       held = unheld;
-      bare = bare;
+      awaiting_config = awaiting_config;
       few =
-          λ n e. let in_set = sym (h.sets.impatient.exact 0 n) ∙ e in
+          λ n e. let in_set = sym (h.sets.fail_fast.exact 0 n) ∙ e in
           let d = call_by s n (numbered s.calls n) refl in_set in
           below_all n (length s.calls) (places_below s.calls n d.0 d.1) sound.few;
       idle =
-          λ n slot e there. let in_set = sym (h.sets.impatient.exact 0 n) ∙ e in
+          λ n slot e there. let in_set = sym (h.sets.fail_fast.exact 0 n) ∙ e in
           let d = call_by s n (numbered s.calls n) refl in_set in
           let own = h.calls.each n d.0 d.1 in
-          let none = (bares s n d.0 h.kept sound.early d.1 (goes_on x s h unheld n d.0 d.1 in_set) (none_of d.0.config (calls_bare x s h unheld n d.0 d.1))).none in
+          let none = (awaiting_configs s n d.0 h.kept sound.early d.1 (goes_on x s h unheld n d.0 d.1 in_set) (none_of d.0.config (calls_unconfigured x s h unheld n d.0 d.1))).none in
           ap (λ (k : CallSlot). k.call.live) (same_slot n slot own.slot there own.there) ∙ sym own.sees.serves.sees.live ∙ none_live s d.0 none;
     }
 
@@ -388,8 +388,8 @@ module _ (exact : CalmIsExact) (clocks : ClockChanges) (rests : ClockRests) (ove
         (ap (λ (b : Bool). is_open_call d && b && not (waits_for_ready d s)) (unconfigured x s h unheld ∙ off) ∙ and_off (is_open_call d) (not (waits_for_ready d s)))
 
     by_answer : (b : Bool) → x.unconfigured ≡ b
-        → Leads (if b then all_unconfigured (due_keys 0 x.impatient) (record x { impatient = later 0 x.impatient }) else x) o s IsTended
-    by_answer true e = all_ended x.impatient (record x { impatient = later 0 x.impatient }) o s plain (waits_first e)
+        → Leads (if b then all_unconfigured (due_keys 0 x.fail_fast) (record x { fail_fast = later 0 x.fail_fast }) else x) o s IsTended
+    by_answer true e = all_ended x.fail_fast (record x { fail_fast = later 0 x.fail_fast }) o s plain (waits_first e)
     by_answer false e =
         stays_at x o s IsTended h at
         (record {
@@ -400,12 +400,12 @@ module _ (exact : CalmIsExact) (clocks : ClockChanges) (rests : ClockRests) (ove
           pass = no_pass o s joined.turn;
         })
 
-    served_is : bare_served x ≡ (if x.unconfigured then all_unconfigured (due_keys 0 x.impatient) (record x { impatient = later 0 x.impatient }) else x)
-    unfolding bare_served
+    served_is : unconfigured_served x ≡ (if x.unconfigured then all_unconfigured (due_keys 0 x.fail_fast) (record x { fail_fast = later 0 x.fail_fast }) else x)
+    unfolding unconfigured_served
     served_is =
-        ap (λ (c : Option Config). if is_some c then all_configured (due_keys 0 x.bare) (record x { bare = later 0 x.bare; impatient = [] })
-        else if x.unconfigured then all_unconfigured (due_keys 0 x.impatient) (record x { impatient = later 0 x.impatient })
+        ap (λ (c : Option Config). if is_some c then all_configured (due_keys 0 x.awaiting_config) (record x { awaiting_config = later 0 x.awaiting_config; fail_fast = [] })
+        else if x.unconfigured then all_unconfigured (due_keys 0 x.fail_fast) (record x { fail_fast = later 0 x.fail_fast })
         else x) unheld
 
-    pub unserved_end : Leads (bare_served x) o s IsTended
+    pub unserved_end : Leads (unconfigured_served x) o s IsTended
     unserved_end = subst (λ (y : StateSeen). Leads y o s IsTended) (sym served_is) (by_answer x.unconfigured refl)

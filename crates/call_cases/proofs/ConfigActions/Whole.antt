@@ -3,29 +3,29 @@ use Rattle.std.proofs.Common.{◌≡◌, ◌&&◌, ◌||◌, ◌==◌, ◌∷◌
 use Rattle.std.proofs.lemmas.Bool.Decides.{nat_tests}
 use Rattle.std.specs.Prelude.{option_and_then}
 use Rattle.attempt_ledger.specs.declared.ledger.CallEnd.{CallEnd}
-use Rattle.call_actions.proofs.Bare.{due_of_marks}
+use Rattle.call_actions.proofs.Unconfigured.{due_of_marks}
 use Rattle.call_actions.proofs.Lists.{numbered_not}
-use Rattle.call_actions.specs.Laws.{IsBare}
+use Rattle.call_actions.specs.Laws.{IsUnconfigured}
 use Rattle.channel_actions.proofs.Gone.{all_numbered}
 use Rattle.channel_actions.proofs.Idleness.Calls.{rounds_idle}
 use Rattle.channel_actions.proofs.Stamps.{counted_at}
 use Rattle.channel_actions.specs.Agrees.{Agrees}
-use Rattle.channel_actions.specs.Calm.{IsAt}
+use Rattle.channel_actions.specs.Quiescent.{IsAt}
 use Rattle.channel_actions.specs.Cases.{IsIdle}
 use Rattle.channel_actions.specs.Stages.{IsSettled}
-use Rattle.channel_core.proofs.Resting.{Rests, close, gone_all, gone_one}
+use Rattle.channel_core.proofs.Resting.{IsQuietActionInvariant, close, gone_all, gone_one}
 use Rattle.channel_core.specs.Settling.{prepared, settled}
 use Rattle.channel_core.specs.States.{StateSeen}
-use Rattle.channel_core.specs.Steps.{all_configured, all_unconfigured, bare_served, clocked, limit_passed, limits_passed, net_settled}
+use Rattle.channel_core.specs.Steps.{all_configured, all_unconfigured, unconfigured_served, clocked, limit_passed, limits_passed, net_settled}
 use Rattle.channel_core.specs.Timing.{due_keys, later, number_of}
 use Rattle.channel_net.specs.Steps as net
 use Rattle.channel_net.specs.Steps.{NetLeft}
-use Rattle.call_cases.proofs.ConfigActions.Unserved.{calls_bare, none_of, unserved_end}
-use Rattle.call_cases.specs.ConfigActions.Ends.{BareCallsEnd}
+use Rattle.call_cases.proofs.ConfigActions.Unserved.{calls_unconfigured, none_of, unserved_end}
+use Rattle.call_cases.specs.ConfigActions.Ends.{UnconfiguredCallsEnd}
 use Rattle.call_cases.specs.ConfigActions.Laws.{IsUnserved, UnservedSettlings}
 use Rattle.grpc_base.specs.declared.event.EndCause.TheVariants as ending
 use Rattle.channel_actions.specs.KeptCalls.Early.{IsEarlyKept}
-use Rattle.channel_actions.specs.KeptCalls.Laws.{CallsAreBare, EarlyAlong}
+use Rattle.channel_actions.specs.KeptCalls.Laws.{CallsAreUnconfigured, EarlyAlong}
 use Rattle.net_actions.specs.Laws.{ClockChanges, ClockRests, NoneConnects, StatesAreSame, TakeOversAreSame, WishesConnect}
 use Rattle.service_config.specs.declared.config.Config.{Config}
 use Rattle.session_actions.specs.Attempts.{call_of, commitment, is_of, is_over, is_over_in}
@@ -41,7 +41,7 @@ use Rattle.session_actions.specs.declared.entry.OpenEntry.{OpenEntry}
 use Rattle.session_actions.specs.declared.entry.Stage.TheVariants as stage
 use Rattle.session_actions.specs.declared.policy.PolicyUse.{PolicyUse}
 use Rattle.session_actions.specs.declared.seen.Seen.{Seen}
-use Rattle.session_order.specs.Laws.{CalmIsExact}
+use Rattle.session_order.specs.Laws.{QuiescenceIsExact}
 use Rattle.channel_actions.proofs.Links.Settings.Firsts.{none_numbered}
 use Rattle.call_cases.proofs.SettlingActions.Composed.{closes_by, leads_on}
 use Rattle.call_cases.specs.SettlingActions.Sound.{IsSound, SoundStays}
@@ -51,7 +51,7 @@ use Rattle.call_cases.specs.SettlingActions.Steps.{ClockSteps, IsClocked, IsDone
 abbrev HoldsSame : StateSeen → StateSeen → Type 0
 HoldsSame s t = t.held ≡ s.held
 
-holds_same : Rests HoldsSame
+holds_same : IsQuietActionInvariant HoldsSame
 holds_same = record {
   joined = λ s t u a b. b ∙ a;
   beside = λ s t book held links shut. held;
@@ -86,17 +86,17 @@ ends_held : (calls : List ℕ) (s : StateSeen) → (all_unconfigured calls s).he
 ends_held [] s = refl
 ends_held (key ∷ calls) s = ends_held calls _ ∙ close HoldsSame holds_same ending.NoConfig (number_of key) s refl
 
-bare_by : (s : StateSeen) (b : Bool) → (if b then all_unconfigured (due_keys 0 s.impatient) (record s { impatient = later 0 s.impatient }) else s).held ≡ s.held
-bare_by s true = ends_held (due_keys 0 s.impatient) (record s { impatient = later 0 s.impatient })
-bare_by s false = refl
+unconfigured_by : (s : StateSeen) (b : Bool) → (if b then all_unconfigured (due_keys 0 s.fail_fast) (record s { fail_fast = later 0 s.fail_fast }) else s).held ≡ s.held
+unconfigured_by s true = ends_held (due_keys 0 s.fail_fast) (record s { fail_fast = later 0 s.fail_fast })
+unconfigured_by s false = refl
 
-bare_held : (s : StateSeen) → s.held ≡ None → (bare_served s).held ≡ None
-unfolding bare_served
-bare_held s none =
-    ap (λ (c : Option Config). (if is_some c then all_configured (due_keys 0 s.bare) (record s { bare = later 0 s.bare; impatient = [] })
-    else if s.unconfigured then all_unconfigured (due_keys 0 s.impatient) (record s { impatient = later 0 s.impatient })
+unconfigured_held : (s : StateSeen) → s.held ≡ None → (unconfigured_served s).held ≡ None
+unfolding unconfigured_served
+unconfigured_held s none =
+    ap (λ (c : Option Config). (if is_some c then all_configured (due_keys 0 s.awaiting_config) (record s { awaiting_config = later 0 s.awaiting_config; fail_fast = [] })
+    else if s.unconfigured then all_unconfigured (due_keys 0 s.fail_fast) (record s { fail_fast = later 0 s.fail_fast })
     else s).held) none
-    ∙ bare_by s s.unconfigured ∙ none
+    ∙ unconfigured_by s s.unconfigured ∙ none
 
 -- no call has an attempt then, and none is due
 same_number : (n : ℕ) → (n == n) ≡ true
@@ -116,15 +116,15 @@ filter_at p (x ∷ xs) none =
 numbers_same : (n m : ℕ) → n ≡ m → (n == m) ≡ true
 numbers_same n m e = subst (λ (k : ℕ). (n == k) ≡ true) e (same_number n)
 
-module _ (bares : CallsAreBare) (y : StateSeen) (t : Seen) (h : Agrees y t) (early : IsEarlyKept t) (unheld : y.held ≡ None) where
-  bare_at : (m : ℕ) (d : Call) → numbered t.calls m ≡ Some d → d.end ≡ None → IsBare t d
-  bare_at m d there going = bares t m d h.kept early there going (none_of d.config (calls_bare y t h unheld m d there))
+module _ (awaiting_configs : CallsAreUnconfigured) (y : StateSeen) (t : Seen) (h : Agrees y t) (early : IsEarlyKept t) (unheld : y.held ≡ None) where
+  unconfigured_at : (m : ℕ) (d : Call) → numbered t.calls m ≡ Some d → d.end ≡ None → IsUnconfigured t d
+  unconfigured_at m d there going = awaiting_configs t m d h.kept early there going (none_of d.config (calls_unconfigured y t h unheld m d there))
 
-  due_none : (d : Call) → IsBare t d → next_due d t ≡ None
-  due_none d bare = ap (due_by (plan_of d t) (attempts_made d t)) (due_of_marks t d [] bare.marks)
+  due_none : (d : Call) → IsUnconfigured t d → next_due d t ≡ None
+  due_none d awaiting_config = ap (due_by (plan_of d t) (attempts_made d t)) (due_of_marks t d [] awaiting_config.marks)
 
   due_by_end : (m : ℕ) (d : Call) (b : Bool) → numbered t.calls m ≡ Some d → is_open_call d ≡ b → (if b then option_and_then (due_if_past d t) (next_due d t) else None) ≡ None
-  due_by_end m d true there e = ap (option_and_then (due_if_past d t)) (due_none d (bare_at m d there (none_of d.end e)))
+  due_by_end m d true there e = ap (option_and_then (due_if_past d t)) (due_none d (unconfigured_at m d there (none_of d.end e)))
   due_by_end m d false there e = refl
 
   pub none_due : next_due_attempt t ≡ None
@@ -134,7 +134,7 @@ module _ (bares : CallsAreBare) (y : StateSeen) (t : Seen) (h : Agrees y t) (ear
   ended_by : (n : ℕ) (a : Attempt) (c : Call) → numbered t.attempts n ≡ Some a → numbered t.calls a.row.call ≡ Some c → (end : Option CallEnd) → c.end ≡ end → is_over_in c a t ≡ true
   ended_by n a c there e None f =
       absurd (let mine : is_of c a ≡ true = numbers_same a.row.call c.number (sym (counted_at (λ (k : Call). k.number) t.calls a.row.call c h.kept.calls e)) in
-      let bad : false ≡ true = sym (numbered_not (is_of c) t.attempts n a (bare_at a.row.call c e f).none there) ∙ mine in (cc))
+      let bad : false ≡ true = sym (numbered_not (is_of c) t.attempts n a (unconfigured_at a.row.call c e f).none there) ∙ mine in (cc))
   ended_by n a c there e (Some z) f =
       ap (λ (q : Option CallEnd). is_some q || holds (λ (k : Attempt). not (k.row.number == a.row.number)) (commitment c t)) f
 
@@ -151,8 +151,8 @@ module _ (bares : CallsAreBare) (y : StateSeen) (t : Seen) (h : Agrees y t) (ear
   none_queued = ap (λ (l : List Attempt). option_and_then (asking t) (foremost is_queued_before l)) (filter_at (λ (a : Attempt). is_served t a && true) t.attempts (λ i a there. ap (λ (b : Bool). b && true) (unqueued (suc i) a there)))
 
 -- put together
-module _ (exact : CalmIsExact) (clock_changes : ClockChanges) (rests : ClockRests) (overs : TakeOversAreSame) (wishes : WishesConnect) (nones : NoneConnects) (states : StatesAreSame)
-    (along : EarlyAlong) (bares : CallsAreBare) (ends : BareCallsEnd) (keeps_clock : SoundStays clocked) (keeps_net : SoundStays net_settled) (clocks : ClockSteps) (nets : NetSteps)
+module _ (exact : QuiescenceIsExact) (clock_changes : ClockChanges) (rests : ClockRests) (overs : TakeOversAreSame) (wishes : WishesConnect) (nones : NoneConnects) (states : StatesAreSame)
+    (along : EarlyAlong) (awaiting_configs : CallsAreUnconfigured) (ends : UnconfiguredCallsEnd) (keeps_clock : SoundStays clocked) (keeps_net : SoundStays net_settled) (clocks : ClockSteps) (nets : NetSteps)
     (x : StateSeen) (o : OpenEntry) (s : Seen) (h : Agrees x s) (at : IsAt stage.Settling o s) (fresh : o.turn ≡ None) (case : IsUnserved x s) where
   one : Leads (clocked x) o s IsClocked
   one = clocks x o s h case.sound at (record { turn = fresh })
@@ -171,14 +171,14 @@ module _ (exact : CalmIsExact) (clock_changes : ClockChanges) (rests : ClockRest
 
   three : Leads (prepared x) two.reaches.entry two.reaches.seen IsTended
   three =
-      unserved_end exact clock_changes rests overs wishes nones ends along bares (net_settled (clocked x)) two.reaches.entry two.reaches.seen two.reaches.agrees two_sound two.reaches.at
+      unserved_end exact clock_changes rests overs wishes nones ends along awaiting_configs (net_settled (clocked x)) two.reaches.entry two.reaches.seen two.reaches.agrees two_sound two.reaches.at
       two.point two_unheld
 
   three_early : IsEarlyKept three.reaches.seen
   three_early = along three.reaches.actions two.reaches.seen three.reaches.seen two.reaches.agrees.kept two_sound.early three.reaches.does
 
   three_unheld : (prepared x).held ≡ None
-  three_unheld = bare_held (net_settled (clocked x)) two_unheld
+  three_unheld = unconfigured_held (net_settled (clocked x)) two_unheld
 
   idle : IsIdle (prepared x) three.reaches.seen
   idle = record {
@@ -186,8 +186,8 @@ module _ (exact : CalmIsExact) (clock_changes : ClockChanges) (rests : ClockRest
     take_over = three.point.take_over;
     connected = three.point.connected;
     configs = three.point.configs;
-    due = none_due bares (prepared x) three.reaches.seen three.reaches.agrees three_early three_unheld;
-    queue = none_queued bares (prepared x) three.reaches.seen three.reaches.agrees three_early three_unheld;
+    due = none_due awaiting_configs (prepared x) three.reaches.seen three.reaches.agrees three_early three_unheld;
+    queue = none_queued awaiting_configs (prepared x) three.reaches.seen three.reaches.agrees three_early three_unheld;
   }
 
   still : settled x ≡ prepared x
@@ -208,6 +208,6 @@ module _ (exact : CalmIsExact) (clock_changes : ClockChanges) (rests : ClockRest
   pub unserved_settles : IsSettled x o s
   unserved_settles = record { reaches = last.reaches; reply = last.reply; closes = closes_by last.reaches.entry last.reaches.seen last.reaches.at last.point }
 
-pub unserved_settlings : CalmIsExact → ClockChanges → ClockRests → TakeOversAreSame → WishesConnect → NoneConnects → StatesAreSame → EarlyAlong → CallsAreBare → UnservedSettlings
-unserved_settlings exact changes rests overs wishes nones states along bares ends keeps_clock keeps_net clocks nets x o s h at fresh case =
-    unserved_settles exact changes rests overs wishes nones states along bares ends keeps_clock keeps_net clocks nets x o s h at fresh case
+pub unserved_settlings : QuiescenceIsExact → ClockChanges → ClockRests → TakeOversAreSame → WishesConnect → NoneConnects → StatesAreSame → EarlyAlong → CallsAreUnconfigured → UnservedSettlings
+unserved_settlings exact changes rests overs wishes nones states along awaiting_configs ends keeps_clock keeps_net clocks nets x o s h at fresh case =
+    unserved_settles exact changes rests overs wishes nones states along awaiting_configs ends keeps_clock keeps_net clocks nets x o s h at fresh case

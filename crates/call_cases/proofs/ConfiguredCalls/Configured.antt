@@ -7,10 +7,10 @@ use Rattle.std.specs.Option.{option_map, option_map_or}
 use Rattle.std.specs.Prelude.{option_and_then}
 use Rattle.a6_numbers.specs.Throttling.{Bucket}
 use Rattle.attempt_ledger.specs.declared.ledger.CallSeen.{CallSeen}
-use Rattle.call_actions.proofs.Bare.{Had, had}
+use Rattle.call_actions.proofs.Unconfigured.{Had, had}
 use Rattle.call_actions.proofs.Configured.{sees_now}
 use Rattle.call_actions.proofs.Lists.{any_none, filter_none, last_none, numbered_not}
-use Rattle.call_actions.specs.Laws.{AttemptsAreDue, IsBare, tokens_of_config}
+use Rattle.call_actions.specs.Laws.{AttemptsAreDue, IsUnconfigured, tokens_of_config}
 use Rattle.call_actions.specs.Sees.{Sees, bucket_of}
 use Rattle.call_core.specs.Laws.{came as channel_came}
 use Rattle.call_core.specs.Steps.{Stepped, deadline_at, next_due, with_chosen}
@@ -26,7 +26,7 @@ use Rattle.channel_actions.specs.Calls.{HasSlot, SeesCall, deadline_of, due_of, 
 use Rattle.channel_actions.specs.Columns.{SeesColumns}
 use Rattle.channel_actions.specs.Configs.{SeesBuckets, bucket_in, bucket_place, runs_in_turn}
 use Rattle.channel_actions.specs.Links.{SeesLinks}
-use Rattle.channel_actions.specs.Sets.{SeesSets, is_in_bare, is_in_deadlines, is_in_dues, is_in_impatient, is_in_patient, is_in_queue, is_patient, is_waiting}
+use Rattle.channel_actions.specs.Sets.{SeesSets, is_awaiting_config, is_in_deadlines, is_in_dues, is_in_fail_fast, is_in_ready_waiters, is_in_queue, is_ready_waiter, is_waiting}
 use Rattle.channel_core.proofs.BookLaws.{number_other}
 use Rattle.channel_core.proofs.Places.{put_there}
 use Rattle.channel_core.specs.Books.{slot_at}
@@ -41,7 +41,7 @@ use Rattle.grpc_base.specs.declared.event.Reply.{Reply}
 use Rattle.grpc_base.specs.declared.plan.Chosen.{Chosen}
 use Rattle.channel_actions.specs.KeptSessions.Kept.{IsKept}
 use Rattle.ledger_stamps.specs.Steps.{configured_call}
-use Rattle.channel_actions.specs.LinkFrames.Alike.{CannotTell}
+use Rattle.channel_actions.specs.LinkFrames.Alike.{CannotDistinguish}
 use Rattle.channel_actions.specs.LinkFrames.Bears.{IsOrderly, bears_on}
 use Rattle.net_actions.specs.Sees.{Sees as Sees_net}
 use Rattle.call_cases.specs.OtherCalls.Laws.{SetsApart}
@@ -73,7 +73,7 @@ use Rattle.session_actions.specs.declared.seen.Seen.{Seen}
 use Rattle.channel_actions.proofs.Links.Settings.Pairs.{exactly_by, exactly_remove}
 use Rattle.channel_actions.proofs.Links.Settings.Timers.{other_key, own_key, timers_exactly}
 use Rattle.call_actions.proofs.TakeActions.Deadlines.{deadline_is}
-use Rattle.call_actions.specs.TakeActions.Serves.{AreFed, Holds, IsAt, IsLeft, Serves, came, drained_so_far, is_ended_at, passed}
+use Rattle.call_actions.specs.TakeActions.Serves.{AttemptsAreFed, Holds, IsAt, IsLeft, Serves, came, drained_so_far, is_ended_at, passed}
 use Rattle.attempt_buffer.specs.Buffers.{text_of}
 use Rattle.grpc_frame.specs.Messages.{framed_all}
 
@@ -100,7 +100,7 @@ out_by true false true e f = absurd (cc)
 out_by false zero_ back e f = refl
 
 module _ (frames : Frames) (tokens_stay : TokensStay) (fair : LinesAreFair) (start : CallsStart) (dues : AttemptsAreDue) (x : StateSeen) (o : OpenEntry) (s : Seen)
-    (h : Agrees x s) (current : s.current ≡ Some o) (c : Call) (there : numbered s.calls c.number ≡ Some c) (bare : IsBare s c) (g : HeldConfig)
+    (h : Agrees x s) (current : s.current ≡ Some o) (c : Call) (there : numbered s.calls c.number ≡ Some c) (awaiting_config : IsUnconfigured s c) (g : HeldConfig)
     (is_held : held_config s ≡ Some g) (next : following s ≡ Some (action.CallConfigured c.number (length s.configs))) (slot : CallSlot)
     (slot_there : slot_at x.book c.number ≡ Some slot) (sees : SeesCall x s c slot) where
   abbrev chosen : Chosen
@@ -128,14 +128,14 @@ module _ (frames : Frames) (tokens_stay : TokensStay) (fair : LinesAreFair) (sta
   x0 = lent_to x s slot
 
   had_it : Had s c x0
-  had_it = had s c x0 sees.serves.sees bare
+  had_it = had s c x0 sees.serves.sees awaiting_config
 
   -- what the channel makes of the call
   abbrev made_at : ℕ → Stepped
   made_at moment = with_chosen chosen moment (record x0 { tokens = tokens_of_config s g })
 
   made_sees : Sees t c1 (made_at x.book.moment)
-  made_sees = subst (λ (m : ℕ). Sees t c1 (made_at m)) h.clock.moment (sees_now s c x0 g sees.serves.sees bare is_held)
+  made_sees = subst (λ (m : ℕ). Sees t c1 (made_at m)) h.clock.moment (sees_now s c x0 g sees.serves.sees awaiting_config is_held)
 
   -- its bucket is the last one
   bucket_last : slot2.bucket ≡ last_run x.book.buckets
@@ -178,10 +178,10 @@ module _ (frames : Frames) (tokens_stay : TokensStay) (fair : LinesAreFair) (sta
 
   -- nothing came for it, and it has no attempt
   no_commitment : commitment c s ≡ None
-  no_commitment = last_none (is_commitment c) (is_of c) (λ a e. and_none (is_of c a) (is_some a.row.committed) e) s.attempts bare.none
+  no_commitment = last_none (is_commitment c) (is_of c) (λ a e. and_none (is_of c a) (is_some a.row.committed) e) s.attempts awaiting_config.none
 
   no_attempts : filter (is_of c) s.attempts ≡ []
-  no_attempts = filter_none (is_of c) (is_of c) (λ a e. e) s.attempts bare.none
+  no_attempts = filter_none (is_of c) (is_of c) (λ a e. e) s.attempts awaiting_config.none
 
   came_same : came c1 t ≡ came c s
   came_same =
@@ -194,11 +194,11 @@ module _ (frames : Frames) (tokens_stay : TokensStay) (fair : LinesAreFair) (sta
       ∙ sym (ap (λ (q : Option Attempt). option_map_or (λ (k : Attempt). drained k s) q 0) no_commitment)
 
   was_held : Holds s c slot.call.buffer
-  was_held = sees.serves.holds bare.end
+  was_held = sees.serves.holds awaiting_config.end
 
   holds_still : Holds t c1 slot2.call.buffer
   holds_still = record {
-    fed = subst (λ (l : List Attempt). AreFed t c1 slot.call.buffer l) (sym no_attempts) tt;
+    fed = subst (λ (l : List Attempt). AttemptsAreFed t c1 slot.call.buffer l) (sym no_attempts) tt;
     held = subst (λ (n : ℕ). IsAt (passed slot.call.buffer) (text_of slot.call.buffer) n (framed_all c.messages)) (sym drained_same) was_held.held;
     committed = was_held.committed;
   }
@@ -304,16 +304,16 @@ module _ (frames : Frames) (tokens_stay : TokensStay) (fair : LinesAreFair) (sta
 
   -- the calls
   orderly_pair : IsInOrder t c1 × IsSteady t c1
-  orderly_pair = start t c1 kept.book bare.none (ap (λ (l : List Mark). list_all (λ (m : Mark). is_rowless m.what) (l ++ record { what = mark.Configured; moment = now s } ∷ [])) bare.marks) bare.end
+  orderly_pair = start t c1 kept.book awaiting_config.none (ap (λ (l : List Mark). list_all (λ (m : Mark). is_rowless m.what) (l ++ record { what = mark.Configured; moment = now s } ∷ [])) awaiting_config.marks) awaiting_config.end
 
   own_due : due_of t c1 ≡ slot2.due
   own_due =
-      ap (λ (b : Bool). if b then session.next_due c1 t else None) (ap (λ (q : Option _). is_none q) bare.end) ∙ dues t c1 (lent_to y t slot2) own_sees
+      ap (λ (b : Bool). if b then session.next_due c1 t else None) (ap (λ (q : Option _). is_none q) awaiting_config.end) ∙ dues t c1 (lent_to y t slot2) own_sees
       ∙ sym (ap (λ (q : Option _). if is_none q then next_due slot1.call else None) had_it.open_now)
 
   own_deadline : deadline_of t c1 ≡ slot2.deadline
   own_deadline =
-      ap (λ (b : Bool). if b then deadline c1 t else None) (ap (λ (q : Option _). is_none q) bare.end) ∙ deadline_is t c1 (lent_to y t slot2) own_serves
+      ap (λ (b : Bool). if b then deadline c1 t else None) (ap (λ (q : Option _). is_none q) awaiting_config.end) ∙ deadline_is t c1 (lent_to y t slot2) own_serves
       ∙ sym (ap (λ (q : Option _). if is_none q then deadline_at slot1.call else None) had_it.open_now)
 
   own_call : SeesCall y t c1 slot2
@@ -350,10 +350,10 @@ module _ (frames : Frames) (tokens_stay : TokensStay) (fair : LinesAreFair) (sta
   -- the links
   orderly : IsOrderly does_it s
   orderly =
-      any_none (λ (a : Attempt). is_outstanding a && (a.row.call == c.number)) (is_of c) (λ a e. and_second (is_outstanding a) (a.row.call == c.number) e) s.attempts bare.none
+      any_none (λ (a : Attempt). is_outstanding a && (a.row.call == c.number)) (is_of c) (λ a e. and_second (is_outstanding a) (a.row.call == c.number) e) s.attempts awaiting_config.none
 
-  cannot : CannotTell (bears_on does_it s) s t
-  cannot = subst (CannotTell (bears_on does_it s) s) after_is (frames.untold does_it s h.kept orderly)
+  cannot : CannotDistinguish (bears_on does_it s) s t
+  cannot = subst (CannotDistinguish (bears_on does_it s) s) after_is (frames.untold does_it s h.kept orderly)
 
   links : SeesLinks y t
   links = frames.links (bears_on does_it s) x y s t h.links h.kept kept (λ link e. refl) cannot h.links.count (λ link l e f. absurd (cc))
@@ -364,21 +364,21 @@ module _ (frames : Frames) (tokens_stay : TokensStay) (fair : LinesAreFair) (sta
 
   waits_by : (u : Seen) (row : ℕ) (q : Option Attempt) → numbered s.attempts row ≡ q → holds (λ (a : Attempt). (a.row.call == c.number) && is_queued a u) q ≡ false
   waits_by u row None e = refl
-  waits_by u row (Some a) e = and_none (a.row.call == c.number) (is_queued a u) (numbered_not (is_of c) s.attempts row a bare.none e)
+  waits_by u row (Some a) e = and_none (a.row.call == c.number) (is_queued a u) (numbered_not (is_of c) s.attempts row a awaiting_config.none e)
 
   queue_same : (k row : ℕ) (b : Bool) → (k == c.number) ≡ b → is_in_queue s k row ≡ is_in_queue t k row
   queue_same k row true e =
       subst (λ (n : ℕ). is_in_queue s n row ≡ is_in_queue t n row) (sym (equal_numbers k c.number e))
-      (and_none (is_waiting s c.number row) (not (is_patient s c.number)) (waits_by s row (numbered s.attempts row) refl)
-      ∙ sym (and_none (is_waiting t c.number row) (not (is_patient t c.number)) (waits_by t row (numbered s.attempts row) refl)))
+      (and_none (is_waiting s c.number row) (not (is_ready_waiter s c.number)) (waits_by s row (numbered s.attempts row) refl)
+      ∙ sym (and_none (is_waiting t c.number row) (not (is_ready_waiter t c.number)) (waits_by t row (numbered s.attempts row) refl)))
   queue_same k row false e = sym (others.queue k row e)
 
-  patient_same : (k row : ℕ) (b : Bool) → (k == c.number) ≡ b → is_in_patient s k row ≡ is_in_patient t k row
-  patient_same k row true e =
-      subst (λ (n : ℕ). is_in_patient s n row ≡ is_in_patient t n row) (sym (equal_numbers k c.number e))
-      (and_none (is_waiting s c.number row) (is_patient s c.number) (waits_by s row (numbered s.attempts row) refl)
-      ∙ sym (and_none (is_waiting t c.number row) (is_patient t c.number) (waits_by t row (numbered s.attempts row) refl)))
-  patient_same k row false e = sym (others.patient k row e)
+  wait_for_ready_same : (k row : ℕ) (b : Bool) → (k == c.number) ≡ b → is_in_ready_waiters s k row ≡ is_in_ready_waiters t k row
+  wait_for_ready_same k row true e =
+      subst (λ (n : ℕ). is_in_ready_waiters s n row ≡ is_in_ready_waiters t n row) (sym (equal_numbers k c.number e))
+      (and_none (is_waiting s c.number row) (is_ready_waiter s c.number) (waits_by s row (numbered s.attempts row) refl)
+      ∙ sym (and_none (is_waiting t c.number row) (is_ready_waiter t c.number) (waits_by t row (numbered s.attempts row) refl)))
+  wait_for_ready_same k row false e = sym (others.ready_waiters k row e)
 
   -- of the call itself
   own_dues : (u : Seen) (d : Call) (at : Option ℕ) → numbered u.calls c.number ≡ Some d → due_of u d ≡ at → (m : ℕ) → is_in_dues u m c.number ≡ is_number m at
@@ -387,45 +387,45 @@ module _ (frames : Frames) (tokens_stay : TokensStay) (fair : LinesAreFair) (sta
   own_deadlines : (u : Seen) (d : Call) (at : Option ℕ) → numbered u.calls c.number ≡ Some d → deadline_of u d ≡ at → (m : ℕ) → is_in_deadlines u m c.number ≡ is_number m at
   own_deadlines u d at e f m = ap (holds (λ (k : Call). is_number m (deadline_of u k))) e ∙ ap (is_number m) f
 
-  bare_gone : (z : ℕ) → is_in_bare t z c.number ≡ false
-  bare_gone z =
+  unconfigured_gone : (z : ℕ) → is_awaiting_config t z c.number ≡ false
+  unconfigured_gone z =
       ap (λ (q : Option Call). (z == 0) && holds (λ (k : Call). is_open_call k && is_none k.config) q) own_sees.own
       ∙ and_second (z == 0) (is_open_call c1 && false) (and_second (is_open_call c1) false refl)
 
-  bare_out : (test : Bool) (z : ℕ) → (test ≡ true → (z == 0) ≡ true) → (test && not (is_same (0, c.number) (z, c.number))) ≡ false
-  bare_out test z zero_ = ap (λ (b : Bool). test && not b) (own_key 0 z c.number) ∙ out_by test (z == 0) (0 == z) (same_back_zero z) zero_
+  unconfigured_out : (test : Bool) (z : ℕ) → (test ≡ true → (z == 0) ≡ true) → (test && not (is_same (0, c.number) (z, c.number))) ≡ false
+  unconfigured_out test z zero_ = ap (λ (b : Bool). test && not b) (own_key 0 z c.number) ∙ out_by test (z == 0) (0 == z) (same_back_zero z) zero_
 
-  bare_same : (z k : ℕ) (b : Bool) → (k == c.number) ≡ b → (is_in_bare s z k && not (is_same (0, c.number) (z, k))) ≡ is_in_bare t z k
-  bare_same z k true e =
-      subst (λ (n : ℕ). (is_in_bare s z n && not (is_same (0, c.number) (z, n))) ≡ is_in_bare t z n) (sym (equal_numbers k c.number e))
-      (bare_out (is_in_bare s z c.number) z (λ f. (and_parts (z == 0) _ f).0) ∙ sym (bare_gone z))
-  bare_same z k false e =
-      ap (λ (b : Bool). is_in_bare s z k && not b) (other_key 0 z k c.number e) ∙ and_on (is_in_bare s z k) ∙ sym (others.bare z k e)
+  unconfigured_same : (z k : ℕ) (b : Bool) → (k == c.number) ≡ b → (is_awaiting_config s z k && not (is_same (0, c.number) (z, k))) ≡ is_awaiting_config t z k
+  unconfigured_same z k true e =
+      subst (λ (n : ℕ). (is_awaiting_config s z n && not (is_same (0, c.number) (z, n))) ≡ is_awaiting_config t z n) (sym (equal_numbers k c.number e))
+      (unconfigured_out (is_awaiting_config s z c.number) z (λ f. (and_parts (z == 0) _ f).0) ∙ sym (unconfigured_gone z))
+  unconfigured_same z k false e =
+      ap (λ (b : Bool). is_awaiting_config s z k && not b) (other_key 0 z k c.number e) ∙ and_on (is_awaiting_config s z k) ∙ sym (others.awaiting_config z k e)
 
-  impatient_same : (z k : ℕ) (b : Bool) → (k == c.number) ≡ b → (is_in_impatient s z k && not (is_same (0, c.number) (z, k))) ≡ is_in_impatient t z k
-  impatient_same z k true e =
-      subst (λ (n : ℕ). (is_in_impatient s z n && not (is_same (0, c.number) (z, n))) ≡ is_in_impatient t z n) (sym (equal_numbers k c.number e))
-      (bare_out (is_in_impatient s z c.number) z (λ f. (and_parts (z == 0) _ (and_parts (is_in_bare s z c.number) (not (is_patient s c.number)) f).0).0)
-      ∙ sym (and_none (is_in_bare t z c.number) (not (is_patient t c.number)) (bare_gone z)))
-  impatient_same z k false e =
-      ap (λ (b : Bool). is_in_impatient s z k && not b) (other_key 0 z k c.number e) ∙ and_on (is_in_impatient s z k) ∙ sym (others.impatient z k e)
+  fail_fast_same : (z k : ℕ) (b : Bool) → (k == c.number) ≡ b → (is_in_fail_fast s z k && not (is_same (0, c.number) (z, k))) ≡ is_in_fail_fast t z k
+  fail_fast_same z k true e =
+      subst (λ (n : ℕ). (is_in_fail_fast s z n && not (is_same (0, c.number) (z, n))) ≡ is_in_fail_fast t z n) (sym (equal_numbers k c.number e))
+      (unconfigured_out (is_in_fail_fast s z c.number) z (λ f. (and_parts (z == 0) _ (and_parts (is_awaiting_config s z c.number) (not (is_ready_waiter s c.number)) f).0).0)
+      ∙ sym (and_none (is_awaiting_config t z c.number) (not (is_ready_waiter t c.number)) (unconfigured_gone z)))
+  fail_fast_same z k false e =
+      ap (λ (b : Bool). is_in_fail_fast s z k && not b) (other_key 0 z k c.number e) ∙ and_on (is_in_fail_fast s z k) ∙ sym (others.fail_fast z k e)
 
   sets : SeesSets y t
   sets = record {
     queue = exactly_by x.queue (is_in_queue s) (is_in_queue t) h.sets.queue (λ k row. queue_same k row (k == c.number) refl);
-    patient = exactly_by x.patient (is_in_patient s) (is_in_patient t) h.sets.patient (λ k row. patient_same k row (k == c.number) refl);
+    ready_waiters = exactly_by x.ready_waiters (is_in_ready_waiters s) (is_in_ready_waiters t) h.sets.ready_waiters (λ k row. wait_for_ready_same k row (k == c.number) refl);
     dues =
         timers_exactly c.number x.dues (is_in_dues s) slot.due slot2.due h.sets.dues (own_dues s c slot.due there sees.due) (is_in_dues t)
         (λ m k e. others.dues m k e) (own_dues t c1 slot2.due own_sees.own own_due);
     deadlines =
         timers_exactly c.number x.deadlines (is_in_deadlines s) slot.deadline slot2.deadline h.sets.deadlines (own_deadlines s c slot.deadline there sees.deadline_is)
         (is_in_deadlines t) (λ m k e. others.deadlines m k e) (own_deadlines t c1 slot2.deadline own_sees.own own_deadline);
-    bare =
-        exactly_by y.bare (λ z k. is_in_bare s z k && not (is_same (0, c.number) (z, k))) (is_in_bare t) (exactly_remove x.bare (is_in_bare s) (0, c.number) h.sets.bare)
-        (λ z k. bare_same z k (k == c.number) refl);
-    impatient =
-        exactly_by y.impatient (λ z k. is_in_impatient s z k && not (is_same (0, c.number) (z, k))) (is_in_impatient t)
-        (exactly_remove x.impatient (is_in_impatient s) (0, c.number) h.sets.impatient) (λ z k. impatient_same z k (k == c.number) refl);
+    awaiting_config =
+        exactly_by y.awaiting_config (λ z k. is_awaiting_config s z k && not (is_same (0, c.number) (z, k))) (is_awaiting_config t) (exactly_remove x.awaiting_config (is_awaiting_config s) (0, c.number) h.sets.awaiting_config)
+        (λ z k. unconfigured_same z k (k == c.number) refl);
+    fail_fast =
+        exactly_by y.fail_fast (λ z k. is_in_fail_fast s z k && not (is_same (0, c.number) (z, k))) (is_in_fail_fast t)
+        (exactly_remove x.fail_fast (is_in_fail_fast s) (0, c.number) h.sets.fail_fast) (λ z k. fail_fast_same z k (k == c.number) refl);
     outstanding = h.sets.outstanding;
     resets = h.sets.resets;
   }
@@ -455,5 +455,5 @@ calls_get_configs tokens_stay fair start dues frames number x o s k own =
     = λ n. numbered s.calls n ≡ Some k.call → following s ≡ Some (action.CallConfigured n (length s.configs)) → slot_at x.book n ≡ Some own.slot
     → Agrees (with_config (chosen_for k.held.config k.call.request.path) n own.slot x) (call_configured n (length s.configs) s) in
     subst P is
-    (λ there next here. agrees_after frames tokens_stay fair start dues x o s k.agrees k.current k.call there k.bare k.held k.is_held next own.slot here own.sees)
+    (λ there next here. agrees_after frames tokens_stay fair start dues x o s k.agrees k.current k.call there k.awaiting_config k.held k.is_held next own.slot here own.sees)
     k.there k.next own.there

@@ -82,7 +82,7 @@ last_one : (h : HeldConfig) (configs : List HeldConfig) (g : HeldConfig) → sli
 last_one h [] g e = let one : h ≡ g = (cc) in ap (λ (k : HeldConfig). k.run) one
 last_one h (k ∷ configs) g e = last_one k configs g e
 
--- of a list of buckets behind that of calls without a config
+-- of a list of buckets after that of calls without a config
 pub last_bucket : {Y : Type 0} (f : Option ℕ → Y) (none : Y) (configs : List HeldConfig) (g : HeldConfig) → last_of configs ≡ Some g
     → slice_get (none ∷ map f (runs_in_turn configs)) (length (runs_in_turn configs)) ≡ Some (f g.run)
 last_bucket f none [] g e = absurd (cc)

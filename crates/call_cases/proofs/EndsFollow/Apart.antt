@@ -44,13 +44,13 @@ module _ (s t : Seen) (d : Call) (k : IsApart s t d) (own : numbered s.calls d.n
       ∙ ap (λ (n : ℕ). due_by (plan_of d s) n (due_state d t)) (made_same s t d k own)
       ∙ ap (due_by (plan_of d s) (attempts_made d s)) (due_same s t d k own marks)
 
-  going_narrow : (z : Seen) (q : Attempt) → is_of d q ≡ false → (is_of d q && (is_outstanding q || is_queued q z)) ≡ false
-  going_narrow z q e = ap (λ (b : Bool). b && (is_outstanding q || is_queued q z)) e
+  going_restricted : (z : Seen) (q : Attempt) → is_of d q ≡ false → (is_of d q && (is_outstanding q || is_queued q z)) ≡ false
+  going_restricted z q e = ap (λ (b : Bool). b && (is_outstanding q || is_queued q z)) e
 
   going_same : has_going d t ≡ has_going d s
   going_same =
       any_apart (is_of d) (λ (q : Attempt). is_of d q && (is_outstanding q || is_queued q t)) (λ (q : Attempt). is_of d q && (is_outstanding q || is_queued q s))
-      (going_narrow t) (going_narrow s) (live_one s t d k own) s.attempts t.attempts k.attempts
+      (going_restricted t) (going_restricted s) (live_one s t d k own) s.attempts t.attempts k.attempts
 
   free_same : is_free_call t d ≡ is_free_call s d
   free_same = ap (λ (o : Option Attempt). is_none d.end && is_none o) (commitment_same s t d k own)

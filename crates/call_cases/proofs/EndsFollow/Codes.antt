@@ -8,7 +8,7 @@ use Rattle.grpc_base.specs.ErrorCodes.{cancel}
 use Rattle.h2_frame.specs.Frames.{FrameSeen}
 use Rattle.h2_frame.specs.Sent.{rst_stream_frame}
 use Rattle.link_actions.proofs.Ended.{ended_seen, is_ended}
-use Rattle.link_actions.specs.Sees.{ArePlaced}
+use Rattle.link_actions.specs.Sees.{AttemptsStandInPlace}
 use Rattle.link_actions.proofs.ResponseActions.Ended.{limit_ended}
 use Rattle.session_actions.specs.AttemptEnds.{attempt_ended, cut_end, end_of, is_framing, is_reset, reset_code_of, stream_reset_of, with_end, with_end_in_run, with_reset_queued}
 use Rattle.session_actions.specs.Attempts.{call_of}
@@ -57,7 +57,7 @@ response_by_limit s u a (Some n) links limit =
     ap (λ (k : ℕ). option_map_or (λ (l : Link). response_in k n (traffic_of a l.traffic)) (link_of a u) no_response) limit
     ∙ ap (λ (ls : List Link). option_map_or (response_on a n s) (option_and_then (λ (at : Placed). numbered ls at.link) a.row.placed) no_response) links
 
-pub ended_code : (s : Seen) (t : ℕ) (a : Attempt) (e : RowEnd) → ArePlaced 1 s.attempts → numbered s.attempts t ≡ Some a → (b : Attempt)
+pub ended_code : (s : Seen) (t : ℕ) (a : Attempt) (e : RowEnd) → AttemptsStandInPlace 1 s.attempts → numbered s.attempts t ≡ Some a → (b : Attempt)
     → reset_code_of (attempt_ended t e s) b ≡ reset_code_of s b
 ended_code s t a e places there b =
     let runs : List ThrottleRun = (option_map_or (with_end_in_run a e s) (call_of a s) s).runs in

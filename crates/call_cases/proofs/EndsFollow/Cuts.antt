@@ -3,7 +3,7 @@ use Rattle.std.proofs.Common.{◌≡◌, ◌||◌, ◌&&◌, ◌==◌, ◌∷◌
 use Rattle.std.proofs.lemmas.Bool.{eqb-true}
 use Rattle.std.specs.Option.{option_map, option_or}
 use Rattle.attempt_ledger.specs.declared.row.RowEnd.{RowEnd}
-use Rattle.call_actions.specs.Order.{AreNumbered}
+use Rattle.call_actions.specs.Order.{AttemptsAreNumbered}
 use Rattle.call_cases.specs.EndsFollow.Cuts.{IsOut, cut_off}
 use Rattle.call_cases.specs.EndsFollow.Laws.{is_out_of}
 use Rattle.session_actions.specs.Actions.{after, after_if}
@@ -64,7 +64,7 @@ module _ (number : ℕ) (v : Seen) (done : IsDone number v) where
       never true false = refl
       never false c = refl
 
-  -- an attempt in front that is not cut
+  -- an attempt before that is not cut
   skip : (x : Attempt) (xs : List Attempt) (act : Action) → is_out_of number x ≡ false → IsFirst number v xs act → IsFirst number v (x ∷ xs) act
   skip x xs act out f = record {
     attempt = f.attempt;
@@ -151,18 +151,18 @@ pub record IsOneCut (number : ℕ) (v : Seen) (act : Action) (o : OpenEntry) : T
   pub end_is : end ≡ end_of attempt cut_end v
   pub left : filter (is_out_of number) v.attempts ≡ attempt ∷ filter (is_out_of number) (cut_off attempt v).attempts
 
-pub place_of : (n i : ℕ) (xs : List Attempt) (a : Attempt) → AreNumbered n xs → slice_get xs i ≡ Some a → a.place ≡ n + i
+pub place_of : (n i : ℕ) (xs : List Attempt) (a : Attempt) → AttemptsAreNumbered n xs → slice_get xs i ≡ Some a → a.place ≡ n + i
 place_of n i [] a p e = absurd (cc)
 place_of n zero (x ∷ xs) a p e = let same : a ≡ x = (cc) in ap (λ (y : Attempt). y.place) same ∙ p.0 ∙ (let up : n ≡ n + 0 = omega arith in up)
 place_of n (suc i) (x ∷ xs) a p e = place_of (suc n) i xs a p.1 e ∙ (let up : suc n + i ≡ n + suc i = omega arith in up)
 
-pub place_suc : (i : ℕ) (xs : List Attempt) (a : Attempt) → AreNumbered 1 xs → slice_get xs i ≡ Some a → a.place ≡ suc i
+pub place_suc : (i : ℕ) (xs : List Attempt) (a : Attempt) → AttemptsAreNumbered 1 xs → slice_get xs i ≡ Some a → a.place ≡ suc i
 place_suc i xs a p e = place_of 1 i xs a p e ∙ (let up : 1 + i ≡ suc i = omega arith in up)
 
 undrawn_is : (o : OpenEntry) → undrawn o ≡ o
 undrawn_is o = ap (λ (k : ℕ). record o { drawn = k }) (let e : o.drawn + 0 ≡ o.drawn = omega arith in e)
 
-pub one_cut : (number : ℕ) (v : Seen) (act : Action) (o : OpenEntry) → IsDone number v → AreNumbered 1 v.attempts → v.current ≡ Some o → next_cut_of number v ≡ Some act
+pub one_cut : (number : ℕ) (v : Seen) (act : Action) (o : OpenEntry) → IsDone number v → AttemptsAreNumbered 1 v.attempts → v.current ≡ Some o → next_cut_of number v ≡ Some act
     → IsOneCut number v act o
 one_cut number v act o done places current next =
     let f : IsFirst number v v.attempts act = is_first number v done v.attempts act next in

@@ -10,7 +10,7 @@ use Rattle.call_actions.specs.CallsInTurn.Turns.{StaysInOrder, StaysSteady, wait
 use Rattle.call_cases.proofs.EndsFollow.Cuts.{IsOneCut, none_out, one_cut}
 use Rattle.call_cases.proofs.EndsFollow.Stays.{IsBase, IsLeft, uncut}
 use Rattle.call_cases.proofs.EndsFollow.Steps.{IsMid, IsOneReset, IsReset, after_is, call_number, mid_cut, one_reset, reset_mid}
-use Rattle.call_cases.specs.EndsFollow.Cuts.{AreCutOff, AreReset, cut_off}
+use Rattle.call_cases.specs.EndsFollow.Cuts.{AttemptsAreCutOff, StreamsAreReset, cut_off}
 use Rattle.call_cases.specs.EndsFollow.Laws.{AreAllOut, CutsAreOut, EndsFollow, FollowsOn, IsNextToEnd, IsSameRest, is_late, is_out_of}
 use Rattle.grpc_base.specs.declared.event.EndCause.{EndCause}
 use Rattle.session_actions.specs.Actions.{after, after_if, following}
@@ -26,14 +26,14 @@ use Rattle.session_actions.specs.declared.attempt.Attempt.{Attempt}
 use Rattle.session_actions.specs.declared.call.Call.{Call}
 use Rattle.session_actions.specs.declared.entry.OpenEntry.{OpenEntry}
 use Rattle.session_actions.specs.declared.seen.Seen.{Seen}
-use Rattle.session_order.proofs.Calms.{first_line_gives}
+use Rattle.session_order.proofs.Quiescence.{first_line_gives}
 use Rattle.session_order.proofs.Changed.{changed_away, changed_map, lookup, passes_not}
 use Rattle.session_order.proofs.Lines.{lines_are_still}
-use Rattle.session_order.specs.Calm.{IsStill, is_to_cut, is_to_reset}
+use Rattle.session_order.specs.Quiescent.{IsStill, is_to_cut, is_to_reset}
 use Rattle.session_order.specs.Lines.{is_line, rank}
 use Rattle.session_order.specs.declared.line.Line.{Line}
 use Rattle.session_order.specs.declared.line.Line.TheVariants as line
-use Rattle.call_actions.specs.TakeActions.Cuts.{AreCut, next_cut_of}
+use Rattle.call_actions.specs.TakeActions.Cuts.{AttemptsAreCut, next_cut_of}
 
 -- lists of actions, one after the other
 does_on : (these those : List Action) (s t u : Seen) → Does these s t → Does those t u → Does (these ++ those) s u
@@ -142,7 +142,7 @@ module _ (waits : Line → Bool) (late : (l : Line) → waits l ≡ true → is_
   pub record HasCut (v t : Seen) (cuts : List Action) : Type 0 where
     pub attempts : List Attempt
     pub all : attempts ≡ filter (is_out_of n) v.attempts
-    pub off : AreCutOff attempts v t
+    pub off : AttemptsAreCutOff attempts v t
     pub does : Does cuts v t
     pub reset : IsReset waits n o b t
     pub steady : StaysSteady t n
@@ -177,7 +177,7 @@ module _ (waits : Line → Bool) (late : (l : Line) → waits l ≡ true → is_
       by_line true f = at_cut l f
       by_line false f = mid.still l f e w
 
-  pub cut_walk : (cuts : List Action) (v t : Seen) → IsMid waits n o b v → AreCut n cuts v t → HasCut v t cuts
+  pub cut_walk : (cuts : List Action) (v t : Seen) → IsMid waits n o b v → AttemptsAreCut n cuts v t → HasCut v t cuts
   cut_walk [] v t mid are =
       subst (λ (z : Seen). HasCut v z []) (sym are.1) (record {
         attempts = [];
@@ -192,7 +192,7 @@ module _ (waits : Line → Bool) (late : (l : Line) → waits l ≡ true → is_
       let one : IsOneCut n v act o = one_cut n v act o mid.left.done mid.book.places mid.current are.0 in
       let u : Seen = cut_off one.attempt v in
       let rest : HasCut u t cuts
-      = cut_walk cuts u t (mid_cut waits n o b v base mid act one) (subst (λ (z : Seen). AreCut n cuts z t) one.does are.1) in
+      = cut_walk cuts u t (mid_cut waits n o b v base mid act one) (subst (λ (z : Seen). AttemptsAreCut n cuts z t) one.does are.1) in
       let next : IsNext act v
       = subst (λ (x : Action). IsNext x v) (sym one.act_is) (cut_follows v act mid are.0 ∙ ap (λ (x : Action). Some x) one.act_is) in
       record {
@@ -217,7 +217,7 @@ module _ (waits : Line → Bool) (late : (l : Line) → waits l ≡ true → is_
     pub none : next_reset u ≡ None
     pub rest : IsSameRest v u
 
-  pub reset_walk : (resets : List Action) (v u : Seen) → IsReset waits n o b v → AreReset resets v u → HasReset v u resets
+  pub reset_walk : (resets : List Action) (v u : Seen) → IsReset waits n o b v → StreamsAreReset resets v u → HasReset v u resets
   reset_walk [] v u mid are =
       subst (λ (z : Seen). HasReset v z []) (sym are.1) (record { does = refl; reset = mid; none = are.0; rest = rest_self v })
   reset_walk (act ∷ resets) v u mid are =
@@ -296,19 +296,19 @@ module _ (waits : Line → Bool) (n : ℕ) (why : EndCause) (o : OpenEntry) (s :
   less true q e = e
   less false q e = refl
 
-  calm_by : (xs : List Attempt) → list_any (λ (x : Attempt). wants_follower x s) xs ≡ false → list_any (waits_for s c) xs ≡ false
-  calm_by [] e = refl
-  calm_by (x ∷ xs) e =
+  quiescent_by : (xs : List Attempt) → list_any (λ (x : Attempt). wants_follower x s) xs ≡ false → list_any (waits_for s c) xs ≡ false
+  quiescent_by [] e = refl
+  quiescent_by (x ∷ xs) e =
       let parts : (wants_follower x s ≡ false) × (list_any (λ (y : Attempt). wants_follower y s) xs ≡ false)
       = or_parts (wants_follower x s) (list_any (λ (y : Attempt). wants_follower y s) xs) e in
-      ap (λ (q : Bool). q || list_any (waits_for s c) xs) (less (is_of c x) (wants_follower x s) parts.0) ∙ calm_by xs parts.1
+      ap (λ (q : Bool). q || list_any (waits_for s c) xs) (less (is_of c x) (wants_follower x s) parts.0) ∙ quiescent_by xs parts.1
 
   pub ordered : StaysInOrder b n
   ordered =
       let there : numbered s.calls c.number ≡ Some c = ap (numbered s.calls) own_number ∙ is.there in
       subst (λ (k : ℕ). StaysInOrder (call_ended k why s) k) own_number
       (ends_keep s c why (subst (λ (k : ℕ). IsBook (call_ended k why s)) (sym own_number) book_end) there (is.orders c there)
-      (record { turn = is.turn; calm = calm_by s.attempts is.unfollowed }))
+      (record { turn = is.turn; quiescent = quiescent_by s.attempts is.unfollowed }))
 
   pub mid : IsMid waits n o b b
   mid = record {
@@ -322,12 +322,12 @@ module _ (waits : Line → Bool) (n : ℕ) (why : EndCause) (o : OpenEntry) (s :
   rest_end : IsSameRest s b
   rest_end = record { entries = refl; setup = refl; asks = refl; policies = refl; subs = refl; configs = refl; runs = refl; answered = refl; shut = refl }
 
-  pub all_out : (t : Seen) (cuts : List Action) → AreCut n cuts b t → AreAllOut n why s t
+  pub all_out : (t : Seen) (cuts : List Action) → AttemptsAreCut n cuts b t → AreAllOut n why s t
   all_out t cuts are =
       let cut : HasCut waits is.late n o b base b t cuts = cut_walk waits is.late n o b base cuts b t mid are in
       record { attempts = cut.attempts; all = cut.all; off = cut.off }
 
-  module _ (t u : Seen) (cuts resets : List Action) (are : AreCut n cuts b t) (then_ : AreReset resets t u) where
+  module _ (t u : Seen) (cuts resets : List Action) (are : AttemptsAreCut n cuts b t) (then_ : StreamsAreReset resets t u) where
     pub cut_all : HasCut waits is.late n o b base b t cuts
     cut_all = cut_walk waits is.late n o b base cuts b t mid are
 

@@ -17,7 +17,7 @@ use Rattle.session_actions.specs.declared.call.Call.{Call}
 use Rattle.session_actions.specs.declared.call.Mark.{Mark}
 use Rattle.session_actions.specs.declared.seen.Seen.{Seen}
 use Rattle.session_order.proofs.Changed.{none_from, passes_not}
-use Rattle.session_order.specs.Calm.{is_to_cut}
+use Rattle.session_order.specs.Quiescent.{is_to_cut}
 
 -- what the session was where the call had just ended
 pub record IsBase (n : ℕ) (b : Seen) : Type 0 where

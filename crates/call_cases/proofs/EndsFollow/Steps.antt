@@ -5,10 +5,10 @@ use Rattle.std.proofs.lemmas.Bool.Decides.{nat_tests}
 use Rattle.std.specs.List.{list_any}
 use Rattle.std.specs.Option.{option_and_then, option_map, option_map_or}
 use Rattle.attempt_ledger.specs.declared.row.RowEnd.{RowEnd}
-use Rattle.call_actions.specs.Order.{AreNumbered}
+use Rattle.call_actions.specs.Order.{AttemptsAreNumbered}
 use Rattle.call_actions.proofs.CallsApart.Acts.{apart_joins, others_stay}
 use Rattle.call_actions.proofs.CallsApart.Books.{books_stay}
-use Rattle.call_actions.specs.CallsApart.Apart.{AreCalls, IsApart, IsBook}
+use Rattle.call_actions.specs.CallsApart.Apart.{CallsAreNumbered, IsApart, IsBook}
 use Rattle.call_actions.proofs.CallsInTurn.Rows.{ending_keeps}
 use Rattle.call_actions.specs.CallsInTurn.Turns.{StaysSteady, waits as waits_for}
 use Rattle.call_cases.proofs.EndsFollow.Codes.{ended_code, reset_code}
@@ -16,7 +16,7 @@ use Rattle.call_cases.proofs.EndsFollow.Cuts.{IsOneCut, place_suc}
 use Rattle.call_cases.proofs.EndsFollow.Stays.{IsBase, IsLeft, final_still, row_still, unfollowed}
 use Rattle.call_cases.proofs.EndsFollow.Streams.{IsForemost, by_stream_order, is_foremost}
 use Rattle.call_cases.specs.EndsFollow.Cuts.{cut_off}
-use Rattle.link_actions.specs.Sees.{ArePlaced}
+use Rattle.link_actions.specs.Sees.{AttemptsStandInPlace}
 use Rattle.session_actions.specs.Actions.{after, after_if}
 use Rattle.session_actions.specs.AttemptEnds.{cut_end, end_of, next_reset, reset_code_of, reset_of, stream_reset, stream_reset_of, with_end, with_reset_queued}
 use Rattle.session_actions.specs.Attempts.{wants_follower}
@@ -32,7 +32,7 @@ use Rattle.session_actions.specs.declared.seen.Seen.{Seen}
 use Rattle.session_order.proofs.AttemptDone.{attempt_leaves}
 use Rattle.session_order.proofs.Changed.{changed_away, changed_here, none_from, passes_not}
 use Rattle.session_order.proofs.StreamResets.{reset_leaves}
-use Rattle.session_order.specs.Calm.{IsStill}
+use Rattle.session_order.specs.Quiescent.{IsStill}
 use Rattle.session_order.specs.Lines.{is_line}
 use Rattle.session_order.specs.Stirs.{stirs}
 use Rattle.session_order.specs.declared.line.Line.{Line}
@@ -55,9 +55,9 @@ pub record IsReset (waits : Line → Bool) (n : ℕ) (o : OpenEntry) (b v : Seen
   pub left : IsLeft n b v
   pub still : (l : Line) → is_line l line.Reset ≡ false → waits l ≡ false → IsStill l o v
 
-pub placed_of : (k : ℕ) (xs : List Attempt) → AreNumbered k xs → ArePlaced k xs
+pub placed_of : (k : ℕ) (xs : List Attempt) → AttemptsAreNumbered k xs → AttemptsStandInPlace k xs
 placed_of k [] p = tt
-placed_of k (a ∷ xs) p = (p.0, subst (λ (j : ℕ). ArePlaced j xs) (let e : suc k ≡ k + 1 = omega arith in e) (placed_of (suc k) xs p.1))
+placed_of k (a ∷ xs) p = (p.0, subst (λ (j : ℕ). AttemptsStandInPlace j xs) (let e : suc k ≡ k + 1 = omega arith in e) (placed_of (suc k) xs p.1))
 
 other_call : (m n d : ℕ) → (m == n) ≡ true → (d == n) ≡ false → (m == d) ≡ false
 other_call m n d e f = grind (arith, nat_tests, e, f)
@@ -74,12 +74,12 @@ at_by f k p xs y x true e there at =
 at_by f k p xs y x false e there at = ((λ h. absurd (cc)), (λ h. sym (changed_away f k p xs (eqb-false p k e)) ∙ at))
 
 -- calls have the numbers of their places
-number_from : (k i : ℕ) (xs : List Call) (c : Call) → AreCalls k xs → slice_get xs i ≡ Some c → c.number ≡ k + i
+number_from : (k i : ℕ) (xs : List Call) (c : Call) → CallsAreNumbered k xs → slice_get xs i ≡ Some c → c.number ≡ k + i
 number_from k i [] c p e = absurd (cc)
 number_from k zero (x ∷ xs) c p e = let same : c ≡ x = (cc) in ap (λ (y : Call). y.number) same ∙ p.0 ∙ (let up : k ≡ k + 0 = omega arith in up)
 number_from k (suc i) (x ∷ xs) c p e = number_from (suc k) i xs c p.1 e ∙ (let up : suc k + i ≡ k + suc i = omega arith in up)
 
-pub call_number : (n : ℕ) (xs : List Call) (c : Call) → AreCalls 1 xs → numbered xs n ≡ Some c → c.number ≡ n
+pub call_number : (n : ℕ) (xs : List Call) (c : Call) → CallsAreNumbered 1 xs → numbered xs n ≡ Some c → c.number ≡ n
 call_number zero xs c p e = absurd (cc)
 call_number (suc i) xs c p e = number_from 1 i xs c p e ∙ (let up : 1 + i ≡ suc i = omega arith in up)
 
@@ -94,7 +94,7 @@ module _ (waits : Line → Bool) (n : ℕ) (o : OpenEntry) (b v : Seen) (base : 
   abbrev end : RowEnd
   end = end_of a cut_end v
 
-  places : ArePlaced 1 v.attempts
+  places : AttemptsStandInPlace 1 v.attempts
   places = placed_of 1 v.attempts mid.book.places
 
   of_it : a.row.call ≡ n
@@ -178,19 +178,19 @@ module _ (waits : Line → Bool) (n : ℕ) (o : OpenEntry) (b v : Seen) (base : 
   leaves : (l : Line) → stirs (action.AttemptEnds a.place end) l ≡ false → IsStill l o v → IsStill l o u
   leaves l off h = attempt_leaves a.place end o v mid.current tt l o current_cut off h
 
-  steady_calm : (p : ℕ) (x : Attempt) (q : Bool) → (x.row.call == n) ≡ q → numbered u.attempts p ≡ Some x → wants_follower x u ≡ false
-  steady_calm p x false e at = unfollowed n b u base left_cut p x at e
-  steady_calm p x true e at =
+  steady_quiescent : (p : ℕ) (x : Attempt) (q : Bool) → (x.row.call == n) ≡ q → numbered u.attempts p ≡ Some x → wants_follower x u ≡ false
+  steady_quiescent p x false e at = unfollowed n b u base left_cut p x at e
+  steady_quiescent p x true e at =
       let number : steady_cut.call.number ≡ n = call_number n u.calls steady_cut.call book_cut.calls steady_cut.own in
       second (x.row.call == steady_cut.call.number) (wants_follower x u) (ap (λ (k : ℕ). x.row.call == k) number ∙ e)
-      (passes_not (waits_for u steady_cut.call) u.attempts p x steady_cut.steady.calm at)
+      (passes_not (waits_for u steady_cut.call) u.attempts p x steady_cut.steady.quiescent at)
     where
       second : (c d : Bool) → c ≡ true → (c && d) ≡ false → d ≡ false
       second true d e h = h
       second false d e h = absurd (cc)
 
   transparent_cut : list_any (λ (x : Attempt). wants_follower x u) u.attempts ≡ false
-  transparent_cut = none_from (λ (x : Attempt). wants_follower x u) u.attempts (λ p x at. steady_calm p x (x.row.call == n) refl at)
+  transparent_cut = none_from (λ (x : Attempt). wants_follower x u) u.attempts (λ p x at. steady_quiescent p x (x.row.call == n) refl at)
 
   still_cut : (l : Line) → is_line l line.Cut ≡ false → is_line l line.Reset ≡ false → waits l ≡ false → IsStill l o u
   still_cut line.Cut e f w = absurd (cc)

@@ -10,16 +10,16 @@ use Rattle.call_core.specs.Parts.{is_over, pushed_over}
 use Rattle.call_core.specs.Steps as steps
 use Rattle.call_core.specs.Steps.{Stepped, accepted_if, committed_over, full_reply, full_with, lent, with_message}
 use Rattle.call_core.specs.declared.state.CallState.{CallState}
-use Rattle.call_cases.proofs.CallPosts.Agreeing.{told_agrees}
+use Rattle.call_cases.proofs.CallPosts.Agreeing.{reported_agrees}
 use Rattle.call_cases.proofs.CallPosts.Answered.{Posted, posted, to_order}
-use Rattle.call_cases.proofs.CallPosts.Told.{f, t}
+use Rattle.call_cases.proofs.CallPosts.Report.{f, t}
 use Rattle.channel_actions.proofs.Answering.{event_next, replied_entry}
 use Rattle.channel_actions.proofs.Dialling.{unshut_by}
 use Rattle.channel_actions.proofs.Settles.{is_with_open, with_open}
 use Rattle.channel_actions.proofs.Stamps.{counted_at}
 use Rattle.channel_actions.specs.Agrees.{Agrees}
 use Rattle.channel_actions.specs.Calls.{SeesCall, lent_to}
-use Rattle.channel_actions.specs.Calm.{IsAt}
+use Rattle.channel_actions.specs.Quiescent.{IsAt}
 use Rattle.channel_core.specs.Applying as channel
 use Rattle.channel_core.specs.Applying.{AnswersBy}
 use Rattle.channel_core.specs.Arrivals.{sent_to}
@@ -28,7 +28,7 @@ use Rattle.channel_core.specs.States.{StateSeen}
 use Rattle.channel_core.specs.Steps.{sealed}
 use Rattle.channel_core.specs.Tables.{send_reply_of, tokens_in}
 use Rattle.channel_core.specs.declared.state.slots.CallSlot.{CallSlot}
-use Rattle.call_cases.proofs.FullSends.Bare.{no_items}
+use Rattle.call_cases.proofs.FullSends.Headless.{no_items}
 use Rattle.call_cases.proofs.FullSends.Chosen.{can}
 use Rattle.call_cases.proofs.FullSends.Stepping.{IsTwoSteps, twice}
 use Rattle.call_cases.specs.FullSends.Laws.{FullSendsLead, LeadsToCommit, commits}
@@ -57,13 +57,13 @@ use Rattle.session_actions.specs.declared.call.Call.{Call}
 use Rattle.session_actions.specs.declared.entry.OpenEntry.{OpenEntry}
 use Rattle.session_actions.specs.declared.entry.Stage.TheVariants as stage
 use Rattle.session_actions.specs.declared.seen.Seen.{Seen}
-use Rattle.session_order.proofs.Calms.{first_line_gives}
+use Rattle.session_order.proofs.Quiescence.{first_line_gives}
 use Rattle.session_order.proofs.Changed.{passes_not}
 use Rattle.session_order.proofs.Lines.{lines_are_still}
 use Rattle.session_order.proofs.Messages.{accepted_leaves}
-use Rattle.session_order.specs.Calm.{IsStill}
+use Rattle.session_order.specs.Quiescent.{IsStill}
 use Rattle.session_order.specs.Lines.{is_before, is_line}
-use Rattle.session_order.specs.Stirs.{AreNumbered, stirs}
+use Rattle.session_order.specs.Stirs.{CallsHaveTheirNumbers, stirs}
 use Rattle.session_order.specs.declared.line.Line.{Line}
 use Rattle.session_order.specs.declared.line.Line.TheVariants as line
 use Rattle.std.proofs.Common.{Bool, Err, List, None, Ok, Option, Some, [], ap, arith, eqb-true, false, if◌then◌else◌, is_none, is_some, length, length-append, max, nat_le, nat_lt, not, option_map, refl, slice_get, subst, suc, sym, true, zero, ℕ, ◌&&◌, ◌++◌, ◌+◌, ◌==◌, ◌∙◌, ◌∷◌, ◌≡◌, ◌≤◌}
@@ -206,7 +206,7 @@ module _ (x : StateSeen) (o : OpenEntry) (s0 : Seen) (h : Agrees x (with_open o 
   some_far : is_some (furthest c u) ≡ true
   some_far = sym (outstanding_is u c st sees.serves has) ∙ tests.1
 
-  numbers : AreNumbered u
+  numbers : CallsHaveTheirNumbers u
   numbers k d e = counted_at (λ (z : Call). z.number) s0.calls k d h.kept.calls e
 
   short_now : (d : Call) → numbered u.calls n ≡ Some d → is_too_long m d u ≡ false
@@ -221,7 +221,7 @@ module _ (x : StateSeen) (o : OpenEntry) (s0 : Seen) (h : Agrees x (with_open o 
   still_by : (l : Line) → stirs (action.MessageAccepted n) l ≡ false → IsStill l q v
   still_by l away =
       subst (IsStill l q) made
-      (accepted_leaves n o u refl (m, is, numbers, short_now) l q (ap (λ (z : Seen). z.current) made) away (to_order o u at.calm l))
+      (accepted_leaves n o u refl (m, is, numbers, short_now) l q (ap (λ (z : Seen). z.current) made) away (to_order o u at.quiescent l))
 
   still : (l : Line) → is_line l line.Overflow ≡ false → IsStill l q v
   still line.Overflow e = absurd (cc)
@@ -243,7 +243,7 @@ module _ (x : StateSeen) (o : OpenEntry) (s0 : Seen) (h : Agrees x (with_open o 
 
   -- what did not overflow before does not now
   none_over : first_of (overflow_row u) s0.calls ≡ None
-  none_over = map_none (first_of (overflow_row u) s0.calls) ((lines_are_still line.Overflow o u).1 (to_order o u at.calm line.Overflow))
+  none_over = map_none (first_of (overflow_row u) s0.calls) ((lines_are_still line.Overflow o u).1 (to_order o u at.quiescent line.Overflow))
 
   abbrev longer : CallState
   longer = record slot.call { longest = max slot.call.longest (length m); buffer = record slot.call.buffer { messages = slot.call.buffer.messages ++ framed m ∷ [] } }
@@ -260,7 +260,7 @@ module _ (x : StateSeen) (o : OpenEntry) (s0 : Seen) (h : Agrees x (with_open o 
         sym (ap (λ (z : Bool). z && holds (has_head_in k u) (numbered s0.calls k.row.call)) can_now.outstanding ∙ ap (holds (has_head_in k u)) its_call
         ∙ ap (λ (z : Option CallEnd). (is_none z && is_none (commitment c u)) && is_some (response k u).head) going
         ∙ ap (λ (z : Option Attempt). is_none z && is_some (response k u).head) uncommitted)
-        ∙ passes_not (is_headed u) s0.attempts k.place k (to_order o u at.calm line.Head) can_now.at
+        ∙ passes_not (is_headed u) s0.attempts k.place k (to_order o u at.quiescent line.Head) can_now.at
 
     nothing : response_items (response k u) ≡ []
     nothing = no_items k u (none_of (response k u).head headless)
@@ -293,7 +293,7 @@ module _ (x : StateSeen) (o : OpenEntry) (s0 : Seen) (h : Agrees x (with_open o 
 
     agrees : Agrees between v
     agrees =
-        told_agrees kept_along s0 o reply.Done c (λ (z : Call). z.messages ++ m ∷ []) (λ (z : Call). z.finished) (λ (z : Call). z.taken) (λ (z : Call). z.end_taken) grows
+        reported_agrees kept_along s0 o reply.Done c (λ (z : Call). z.messages ++ m ∷ []) (λ (z : Call). z.finished) (λ (z : Call). z.taken) (λ (z : Call). z.end_taken) grows
         x h slot own sees longer two.calls two.put (serves_sent u c st m p0 unshut sees.serves short free going) (action.MessageAccepted n) accepts made
         (record { acts = eq-eqb n n refl; passes = λ d mine off. refl })
 

@@ -9,7 +9,7 @@ use Rattle.grpc_base.specs.ErrorCodes.{cancel}
 use Rattle.h2_link.specs.Feeds.{Line}
 use Rattle.h2_link.specs.Wire.{Wire}
 use Rattle.link_actions.proofs.Ended.{is_ended}
-use Rattle.link_actions.specs.Sees.{ArePlaced}
+use Rattle.link_actions.specs.Sees.{AttemptsStandInPlace}
 use Rattle.call_cases.proofs.EndsFollow.Codes.{code_for, code_in, entry_by}
 use Rattle.call_cases.proofs.EndsFollow.Streams.{put}
 use Rattle.link_actions.proofs.ResponseActions.Counted.{codes_stay, cuts_are_cancelled}
@@ -52,7 +52,7 @@ on_link l s a here out =
     link_by l.number s.links a.row.placed (and_parts (is_outstanding a) (holds (λ (at : Placed). at.link == l.number) a.row.placed) out).1 ∙ here
 
 module _ (l : Link) (s : Seen) (w : Wire) (g : ℕ → Line) (n : ℕ) (a : Attempt) (sees : SeesStreams l s w g) (on : IsOn l s n a) (goes : l.over ≡ None)
-    (places : ArePlaced 1 s.attempts) (unreset : a.reset ≡ false) (reads : list_all (is_read_by (read_bytes l)) l.traffic ≡ true) where
+    (places : AttemptsStandInPlace 1 s.attempts) (unreset : a.reset ≡ false) (reads : list_all (is_read_by (read_bytes l)) l.traffic ≡ true) where
   abbrev end : RowEnd
   end = end_of a cut_end s
 

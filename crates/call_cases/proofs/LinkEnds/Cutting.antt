@@ -14,12 +14,12 @@ use Rattle.h2_link.specs.Feeds.{Line}
 use Rattle.h2_link.specs.Steps.{cut}
 use Rattle.h2_link.specs.Wire.{Wire}
 use Rattle.h2_link.specs.declared.live.LiveStream.{LiveStream}
-use Rattle.channel_actions.specs.KeptSessions.Kept.{AreCounted}
+use Rattle.channel_actions.specs.KeptSessions.Kept.{NumbersCountUp}
 use Rattle.lb_policy.specs.Table.{is_one_of}
 use Rattle.link_actions.proofs.Ended.{is_ended}
 use Rattle.link_actions.proofs.Without.{is_other, is_other_stream}
 use Rattle.link_actions.specs.Laws.{without_tag}
-use Rattle.link_actions.specs.Sees.{AreLive, ArePlaced, by_stream}
+use Rattle.link_actions.specs.Sees.{StreamsAreLive, AttemptsStandInPlace, by_stream}
 use Rattle.call_cases.proofs.EndsFollow.Codes.{cut_waiting, ended_code, going_code}
 use Rattle.call_cases.proofs.LinkEnds.Codes.{cut_code, put_code, with_code}
 use Rattle.call_cases.proofs.EndsFollow.Streams.{gains, put, sorted_by, stays_out}
@@ -40,8 +40,8 @@ use Rattle.session_actions.specs.Writing.{streaming_on, waiting_on}
 use Rattle.session_actions.specs.declared.attempt.Attempt.{Attempt}
 use Rattle.session_actions.specs.declared.link.Link.{Link}
 use Rattle.session_actions.specs.declared.seen.Seen.{Seen}
-use Rattle.link_actions.proofs.StreamActions.StreamEnds.{ends_heard}
-use Rattle.link_actions.proofs.StreamActions.Unheard.{but_all}
+use Rattle.link_actions.proofs.StreamActions.StreamEnds.{ends_received}
+use Rattle.link_actions.proofs.StreamActions.Unreceived.{but_all}
 use Rattle.link_actions.specs.StreamActions.Laws.{IsOn}
 use Rattle.link_actions.specs.StreamActions.Sees.{SeesBut, SeesStreams}
 
@@ -68,10 +68,10 @@ is_put f zero xs x e = absurd (cc)
 is_put f (suc i) xs x e = record { index = i; there = e; put_in = ap (changed_if f (suc i) xs) e }
 
 -- each attempt stands at its place
-pub counted_places : (n : ℕ) (xs : List Attempt) → ArePlaced n xs → AreCounted n (map (λ (a : Attempt). a.place) xs)
+pub counted_places : (n : ℕ) (xs : List Attempt) → AttemptsStandInPlace n xs → NumbersCountUp n (map (λ (a : Attempt). a.place) xs)
 counted_places n [] p = tt
 counted_places n (a ∷ xs) p =
-    (p.0, subst (λ (k : ℕ). AreCounted k (map (λ (x : Attempt). x.place) xs)) (let e : n + 1 ≡ suc n = omega arith in e) (counted_places (n + 1) xs p.1))
+    (p.0, subst (λ (k : ℕ). NumbersCountUp k (map (λ (x : Attempt). x.place) xs)) (let e : n + 1 ≡ suc n = omega arith in e) (counted_places (n + 1) xs p.1))
 
 -- what passes a filter
 filter_all_by : {X : Type 0} (P Q : X → Type 0) (p : X → Bool) (x : X) (xs : List X) (b : Bool) → p x ≡ b → (P x → p x ≡ true → Q x) → P x
@@ -84,7 +84,7 @@ filter_all P Q p turn [] h = tt
 filter_all P Q p turn (x ∷ xs) h = filter_all_by P Q p x xs (p x) refl (turn x) h.0 (filter_all P Q p turn xs h.1)
 
 -- of which none has a tag
-none_tagged : (l : Link) (t : ℕ) (xs : List LiveStream) (as_ : List Attempt) → AreLive l xs as_ → AllByRecursion (λ (b : Attempt). (b.place == t) ≡ false) as_
+none_tagged : (l : Link) (t : ℕ) (xs : List LiveStream) (as_ : List Attempt) → StreamsAreLive l xs as_ → AllByRecursion (λ (b : Attempt). (b.place == t) ≡ false) as_
     → filter (is_other_stream t) xs ≡ xs
 none_tagged l t [] [] live off = refl
 none_tagged l t (x ∷ xs) (b ∷ as_) live off =
@@ -137,7 +137,7 @@ end_outstanding (Some x) None e = refl
 end_outstanding (Some x) (Some y) e = absurd (cc)
 
 -- a link on which an attempt is not: the others are there
-module _ (s : Seen) (a : Attempt) (there : numbered s.attempts a.place ≡ Some a) (places : ArePlaced 1 s.attempts) (l : Link) (off : is_outstanding_on l a ≡ false) where
+module _ (s : Seen) (a : Attempt) (there : numbered s.attempts a.place ≡ Some a) (places : AttemptsStandInPlace 1 s.attempts) (l : Link) (off : is_outstanding_on l a ≡ false) where
   abbrev IsOther : Attempt → Type 0
   IsOther b = (b.place == a.place) ≡ false
 
@@ -162,7 +162,7 @@ module _ (s : Seen) (a : Attempt) (there : numbered s.attempts a.place ≡ Some 
   none_waiting = filter_all IsOther IsOther (λ (b : Attempt). is_none b.row.stream) (λ b e on. e) (outstanding_on l s) none_here
 
 -- an attempt is cut off
-module _ (s : Seen) (a : Attempt) (out : IsOut s a) (places : ArePlaced 1 s.attempts) where
+module _ (s : Seen) (a : Attempt) (out : IsOut s a) (places : AttemptsStandInPlace 1 s.attempts) where
   abbrev pub end : RowEnd
   end = end_of a cut_end s
 
@@ -216,8 +216,8 @@ module _ (s : Seen) (a : Attempt) (out : IsOut s a) (places : ArePlaced 1 s.atte
         let v : Wire = is.ahead.wire in
         let t : ℕ = a.place in
         let but : SeesBut t l s v g
-        = record { sees = is.ahead.sees.sees; heard = but_all t l s v.live (by_stream (streaming_on l s)) is.ahead.sees.heard; unheard = is.ahead.sees.unheard; begun = is.ahead.sees.begun } in
-        let left : SeesStreams l u (without_tag t v) g = ends_heard l s v g t a end but out.there in
+        = record { sees = is.ahead.sees.sees; handled = but_all t l s v.live (by_stream (streaming_on l s)) is.ahead.sees.handled; unreceived = is.ahead.sees.unreceived; begun = is.ahead.sees.begun } in
+        let left : SeesStreams l u (without_tag t v) g = ends_received l s v g t a end but out.there in
         let live : filter (is_other_stream t) v.live ≡ v.live
         = none_tagged l t v.live (by_stream (streaming_on l s)) is.ahead.sees.sees.sees.live (none_streaming s a out.there places l off) in
         let waits : filter (is_other t) v.waiting ≡ v.waiting

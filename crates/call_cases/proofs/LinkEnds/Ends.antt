@@ -11,17 +11,17 @@ use Rattle.channel_core.specs.declared.state.links.LinkSlot.{LinkSlot}
 use Rattle.grpc_base.specs.ErrorCodes.{cancel}
 use Rattle.grpc_base.specs.declared.event.EndCause.{EndCause}
 use Rattle.grpc_link.specs.declared.readers.TagReader.{TagReader}
-use Rattle.channel_actions.specs.KeptSessions.Kept.{AreCounted, IsKept}
-use Rattle.link_actions.specs.Sees.{ArePlaced}
-use Rattle.call_cases.proofs.LinkEnds.Behind.{AtLink, IsCutting, all_closed, closed_ahead, closed_at, closed_keeps, closed_length, closed_readers, cut_at, cut_keeps, cut_length, cuts_still, link_walk, links_still, of_readers, readers_of, slots_closed, slots_cut}
+use Rattle.channel_actions.specs.KeptSessions.Kept.{NumbersCountUp, IsKept}
+use Rattle.link_actions.specs.Sees.{AttemptsStandInPlace}
+use Rattle.call_cases.proofs.LinkEnds.After.{AtLink, IsCutting, all_closed, closed_ahead, closed_at, closed_keeps, closed_length, closed_readers, cut_at, cut_keeps, cut_length, cuts_still, link_walk, links_still, of_readers, readers_of, slots_closed, slots_cut}
 use Rattle.call_cases.proofs.EndsFollow.Codes.{is_cancel, response_by_limit}
 use Rattle.call_cases.proofs.LinkEnds.Codes.{with_code}
 use Rattle.call_cases.proofs.LinkEnds.Cutting.{is_owed_on, owed_on}
-use Rattle.call_cases.proofs.LinkEnds.Resets.{AreBehind, HasBehind, HasReset, IsBehind, caught_up, relined, reset_all}
+use Rattle.call_cases.proofs.LinkEnds.Resets.{CatchUp, HasToCatchUp, HasReset, CatchesUp, caught_up, relined, reset_all}
 use Rattle.call_cases.proofs.EndsFollow.Streams.{none_sorted}
-use Rattle.call_cases.specs.EndsFollow.Cuts.{AreCutOff, AreUnreset}
+use Rattle.call_cases.specs.EndsFollow.Cuts.{AttemptsAreCutOff, NoStreamIsToReset}
 use Rattle.call_cases.specs.LinkEnds.Cuts.{links_closed, links_cut}
-use Rattle.call_cases.specs.LinkEnds.Laws.{AreResetToo, CallsEndOffLinks, CutsAreReset, with_cuts}
+use Rattle.call_cases.specs.LinkEnds.Laws.{StreamsAreResetToo, CallsEndOffLinks, CutsAreReset, with_cuts}
 use Rattle.link_actions.proofs.ResetActions.Cuts.{none_is_ahead}
 use Rattle.link_actions.specs.ResetActions.Laws.{IsCut}
 use Rattle.link_actions.proofs.ResponseActions.Taken.{readers_are_left}
@@ -46,9 +46,9 @@ use Rattle.session_actions.specs.declared.seen.Seen.{Seen}
 use Rattle.link_actions.proofs.SteadyLinks.Calls.{call_ends_leave_links}
 
 -- each attempt stands at its place
-placed_from : (n : ℕ) (xs : List Attempt) → AreCounted n (map (λ (a : Attempt). a.place) xs) → ArePlaced n xs
+placed_from : (n : ℕ) (xs : List Attempt) → NumbersCountUp n (map (λ (a : Attempt). a.place) xs) → AttemptsStandInPlace n xs
 placed_from n [] p = tt
-placed_from n (a ∷ xs) p = (p.0, subst (λ (k : ℕ). ArePlaced k xs) (let e : suc n ≡ n + 1 = omega arith in e) (placed_from (suc n) xs p.1))
+placed_from n (a ∷ xs) p = (p.0, subst (λ (k : ℕ). AttemptsStandInPlace k xs) (let e : suc n ≡ n + 1 = omega arith in e) (placed_from (suc n) xs p.1))
 
 none_cancels : (s : Seen) (xs : List Attempt) → list_any (λ (a : Attempt). is_some (reset_code_of s a)) xs ≡ false → list_all (λ (a : Attempt). is_cancel (reset_code_of s a)) xs ≡ true
 none_cancels s [] e = refl
@@ -67,8 +67,8 @@ not_any p (y ∷ ys) e zero x at = let same : x ≡ y = (cc) in ap p same ∙ (o
 not_any p (y ∷ ys) e (suc i) x at = not_any p ys (or_parts (p y) (list_any p ys) e).1 i x at
 
 -- one link, where attempts are cut off
-module _ (x : StateSeen) (s t : Seen) (cuts : List Attempt) (kept : IsKept s) (unreset : AreUnreset s)
-    (none : list_any (λ (a : Attempt). is_some (reset_code_of s a)) s.attempts ≡ false) (off : AreCutOff cuts s t) where
+module _ (x : StateSeen) (s t : Seen) (cuts : List Attempt) (kept : IsKept s) (unreset : NoStreamIsToReset s)
+    (none : list_any (λ (a : Attempt). is_some (reset_code_of s a)) s.attempts ≡ false) (off : AttemptsAreCutOff cuts s t) where
   pub cutting : IsCutting s
   cutting = record { places = placed_from 1 s.attempts kept.attempts; unreset = unreset; cancels = none_cancels s s.attempts none }
 
@@ -90,8 +90,8 @@ module _ (x : StateSeen) (s t : Seen) (cuts : List Attempt) (kept : IsKept s) (u
     reads : list_all (is_read_by (read_bytes l)) l.traffic ≡ true
     reads = all_numbered (λ (k : Link). list_all (is_read_by (read_bytes k)) k.traffic) s.links number l here kept.reads
 
-    behind : l.over ≡ None → IsBehind l t (slot_after l.number has.slot)
-    behind goes =
+    afterwards : l.over ≡ None → CatchesUp l t (slot_after l.number has.slot)
+    afterwards goes =
         let going : IsGoing l s has.slot = has.sees.going goes in
         let first : AtLink l s (lines_in l s) has.slot
         = record {
@@ -108,33 +108,33 @@ module _ (x : StateSeen) (s t : Seen) (cuts : List Attempt) (kept : IsKept s) (u
           closed = all_closed l.number cuts has.slot going.closed;
         }
 
-    pub has_behind : HasBehind (links_closed cuts (links_cut cuts x.links)) t l number
-    has_behind = record {
+    pub has_after : HasToCatchUp (links_closed cuts (links_cut cuts x.links)) t l number
+    has_after = record {
       own = own;
       slot = slot_after number has.slot;
       there = closed_at number cuts (links_cut cuts x.links) ∙ ap (option_map (slots_closed number cuts)) (cut_at number cuts x.links ∙ ap (option_map (slots_cut number cuts)) has.there);
       over = has.sees.over ∙ sym ((closed_keeps number cuts (slots_cut number cuts has.slot)).dead ∙ (cut_keeps number cuts has.slot).dead);
       retiring = has.sees.retiring ∙ sym ((closed_keeps number cuts (slots_cut number cuts has.slot)).retiring ∙ (cut_keeps number cuts has.slot).retiring);
-      going = λ goes. subst (λ (n : ℕ). IsBehind l t (slot_after n has.slot)) own (behind goes);
+      going = λ goes. subst (λ (n : ℕ). CatchesUp l t (slot_after n has.slot)) own (afterwards goes);
     }
 
   pub same_links : t.links ≡ s.links
   same_links = (links_still cuts s t off cutting).0
 
--- links that are behind by what was cut off catch up
-pub reset_behind : (x : StateSeen) (t : Seen) (cuts : List Attempt) → AreBehind (links_closed cuts (links_cut cuts x.links)) t → AreResetToo (with_cuts cuts x) t
-reset_behind x t cuts behind = record {
+-- links that are after by what was cut off catch up
+pub reset_after : (x : StateSeen) (t : Seen) (cuts : List Attempt) → CatchUp (links_closed cuts (links_cut cuts x.links)) t → StreamsAreResetToo (with_cuts cuts x) t
+reset_after x t cuts afterwards = record {
   actions = end.actions;
   seen = end.seen;
   resets = end.resets;
-  unreset = end.behind.unreset;
-  links = record { count = end.behind.count; each = λ number l here. link_again number l (end.behind.each number l here) };
+  unreset = end.afterwards.unreset;
+  links = record { count = end.afterwards.count; each = λ number l here. link_again number l (end.afterwards.each number l here) };
 }
   where
     end : HasReset (links_closed cuts (links_cut cuts x.links)) t
-    end = reset_all (links_closed cuts (links_cut cuts x.links)) t behind
+    end = reset_all (links_closed cuts (links_cut cuts x.links)) t afterwards
 
-    going_again : (l : Link) (slot : LinkSlot) → IsBehind l end.seen slot → IsGoing l end.seen slot
+    going_again : (l : Link) (slot : LinkSlot) → CatchesUp l end.seen slot → IsGoing l end.seen slot
     going_again l slot is = record {
       streams = caught_up l end.seen slot end.none is;
       readers = of_readers l end.seen slot.link.readers is.readers;
@@ -142,36 +142,36 @@ reset_behind x t cuts behind = record {
       closed = is.closed;
     }
 
-    link_again : (number : ℕ) (l : Link) → HasBehind (links_closed cuts (links_cut cuts x.links)) end.seen l number → HasLink (with_cuts cuts x) end.seen l number
+    link_again : (number : ℕ) (l : Link) → HasToCatchUp (links_closed cuts (links_cut cuts x.links)) end.seen l number → HasLink (with_cuts cuts x) end.seen l number
     link_again number l is = record {
       slot = is.slot;
       there = is.there;
       sees = record { over = is.over; retiring = is.retiring; going = λ goes. going_again l is.slot (is.going goes) };
     }
 
-module _ (x : StateSeen) (s t : Seen) (cuts : List Attempt) (opened : is_some s.current ≡ true) (kept : IsKept s) (sees : SeesLinks x s) (unreset : AreUnreset s)
-    (none : list_any (λ (a : Attempt). is_some (reset_code_of s a)) s.attempts ≡ false) (off : AreCutOff cuts s t) where
+module _ (x : StateSeen) (s t : Seen) (cuts : List Attempt) (opened : is_some s.current ≡ true) (kept : IsKept s) (sees : SeesLinks x s) (unreset : NoStreamIsToReset s)
+    (none : list_any (λ (a : Attempt). is_some (reset_code_of s a)) s.attempts ≡ false) (off : AttemptsAreCutOff cuts s t) where
   links_are : t.links ≡ s.links
   links_are = same_links x s t cuts kept unreset none off
 
   then_ : IsCutting t
   then_ = after x s t cuts kept unreset none off
 
-  one_behind : (number : ℕ) (l : Link) → numbered s.links number ≡ Some l → HasBehind (links_closed cuts (links_cut cuts x.links)) t l number
-  one_behind number l here = has_behind x s t cuts kept unreset none off number l here (sees.each number l here)
+  one_after : (number : ℕ) (l : Link) → numbered s.links number ≡ Some l → HasToCatchUp (links_closed cuts (links_cut cuts x.links)) t l number
+  one_after number l here = has_after x s t cuts kept unreset none off number l here (sees.each number l here)
 
-  all_behind : AreBehind (links_closed cuts (links_cut cuts x.links)) t
-  all_behind = record {
+  all_after : CatchUp (links_closed cuts (links_cut cuts x.links)) t
+  all_after = record {
     count = ap (λ (ls : List Link). length ls) links_are ∙ sees.count ∙ sym (closed_length cuts (links_cut cuts x.links) ∙ cut_length cuts x.links);
-    each = λ number l here. one_behind number l (sym (ap (λ (ls : List Link). numbered ls number) links_are) ∙ here);
+    each = λ number l here. one_after number l (sym (ap (λ (ls : List Link). numbered ls number) links_are) ∙ here);
     opened = (links_still cuts s t off (cutting x s t cuts kept unreset none off)).1 ∙ opened;
     places = then_.places;
     cancels = then_.cancels;
     unreset = then_.unreset;
   }
 
-  pub reset_too : AreResetToo (with_cuts cuts x) t
-  reset_too = reset_behind x t cuts all_behind
+  pub reset_too : StreamsAreResetToo (with_cuts cuts x) t
+  reset_too = reset_after x t cuts all_after
 
 pub cuts_are_reset : CutsAreReset
 cuts_are_reset x s t cuts opened kept sees unreset none off = reset_too x s t cuts opened kept sees unreset none off

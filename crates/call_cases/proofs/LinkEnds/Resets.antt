@@ -19,12 +19,12 @@ use Rattle.h2_link.specs.Wire.{Wire}
 use Rattle.link_actions.proofs.Without as lists
 use Rattle.link_actions.proofs.Without.{at_place, places_at}
 use Rattle.link_actions.specs.Laws.{with_owed}
-use Rattle.link_actions.specs.Sees.{ArePlaced, IsFed}
+use Rattle.link_actions.specs.Sees.{AttemptsStandInPlace, IsFed}
 use Rattle.call_cases.proofs.EndsFollow.Codes.{is_cancel, queued_code, reset_code, response_reset}
 use Rattle.call_cases.proofs.LinkEnds.Codes.{with_code}
 use Rattle.call_cases.proofs.LinkEnds.Cutting.{counted_places, filter_same, is_owed_on, owed_on}
 use Rattle.call_cases.proofs.EndsFollow.Streams.{IsForemost, is_foremost, loses, no_foremost, none_sorted, put, put_first, put_left, put_long, by_stream_order, sorted_by, sorted_low, stays_out}
-use Rattle.call_cases.specs.EndsFollow.Cuts.{AreReset, AreUnreset, is_unreset}
+use Rattle.call_cases.specs.EndsFollow.Cuts.{StreamsAreReset, NoStreamIsToReset, is_unreset}
 use Rattle.link_actions.proofs.LossActions.Calls.{changed_any}
 use Rattle.link_actions.proofs.ResetActions.Cuts.{none_is_left, resets_catch_up}
 use Rattle.link_actions.specs.ResetActions.Ahead.{SeesAhead}
@@ -48,7 +48,7 @@ use Rattle.session_actions.specs.declared.seen.Seen.{Seen}
 use Rattle.session_order.proofs.Changed.{changed_away}
 use Rattle.link_actions.proofs.SteadyLinks.Calls.{AreAllFed, all_are_fed}
 use Rattle.link_actions.proofs.SteadyLinks.Left.{links_are_left}
-use Rattle.link_actions.specs.SteadyLinks.Same.{AreSameOn, IsSameOn}
+use Rattle.link_actions.specs.SteadyLinks.Same.{LinesAreSameOn, IsSameOn}
 use Rattle.link_actions.specs.StreamActions.Sees.{SeesStreams}
 
 -- by links and streams
@@ -72,28 +72,28 @@ pub is_owed : (s : Seen) (a : Attempt) (c : ℕ) → reset_code_of s a ≡ Some 
 is_owed s a c is = owed_by _ a a.row.ended a.row.stream c refl refl is
 
 -- one link, while it catches up
-pub record IsBehind (l : Link) (s : Seen) (slot : LinkSlot) : Type 0 where
+pub record CatchesUp (l : Link) (s : Seen) (slot : LinkSlot) : Type 0 where
   pub lines : ℕ → Line
   pub ahead : SeesAhead (with_code cancel (owed_on l.number s)) l s slot.link.link.wire lines
   pub readers : SeesReaders l s slot.link.readers
   pub rest : drop (read_bytes l) l.received ≡ slot.link.link.rest
   pub closed : slot.link.link.wire.queue.fresh ≡ 0
 
-pub record HasBehind (links : List LinkSlot) (s : Seen) (l : Link) (number : ℕ) : Type 0 where
+pub record HasToCatchUp (links : List LinkSlot) (s : Seen) (l : Link) (number : ℕ) : Type 0 where
   pub own : l.number ≡ number
   pub slot : LinkSlot
   pub there : numbered links number ≡ Some slot
   pub over : is_some l.over ≡ slot.dead
   pub retiring : is_retiring l ≡ slot.retiring
-  pub going : l.over ≡ None → IsBehind l s slot
+  pub going : l.over ≡ None → CatchesUp l s slot
 
-pub record AreBehind (links : List LinkSlot) (s : Seen) : Type 0 where
+pub record CatchUp (links : List LinkSlot) (s : Seen) : Type 0 where
   pub count : length s.links ≡ length links
-  pub each : (number : ℕ) (l : Link) → numbered s.links number ≡ Some l → HasBehind links s l number
+  pub each : (number : ℕ) (l : Link) → numbered s.links number ≡ Some l → HasToCatchUp links s l number
   pub opened : is_some s.current ≡ true
-  pub places : ArePlaced 1 s.attempts
+  pub places : AttemptsStandInPlace 1 s.attempts
   pub cancels : list_all (λ (b : Attempt). is_cancel (reset_code_of s b)) s.attempts ≡ true
-  pub unreset : AreUnreset s
+  pub unreset : NoStreamIsToReset s
 
 -- a change of one thing leaves the length
 set_length : {X : Type 0} (xs : List X) (i : ℕ) (z : X) → length (slice_set xs i z) ≡ length xs
@@ -117,7 +117,7 @@ changed_length f (suc i) xs = length_by (slice_get xs i)
     length_by (Some x) = set_length xs i (f x)
 
 -- one is reset
-module _ (s : Seen) (a : Attempt) (index : ℕ) (at : slice_get s.attempts index ≡ Some a) (code : reset_code_of s a ≡ Some cancel) (places : ArePlaced 1 s.attempts)
+module _ (s : Seen) (a : Attempt) (index : ℕ) (at : slice_get s.attempts index ≡ Some a) (code : reset_code_of s a ≡ Some cancel) (places : AttemptsStandInPlace 1 s.attempts)
     (first : (i : ℕ) (x : Attempt) → slice_get s.attempts i ≡ Some x → is_some (reset_code_of s x) ≡ true → is_stream_before x a ≡ false) where
   abbrev frames : List FrameSeen
   frames = rst_stream_frame (stream_number a) cancel ∷ []
@@ -256,21 +256,21 @@ module _ (s : Seen) (a : Attempt) (index : ℕ) (at : slice_get s.attempts index
     fed = λ on. let f = fed on in record { call = f.call; call_is = f.call_is; fields = f.fields; written = f.written; left = f.left; finished = f.finished };
   }
 
-  same_all : (l : Link) (g : ℕ → Line) (xs : List Attempt) → AreAllFed l s g xs → AreSameOn l l s u g xs (map (at_place with_reset_queued a.place) xs)
+  same_all : (l : Link) (g : ℕ → Line) (xs : List Attempt) → AreAllFed l s g xs → LinesAreSameOn l l s u g xs (map (at_place with_reset_queued a.place) xs)
   same_all l g [] fed = tt
   same_all l g (x ∷ xs) fed = (same_one l g x (x.place == a.place) fed.0, same_all l g xs fed.1)
 
   listed : u.attempts ≡ map (at_place with_reset_queued a.place) s.attempts
   listed = lists.changed_at with_reset_queued a.place s.attempts a places there
 
-  pub placed_still : ArePlaced 1 u.attempts
-  placed_still = subst (ArePlaced 1) (sym listed) (places_at with_reset_queued (λ b. refl) a.place 1 s.attempts places)
+  pub placed_still : AttemptsStandInPlace 1 u.attempts
+  placed_still = subst (AttemptsStandInPlace 1) (sym listed) (places_at with_reset_queued (λ b. refl) a.place 1 s.attempts places)
 
   streams_elsewhere : (l : Link) (w : Wire) (g : ℕ → Line) → (l.number ≡ link_number a → ⊥) → SeesStreams l s w g → SeesStreams l u w g
   streams_elsewhere l w g other is =
       links_are_left l l s u w g g is (record { number = refl; traffic_ = refl; owed = refl })
       (changed_away owing (link_number a) l.number s.links other ∙ is.sees.at)
-      (subst (AreSameOn l l s u g s.attempts) (sym listed) (same_all l g s.attempts (all_are_fed l s w g is.sees))) placed_still
+      (subst (LinesAreSameOn l l s u g s.attempts) (sym listed) (same_all l g s.attempts (all_are_fed l s w g is.sees))) placed_still
 
   pub ahead_elsewhere : (resets : List (ℕ × ℕ)) (l : Link) (w : Wire) (g : ℕ → Line) → (l.number ≡ link_number a → ⊥) → SeesAhead resets l s w g → SeesAhead resets l u w g
   ahead_elsewhere resets l w g other is =
@@ -278,8 +278,8 @@ module _ (s : Seen) (a : Attempt) (index : ℕ) (at : slice_get s.attempts index
 
   -- each link
   module _ (links : List LinkSlot) where
-    behind_by : (l : Link) (slot : LinkSlot) (b : Bool) → (link_number a == l.number) ≡ b → IsBehind l s slot → IsBehind (if b then owing l else l) u slot
-    behind_by l slot true e is =
+    afterwards_by : (l : Link) (slot : LinkSlot) (b : Bool) → (link_number a == l.number) ≡ b → CatchesUp l s slot → CatchesUp (if b then owing l else l) u slot
+    afterwards_by l slot true e is =
         let owed : IsOwed a = is_owed s a cancel code in
         let number : link_number a ≡ l.number = eqb-true (link_number a) l.number e in
         let more : SeesAhead ((stream_number a, cancel) ∷ with_code cancel (owed_on l.number u)) l s slot.link.link.wire is.lines
@@ -292,7 +292,7 @@ module _ (s : Seen) (a : Attempt) (index : ℕ) (at : slice_get s.attempts index
           rest = is.rest;
           closed = is.closed;
         }
-    behind_by l slot false e is = record {
+    afterwards_by l slot false e is = record {
       lines = is.lines;
       ahead = subst (λ (ns : List ℕ). SeesAhead (with_code cancel ns) l u slot.link.link.wire is.lines) (sym (owed_elsewhere l.number e))
           (ahead_elsewhere (with_code cancel (owed_on l.number s)) l slot.link.link.wire is.lines (λ same. eqb-false (link_number a) l.number e (sym same)) is.ahead);
@@ -301,14 +301,14 @@ module _ (s : Seen) (a : Attempt) (index : ℕ) (at : slice_get s.attempts index
       closed = is.closed;
     }
 
-    has_by : (l : Link) (number : ℕ) (b : Bool) → (link_number a == l.number) ≡ b → HasBehind links s l number → HasBehind links u (if b then owing l else l) number
+    has_by : (l : Link) (number : ℕ) (b : Bool) → (link_number a == l.number) ≡ b → HasToCatchUp links s l number → HasToCatchUp links u (if b then owing l else l) number
     has_by l number true e is = record {
       own = is.own;
       slot = is.slot;
       there = is.there;
       over = is.over;
       retiring = is.retiring;
-      going = λ goes. behind_by l is.slot true e (is.going goes);
+      going = λ goes. afterwards_by l is.slot true e (is.going goes);
     }
     has_by l number false e is = record {
       own = is.own;
@@ -316,18 +316,18 @@ module _ (s : Seen) (a : Attempt) (index : ℕ) (at : slice_get s.attempts index
       there = is.there;
       over = is.over;
       retiring = is.retiring;
-      going = λ goes. behind_by l is.slot false e (is.going goes);
+      going = λ goes. afterwards_by l is.slot false e (is.going goes);
     }
 
     found_by : (number : ℕ) (o : Option Link) (m : Link) → numbered s.links number ≡ o → option_map (λ (l : Link). if number == link_number a then owing l else l) o ≡ Some m
-        → ((l : Link) → numbered s.links number ≡ Some l → HasBehind links s l number) → HasBehind links u m number
+        → ((l : Link) → numbered s.links number ≡ Some l → HasToCatchUp links s l number) → HasToCatchUp links u m number
     found_by number None m e is each = absurd (cc)
     found_by number (Some l) m e is each =
-        let has : HasBehind links s l number = each l e in
+        let has : HasToCatchUp links s l number = each l e in
         let turned : (link_number a == l.number) ≡ (number == link_number a)
         = ap (λ (n : ℕ). link_number a == n) has.own ∙ swapped (link_number a) number in
         let same : (if number == link_number a then owing l else l) ≡ m = (cc) in
-        subst (λ (k : Link). HasBehind links u k number) same (has_by l number (number == link_number a) turned has)
+        subst (λ (k : Link). HasToCatchUp links u k number) same (has_by l number (number == link_number a) turned has)
       where
         swapped : (m n : ℕ) → (m == n) ≡ (n == m)
         swapped m n = grind (arith, nat_tests)
@@ -341,8 +341,8 @@ module _ (s : Seen) (a : Attempt) (index : ℕ) (at : slice_get s.attempts index
     ended_now : is_unreset (with_reset_queued a) ≡ true
     ended_now = ap (λ (o : Option RowEnd). is_some o || false) (is_owed s a cancel code).ended
 
-    pub behind_still : AreBehind links s → AreBehind links u
-    behind_still is = record {
+    pub after_still : CatchUp links s → CatchUp links u
+    after_still is = record {
       count = changed_length owing (link_number a) s.links ∙ is.count;
       each = λ number m e.
           found_by number (numbered s.links number) m refl (sym (changed_any owing (link_number a) number s.links) ∙ e) (λ l here. is.each number l here);
@@ -357,8 +357,8 @@ module _ (s : Seen) (a : Attempt) (index : ℕ) (at : slice_get s.attempts index
 pub record HasReset (links : List LinkSlot) (s : Seen) : Type 0 where
   pub actions : List Action
   pub seen : Seen
-  pub resets : AreReset actions s seen
-  pub behind : AreBehind links seen
+  pub resets : StreamsAreReset actions s seen
+  pub afterwards : CatchUp links seen
   pub none : (i : ℕ) (x : Attempt) → slice_get seen.attempts i ≡ Some x → is_some (reset_code_of seen x) ≡ false
 
 cancel_of : (o : Option ℕ) → is_some o ≡ true → is_cancel o ≡ true → o ≡ Some cancel
@@ -384,10 +384,10 @@ pub record IsNextReset (links : List LinkSlot) (s : Seen) : Type 0 where
   pub seen : Seen
   pub next : next_reset s ≡ Some action_
   pub after_is : after action_ s ≡ seen
-  pub behind : AreBehind links seen
+  pub afterwards : CatchUp links seen
   pub less : size_of s ≡ suc (size_of seen)
 
-next_one : (links : List LinkSlot) (s : Seen) (a : Attempt) → first_of_all s ≡ Some a → AreBehind links s → IsNextReset links s
+next_one : (links : List LinkSlot) (s : Seen) (a : Attempt) → first_of_all s ≡ Some a → CatchUp links s → IsNextReset links s
 next_one links s a e is =
     let f : IsForemost is_stream_before (pending s) s.attempts a = is_foremost is_stream_before by_stream_order (pending s) s.attempts a e in
     let cancels : is_cancel (reset_code_of s a) ≡ true = all_numbered (λ (b : Attempt). is_cancel (reset_code_of s b)) s.attempts (suc f.index) a f.there is.cancels in
@@ -397,7 +397,7 @@ next_one links s a e is =
       seen = u s a f.index f.there code is.places f.first;
       next = ap (option_and_then (reset_of s)) e ∙ ap (option_map (λ (n : ℕ). action.StreamReset a.place n)) code;
       after_is = after_by s.current a.place s is.opened ∙ reset_is s a f.index f.there code is.places f.first;
-      behind = behind_still s a f.index f.there code is.places f.first links is;
+      afterwards = after_still s a f.index f.there code is.places f.first links is;
       less = size_less s a f.index f.there code is.places f.first;
     }
 
@@ -407,28 +407,28 @@ one_down m n k e f = omega (arith, e, f)
 not_none : (m n : ℕ) → m ≡ suc n → m ≡ 0 → ⊥
 not_none m n e f = omega (arith, e, f)
 
-reset_by : (links : List LinkSlot) (fuel : ℕ) (o : Option Attempt) (s : Seen) → first_of_all s ≡ o → size_of s ≡ fuel → AreBehind links s → HasReset links s
+reset_by : (links : List LinkSlot) (fuel : ℕ) (o : Option Attempt) (s : Seen) → first_of_all s ≡ o → size_of s ≡ fuel → CatchUp links s → HasReset links s
 reset_by links fuel None s e long is = record {
   actions = [];
   seen = s;
   resets = (ap (option_and_then (reset_of s)) e, refl);
-  behind = is;
+  afterwards = is;
   none = no_foremost is_stream_before by_stream_order (pending s) s.attempts e;
 }
 reset_by links zero (Some a) s e long is =
     let n : IsNextReset links s = next_one links s a e is in absurd (not_none (size_of s) (size_of n.seen) n.less long)
 reset_by links (suc fuel) (Some a) s e long is =
     let n : IsNextReset links s = next_one links s a e is in
-    let rest : HasReset links n.seen = reset_by links fuel (first_of_all n.seen) n.seen refl (one_down (size_of s) (size_of n.seen) fuel n.less long) n.behind in
+    let rest : HasReset links n.seen = reset_by links fuel (first_of_all n.seen) n.seen refl (one_down (size_of s) (size_of n.seen) fuel n.less long) n.afterwards in
     record {
       actions = n.action_ ∷ rest.actions;
       seen = rest.seen;
-      resets = (n.next, subst (λ (v : Seen). AreReset rest.actions v rest.seen) (sym n.after_is) rest.resets);
-      behind = rest.behind;
+      resets = (n.next, subst (λ (v : Seen). StreamsAreReset rest.actions v rest.seen) (sym n.after_is) rest.resets);
+      afterwards = rest.afterwards;
       none = rest.none;
     }
 
-pub reset_all : (links : List LinkSlot) (s : Seen) → AreBehind links s → HasReset links s
+pub reset_all : (links : List LinkSlot) (s : Seen) → CatchUp links s → HasReset links s
 reset_all links s is = reset_by links (size_of s) (first_of_all s) s refl refl is
 
 -- a link that agrees, whatever it was fed with, is fed with what the session has of its calls
@@ -443,7 +443,7 @@ module _ (l : Link) (s : Seen) (g : ℕ → Line) where
       subst (IsFed l s a) (sym (line_at a f.call at f.call_is))
       (record { call = f.call; call_is = f.call_is; fields = refl; written = f.written; left = refl; finished = refl })
 
-  fed_all : (xs : List Attempt) → AllByRecursion (AtPlace s.attempts) xs → AreAllFed l s g xs → AreSameOn l l s s (lines_in l s) xs xs
+  fed_all : (xs : List Attempt) → AllByRecursion (AtPlace s.attempts) xs → AreAllFed l s g xs → LinesAreSameOn l l s s (lines_in l s) xs xs
   fed_all [] at fed = tt
   fed_all (a ∷ xs) at fed =
       (record { place = refl; placed = refl; stream = refl; ended = refl; limit = λ on. refl; fed = λ on. fed_one a at.0 (fed.0 on) }, fed_all xs at.1 fed.1)
@@ -454,7 +454,7 @@ module _ (l : Link) (s : Seen) (g : ℕ → Line) where
       (fed_all s.attempts (all_at_places s.attempts (counted_places 1 s.attempts is.sees.places)) (all_are_fed l s w g is.sees)) is.sees.places
 
 -- where nothing is left to reset, a link has caught up
-pub caught_up : (l : Link) (s : Seen) (slot : LinkSlot) → ((i : ℕ) (x : Attempt) → slice_get s.attempts i ≡ Some x → is_some (reset_code_of s x) ≡ false) → IsBehind l s slot
+pub caught_up : (l : Link) (s : Seen) (slot : LinkSlot) → ((i : ℕ) (x : Attempt) → slice_get s.attempts i ≡ Some x → is_some (reset_code_of s x) ≡ false) → CatchesUp l s slot
     → SeesStreams l s slot.link.link.wire (lines_in l s)
 caught_up l s slot none is =
     let nothing : owed_on l.number s ≡ []

@@ -13,7 +13,7 @@ use Rattle.channel_actions.proofs.Settles.{is_with_open, reopened, with_open}
 use Rattle.channel_actions.proofs.Stamps.{counted_at}
 use Rattle.channel_actions.specs.Agrees.{Agrees}
 use Rattle.channel_actions.specs.Calls.{SeesCall, lent_to}
-use Rattle.channel_actions.specs.Calm.{IsAt}
+use Rattle.channel_actions.specs.Quiescent.{IsAt}
 use Rattle.channel_core.specs.Applying as channel
 use Rattle.channel_core.specs.Applying.{AnswersBy}
 use Rattle.channel_core.specs.Arrivals.{sent_to}
@@ -45,13 +45,13 @@ use Rattle.session_actions.specs.declared.call.MarkKind.TheVariants as mark
 use Rattle.session_actions.specs.declared.entry.OpenEntry.{OpenEntry}
 use Rattle.session_actions.specs.declared.entry.Stage.TheVariants as stage
 use Rattle.session_actions.specs.declared.seen.Seen.{Seen}
-use Rattle.session_order.proofs.Calms.{first_line_gives}
+use Rattle.session_order.proofs.Quiescence.{first_line_gives}
 use Rattle.session_order.proofs.Changed.{none_each_changed, none_from, passes_not}
 use Rattle.session_order.proofs.Ended.{ended_leaves}
 use Rattle.session_order.proofs.Posts.{answered_leaves}
-use Rattle.session_order.specs.Calm.{IsStill}
+use Rattle.session_order.specs.Quiescent.{IsStill}
 use Rattle.session_order.specs.Lines.{is_before, is_line, rank}
-use Rattle.session_order.specs.Stirs.{AreNumbered, stirs}
+use Rattle.session_order.specs.Stirs.{CallsHaveTheirNumbers, stirs}
 use Rattle.session_order.specs.declared.line.Line.{Line}
 use Rattle.session_order.specs.declared.line.Line.TheVariants as line
 use Rattle.std.proofs.Common.{Bool, List, None, Option, Some, [], ap, eqb-true, false, if◌then◌else◌, is_none, is_some, length, not, option_map, refl, subst, sym, true, ℕ, ◌&&◌, ◌||◌, ◌++◌, ◌==◌, ◌∙◌, ◌∷◌, ◌≡◌}
@@ -73,10 +73,10 @@ or_true : (b : Bool) → (b || true) ≡ true
 or_true true = refl
 or_true false = refl
 
-request_narrow : (a l p : Bool) → (a && (l || p)) ≡ false → (a && (l || false)) ≡ false
-request_narrow true true p e = absurd (cc)
-request_narrow true false p e = refl
-request_narrow false l p e = refl
+request_restricted : (a l p : Bool) → (a && (l || p)) ≡ false → (a && (l || false)) ≡ false
+request_restricted true true p e = absurd (cc)
+request_restricted true false p e = refl
+request_restricted false l p e = refl
 
 or_none : (b : Bool) → b ≡ false → (b || false) ≡ false
 or_none b e = ap (λ (z : Bool). z || false) e
@@ -119,7 +119,7 @@ module _ (x : StateSeen) (o : OpenEntry) (s0 : Seen) (h : Agrees x (with_open o 
   too_long : is_too_long m c u ≡ true
   too_long = long_is u c st m sees.serves ∙ long
 
-  numbers : AreNumbered w
+  numbers : CallsHaveTheirNumbers w
   numbers k d e = counted_at (λ (z : Call). z.number) s0.calls k d h.kept.calls e
 
   -- the event is answered
@@ -136,7 +136,7 @@ module _ (x : StateSeen) (o : OpenEntry) (s0 : Seen) (h : Agrees x (with_open o 
 
   -- the lines that it does not stir
   before_by : (l : Line) → stirs (action.EventAnswered reply.Done) l ≡ false → IsStill l q w
-  before_by l away = answered_leaves reply.Done o u refl no_result l q refl away (to_order o u at.calm l)
+  before_by l away = answered_leaves reply.Done o u refl no_result l q refl away (to_order o u at.quiescent l)
 
   cancelled_still : IsStill line.Cancelled q w
   cancelled_still =
@@ -161,10 +161,10 @@ module _ (x : StateSeen) (o : OpenEntry) (s0 : Seen) (h : Agrees x (with_open o 
   other_short d other none =
       ap (λ (z : Event). is_open_call d && (list_any (λ (k : List ℕ). is_too_long k d w) d.messages || sends_too_long z d w)) is
       ∙ ap (λ (b : Bool). is_open_call d && (list_any (λ (k : List ℕ). is_too_long k d w) d.messages || (b && is_too_long m d w))) other
-      ∙ request_narrow (is_open_call d) (list_any (λ (k : List ℕ). is_too_long k d u) d.messages) (is_after_event o && sends_too_long o.event d u) none
+      ∙ request_restricted (is_open_call d) (list_any (λ (k : List ℕ). is_too_long k d u) d.messages) (is_after_event o && sends_too_long o.event d u) none
 
   was_short : (k : ℕ) (d : Call) → numbered s0.calls k ≡ Some d → has_long_request o u d ≡ false
-  was_short k d e = passes_not (has_long_request o u) s0.calls k d (to_order o u at.calm line.Request) e
+  was_short k d e = passes_not (has_long_request o u) s0.calls k d (to_order o u at.quiescent line.Request) e
 
   only_by : (k : ℕ) (d : Call) (b : Bool) → (n == d.number) ≡ b → numbered s0.calls k ≡ Some d → has_long_request q w d ≡ true → d.number ≡ n
   only_by k d true e got passes = sym (eqb-true n d.number e)
@@ -189,7 +189,7 @@ module _ (x : StateSeen) (o : OpenEntry) (s0 : Seen) (h : Agrees x (with_open o 
   long_after d other none =
       ap (λ (z : Event). is_open_call d && (list_any (λ (k : List ℕ). is_too_long k d t) d.messages || sends_too_long z d t)) is
       ∙ ap (λ (b : Bool). is_open_call d && (list_any (λ (k : List ℕ). is_too_long k d t) d.messages || (b && is_too_long m d t))) other
-      ∙ request_narrow (is_open_call d) (list_any (λ (k : List ℕ). is_too_long k d u) d.messages) (is_after_event o && sends_too_long o.event d u) none
+      ∙ request_restricted (is_open_call d) (list_any (λ (k : List ℕ). is_too_long k d u) d.messages) (is_after_event o && sends_too_long o.event d u) none
 
   unlike : (k : ℕ) (d : Call) → (k ≡ n → ⊥) → numbered s0.calls k ≡ Some d → (n == d.number) ≡ false
   unlike k d other got = unlike_by (n == d.number) refl

@@ -4,13 +4,13 @@ use Rattle.std.proofs.Common.{◌≡◌, ◌∷◌, refl, subst, sym, ◌∙◌,
 use Rattle.std.specs.Option.{option_map}
 use Rattle.call_actions.proofs.TakeActions.CutAttempts.{ended_mark}
 use Rattle.call_actions.proofs.TakeActions.CutOne.{marked_also}
-use Rattle.call_actions.specs.TakeActions.Cuts.{AreCut}
+use Rattle.call_actions.specs.TakeActions.Cuts.{AttemptsAreCut}
 use Rattle.call_cases.proofs.EndsFollow.Cuts.{IsOneCut, one_cut}
 use Rattle.call_cases.proofs.EndsFollow.Stays.{IsBase}
 use Rattle.call_cases.proofs.EndsFollow.Steps.{IsMid, IsOneReset, IsReset, after_is, mid_cut, one_reset, reset_mid}
 use Rattle.call_cases.specs.CallEnds.Ends.{unowed}
-use Rattle.call_cases.specs.EndsFollow.Cuts.{AreReset, cut_off}
-use Rattle.call_cases.proofs.CallPosts.Told.{map_changed}
+use Rattle.call_cases.specs.EndsFollow.Cuts.{StreamsAreReset, cut_off}
+use Rattle.call_cases.proofs.CallPosts.Report.{map_changed}
 use Rattle.grpc_base.specs.declared.event.EndCause.{EndCause}
 use Rattle.session_actions.specs.Actions.{after}
 use Rattle.session_actions.specs.AttemptEnds.{stream_reset_of, with_end, with_reset_queued}
@@ -65,15 +65,15 @@ same_reset n s v a number h = record {
 }
 
 module _ (waits : Line → Bool) (n : ℕ) (o : OpenEntry) (b : Seen) (base : IsBase n b) where
-  pub cuts_same : (s : Seen) (cuts : List Action) (v t : Seen) → IsMid waits n o b v → AreCut n cuts v t → IsSameBut n s v → IsSameBut n s t
+  pub cuts_same : (s : Seen) (cuts : List Action) (v t : Seen) → IsMid waits n o b v → AttemptsAreCut n cuts v t → IsSameBut n s v → IsSameBut n s t
   cuts_same s [] v t is are h = subst (IsSameBut n s) (sym are.1) h
   cuts_same s (act ∷ cuts) v t is are h =
       let one : IsOneCut n v act o = one_cut n v act o is.left.done is.book.places is.current are.0 in
-      cuts_same s cuts (cut_off one.attempt v) t (mid_cut waits n o b v base is act one) (subst (λ (z : Seen). AreCut n cuts z t) one.does are.1) (same_cut n s v act o one h)
+      cuts_same s cuts (cut_off one.attempt v) t (mid_cut waits n o b v base is act one) (subst (λ (z : Seen). AttemptsAreCut n cuts z t) one.does are.1) (same_cut n s v act o one h)
 
   -- what each reset keeps, all of them do
   pub resets_carry : (P : Seen → Type 0) → ((v : Seen) (a : Attempt) (number : ℕ) → P v → P (stream_reset_of number v a))
-      → (acts : List Action) (v u : Seen) → IsReset waits n o b v → AreReset acts v u → P v → P u
+      → (acts : List Action) (v u : Seen) → IsReset waits n o b v → StreamsAreReset acts v u → P v → P u
   resets_carry P keeps [] v u is are h = subst P (sym are.1) h
   resets_carry P keeps (act ∷ acts) v u is are h =
       let one : IsOneReset n v act = one_reset waits n o b v is act are.0 in

@@ -31,8 +31,8 @@ use Rattle.channel_net.specs.declared.links.OwnLink.{OwnLink}
 use Rattle.grpc_base.specs.declared.event.Conn.TheVariants as conn
 use Rattle.grpc_base.specs.declared.event.Conn.{Conn}
 use Rattle.grpc_base.specs.declared.event.EndCause.{EndCause}
-use Rattle.net_actions.specs.Sees.{AreSubs}
-use Rattle.picker_gate.specs.Pairs.{next_behind}
+use Rattle.net_actions.specs.Sees.{SubchannelsAgree}
+use Rattle.picker_gate.specs.Pairs.{next_after}
 use Rattle.session_actions.specs.Closing.{noted_gone}
 use Rattle.session_actions.specs.Entries.{entry}
 use Rattle.session_actions.specs.Links.{is_retiring}
@@ -56,7 +56,7 @@ shut_same conn.Ready = refl
 shut_same conn.Failure = refl
 shut_same conn.Shutdown = refl
 
-subs_from : (n i : ℕ) (subs : List Subchannel) (board : List SubRecord) (links : List OwnLink) → AreSubs n subs board links → is_some (slice_get subs i) ≡ true
+subs_from : (n i : ℕ) (subs : List Subchannel) (board : List SubRecord) (links : List OwnLink) → SubchannelsAgree n subs board links → is_some (slice_get subs i) ≡ true
     → is_shut_state (option_map (λ (r : SubRecord). r.state) (slice_get board i)) ≡ holds (λ (b : Subchannel). is_shutdown b.state) (slice_get subs i)
 subs_from n i [] [] links h there = absurd (cc)
 subs_from n zero (b ∷ subs) (r ∷ board) links h there = shut_same r.state ∙ ap is_shutdown (sym h.0.state)
@@ -64,7 +64,7 @@ subs_from n (suc i) (b ∷ subs) (r ∷ board) links h there = subs_from (n + 1)
 subs_from n i [] (r ∷ board) links h there = absurd h
 subs_from n i (b ∷ subs) [] links h there = absurd h
 
-pub subs_at : (number : ℕ) (subs : List Subchannel) (board : List SubRecord) (links : List OwnLink) → AreSubs 1 subs board links → is_some (numbered subs number) ≡ true
+pub subs_at : (number : ℕ) (subs : List Subchannel) (board : List SubRecord) (links : List OwnLink) → SubchannelsAgree 1 subs board links → is_some (numbered subs number) ≡ true
     → is_shut_state (state_at board number) ≡ holds (λ (b : Subchannel). is_shutdown b.state) (numbered subs number)
 subs_at zero subs board links h there = absurd (cc)
 subs_at (suc i) subs board links h there = subs_from 1 i subs board links h there
@@ -186,8 +186,8 @@ module _ (waits : Line → Bool) (n : ℕ) (why : EndCause) (x : StateSeen) (o :
 
     out_now : has_outstanding k last ≡ list_any (is_outstanding_on m) u.attempts
     out_now =
-        ap (λ (pairs : List (ℕ × ℕ)). is_on k (next_behind pairs (k, 0))) out_is
-        ∙ subst (λ (j : ℕ). is_on j (next_behind (w waits n why x o s is).outstanding (j, 0)) ≡ list_any (is_outstanding_on m) u.attempts) own_number
+        ap (λ (pairs : List (ℕ × ℕ)). is_on k (next_after pairs (k, 0))) out_is
+        ∙ subst (λ (j : ℕ). is_on j (next_after (w waits n why x o s is).outstanding (j, 0)) ≡ list_any (is_outstanding_on m) u.attempts) own_number
         (outstanding_same u m (w waits n why x o s is).outstanding (outstanding_on waits n why x o s is))
 
     gone_now : gone_by x k (has_outstanding k last) ≡ is_gone m u

@@ -7,7 +7,7 @@ use Rattle.call_actions.specs.Sees.{live_row}
 use Rattle.call_core.specs.declared.live.LiveRow.{LiveRow}
 use Rattle.channel_actions.proofs.Links.Settings.Pairs.{exactly_remove, self_same}
 use Rattle.channel_actions.specs.ActsFollowed.Followed.{all_out_gone, all_queue_gone, out_gone, queue_gone}
-use Rattle.channel_actions.specs.Sets.{AreExactly}
+use Rattle.channel_actions.specs.Sets.{PairsAreExactly}
 use Rattle.picker_gate.specs.Pairs.{is_same}
 use Rattle.session_actions.specs.declared.attempt.Attempt.{Attempt}
 
@@ -34,23 +34,23 @@ all_out_left [] test = test
 all_out_left (r ∷ live) test = all_out_left live (out_left r.place r.link test)
 
 -- the sets have exactly these pairs
-queue_one : (n row : ℕ) (o : Option ℕ) (pairs : List (ℕ × ℕ)) (test : Test) → AreExactly pairs test
-    → AreExactly (queue_gone n row o pairs) (queue_left n row o test)
+queue_one : (n row : ℕ) (o : Option ℕ) (pairs : List (ℕ × ℕ)) (test : Test) → PairsAreExactly pairs test
+    → PairsAreExactly (queue_gone n row o pairs) (queue_left n row o test)
 queue_one n row None pairs test h = exactly_remove pairs test (n, row) h
 queue_one n row (Some link) pairs test h = h
 
-pub queue_exactly : (n : ℕ) (live : List LiveRow) (pairs : List (ℕ × ℕ)) (test : Test) → AreExactly pairs test
-    → AreExactly (all_queue_gone n live pairs) (all_queue_left n live test)
+pub queue_exactly : (n : ℕ) (live : List LiveRow) (pairs : List (ℕ × ℕ)) (test : Test) → PairsAreExactly pairs test
+    → PairsAreExactly (all_queue_gone n live pairs) (all_queue_left n live test)
 queue_exactly n [] pairs test h = h
 queue_exactly n (r ∷ live) pairs test h =
     queue_exactly n live (queue_gone n r.place r.link pairs) (queue_left n r.place r.link test) (queue_one n r.place r.link pairs test h)
 
-out_one : (row : ℕ) (o : Option ℕ) (pairs : List (ℕ × ℕ)) (test : Test) → AreExactly pairs test
-    → AreExactly (out_gone row o pairs) (out_left row o test)
+out_one : (row : ℕ) (o : Option ℕ) (pairs : List (ℕ × ℕ)) (test : Test) → PairsAreExactly pairs test
+    → PairsAreExactly (out_gone row o pairs) (out_left row o test)
 out_one row None pairs test h = h
 out_one row (Some link) pairs test h = exactly_remove pairs test (link, row) h
 
-pub out_exactly : (live : List LiveRow) (pairs : List (ℕ × ℕ)) (test : Test) → AreExactly pairs test → AreExactly (all_out_gone live pairs) (all_out_left live test)
+pub out_exactly : (live : List LiveRow) (pairs : List (ℕ × ℕ)) (test : Test) → PairsAreExactly pairs test → PairsAreExactly (all_out_gone live pairs) (all_out_left live test)
 out_exactly [] pairs test h = h
 out_exactly (r ∷ live) pairs test h =
     out_exactly live (out_gone r.place r.link pairs) (out_left r.place r.link test) (out_one r.place r.link pairs test h)

@@ -4,7 +4,7 @@ use Rattle.attempt_ledger.specs.declared.ledger.LinkSeen.{LinkSeen}
 use Rattle.call_core.specs.Steps.{Stepped, closed_by, ended_as}
 use Rattle.call_core.specs.declared.act.CallAct.{CallAct}
 use Rattle.call_core.specs.declared.act.CallAct.TheVariants as act
-use Rattle.channel_actions.proofs.ActsFollowed.Acts.{done_append, given, told_is}
+use Rattle.channel_actions.proofs.ActsFollowed.Acts.{done_append, given, reported_is}
 use Rattle.channel_actions.proofs.Links.Settings.Slots.{asked_is}
 use Rattle.channel_actions.specs.ActsFollowed.Followed.{call_closed, call_lent}
 use Rattle.call_cases.proofs.OneCallEnds.Stamps.{stamped_if}
@@ -33,7 +33,7 @@ module _ (why : EndCause) (n : ℕ) (x : StateSeen) (slot : CallSlot) (there : s
   acts_are : a.acts ≡ acts
   acts_are =
       ap (λ (o : Option EndCause). (if not (is_some o) then ended_as why x.book.moment (call_lent x slot) else call_lent x slot).acts) going
-      ∙ ap (λ (xs : List CallAct). xs ++ act.End why ∷ []) (told_is slot.call.live [])
+      ∙ ap (λ (xs : List CallAct). xs ++ act.End why ∷ []) (reported_is slot.call.live [])
 
   abbrev pub ended_book : Book
   ended_book = record x.book { calls = slice_set x.book.calls (n - 1) (with_call a.call slot); ledger = a.ledger }

@@ -10,7 +10,7 @@ use Rattle.call_core.specs.Steps.{Stepped}
 use Rattle.channel_actions.proofs.Relinked.{order_relinked, serves_relinked, turn_relinked}
 use Rattle.channel_actions.proofs.Calls.Reset.Leaves.{resets_leave_calls}
 use Rattle.channel_actions.specs.ResetCalls.Laws.{LeavesCall, reset_noted}
-use Rattle.call_cases.proofs.CallPosts.Told.{map_changed}
+use Rattle.call_cases.proofs.CallPosts.Report.{map_changed}
 use Rattle.h2_frame.specs.Frames.{FrameSeen}
 use Rattle.h2_frame.specs.Sent.{rst_stream_frame}
 use Rattle.session_actions.specs.AttemptEnds.{stream_reset_of}

@@ -12,7 +12,7 @@ use Rattle.channel_actions.proofs.Links.Settings.Pairs.{exactly_by}
 use Rattle.call_cases.specs.EndsFollow.Laws.{is_late}
 use Rattle.call_cases.specs.OtherCalls.Laws.{SetsApart}
 use Rattle.call_cases.specs.OtherCalls.Others.{is_of_number}
-use Rattle.channel_actions.specs.Sets.{AreExactly, is_in_outstanding, is_in_patient, is_in_queue, is_patient, is_waiting}
+use Rattle.channel_actions.specs.Sets.{PairsAreExactly, is_in_outstanding, is_in_ready_waiters, is_in_queue, is_ready_waiter, is_waiting}
 use Rattle.call_cases.proofs.CallEnds.Alone.{has_cut, to}
 use Rattle.call_cases.proofs.CallEnds.Linked.{live_is, on, own, slot, w}
 use Rattle.call_cases.proofs.CallEnds.On.{are_cut, early_by, resets, t, their}
@@ -31,7 +31,7 @@ use Rattle.session_actions.specs.declared.call.Call.{Call}
 use Rattle.session_actions.specs.declared.entry.OpenEntry.{OpenEntry}
 use Rattle.session_actions.specs.declared.seen.Seen.{Seen}
 use Rattle.session_order.proofs.Changed.{passes_not}
-use Rattle.session_order.specs.Calm.{is_to_cut}
+use Rattle.session_order.specs.Quiescent.{is_to_cut}
 use Rattle.session_order.specs.declared.line.Line.{Line}
 use Rattle.session_order.specs.declared.line.Line.TheVariants as line
 
@@ -128,18 +128,18 @@ module _ (waits : Line → Bool) (n : ℕ) (why : EndCause) (x : StateSeen) (o :
     pair_same : (k row : ℕ) → all_queue_left n live test k row ≡ later k row
     pair_same k row = pair_by k row (k == n) refl
 
-  pub queue_on : AreExactly (w waits n why x o s is).queue (is_in_queue u)
+  pub queue_on : PairsAreExactly (w waits n why x o s is).queue (is_in_queue u)
   queue_on =
       exactly_by (w waits n why x o s is).queue (all_queue_left n live (is_in_queue s)) (is_in_queue u) (queue_exactly n live x.queue (is_in_queue s) is.agrees.sets.queue)
-      (pair_same (is_in_queue s) (is_in_queue u) (λ row e. (and_parts (is_waiting s n row) (not (is_patient s n)) e).0)
-      (λ row. ap (λ (b : Bool). b && not (is_patient u n)) (unqueued (numbered u.attempts row))) (λ k row e. others.queue k row e))
+      (pair_same (is_in_queue s) (is_in_queue u) (λ row e. (and_parts (is_waiting s n row) (not (is_ready_waiter s n)) e).0)
+      (λ row. ap (λ (b : Bool). b && not (is_ready_waiter u n)) (unqueued (numbered u.attempts row))) (λ k row e. others.queue k row e))
 
-  pub patient_on : AreExactly (w waits n why x o s is).patient (is_in_patient u)
-  patient_on =
-      exactly_by (w waits n why x o s is).patient (all_queue_left n live (is_in_patient s)) (is_in_patient u)
-      (queue_exactly n live x.patient (is_in_patient s) is.agrees.sets.patient)
-      (pair_same (is_in_patient s) (is_in_patient u) (λ row e. (and_parts (is_waiting s n row) (is_patient s n) e).0)
-      (λ row. ap (λ (b : Bool). b && is_patient u n) (unqueued (numbered u.attempts row))) (λ k row e. others.patient k row e))
+  pub wait_for_ready_on : PairsAreExactly (w waits n why x o s is).ready_waiters (is_in_ready_waiters u)
+  wait_for_ready_on =
+      exactly_by (w waits n why x o s is).ready_waiters (all_queue_left n live (is_in_ready_waiters s)) (is_in_ready_waiters u)
+      (queue_exactly n live x.ready_waiters (is_in_ready_waiters s) is.agrees.sets.ready_waiters)
+      (pair_same (is_in_ready_waiters s) (is_in_ready_waiters u) (λ row e. (and_parts (is_waiting s n row) (is_ready_waiter s n) e).0)
+      (λ row. ap (λ (b : Bool). b && is_ready_waiter u n) (unqueued (numbered u.attempts row))) (λ k row e. others.ready_waiters k row e))
 
   -- those that were outstanding
   uncut : (row : ℕ) (a : Attempt) → numbered u.attempts row ≡ Some a → is_to_cut u a ≡ false
@@ -196,7 +196,7 @@ module _ (waits : Line → Bool) (n : ℕ) (why : EndCause) (x : StateSeen) (o :
       (out_rest n is_alive row s.attempts (is_in_outstanding s) link (λ i a at lives. other_row row i a (a.place == row) refl at lives (sym (owned_alike row) ∙ e)))
       ∙ sym (others.outstanding link row e)
 
-  pub outstanding_on : AreExactly (w waits n why x o s is).outstanding (is_in_outstanding u)
+  pub outstanding_on : PairsAreExactly (w waits n why x o s is).outstanding (is_in_outstanding u)
   outstanding_on =
       exactly_by (w waits n why x o s is).outstanding (all_out_left live (is_in_outstanding s)) (is_in_outstanding u)
       (out_exactly live x.outstanding (is_in_outstanding s) is.agrees.sets.outstanding) (λ link row. out_pair link row (is_of_number n (numbered u.attempts row)) refl)

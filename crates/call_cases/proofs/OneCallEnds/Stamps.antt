@@ -11,7 +11,7 @@ use Rattle.call_core.specs.declared.live.LiveRow.{LiveRow}
 use Rattle.channel_actions.proofs.ActsFollowed.Acts.{LinkIn, given}
 use Rattle.channel_actions.proofs.Outstanding.{is_of_link, on_is}
 use Rattle.channel_actions.proofs.Links.Settings.Pairs.{rising_remove, same_is}
-use Rattle.channel_actions.specs.Sets.{AreRising}
+use Rattle.channel_actions.specs.Sets.{PairsAreRising}
 use Rattle.channel_core.proofs.BookLaws.{number_changed, number_other}
 use Rattle.channel_core.specs.Books.{link_of}
 use Rattle.channel_core.specs.States.{StateSeen}
@@ -111,7 +111,7 @@ pub record IsNoted (x z : StateSeen) : Type 0 where
   pub net : z.net ≡ x.net
   pub dead : (k : ℕ) → is_dead z.links k ≡ is_dead x.links k
   pub retiring : (k : ℕ) → is_retiring z.links k ≡ is_retiring x.links k
-  pub rising : AreRising z.outstanding
+  pub rising : PairsAreRising z.outstanding
   pub fewer : (k : ℕ) → has_outstanding k z ≡ true → has_outstanding k x ≡ true
   pub noted : (k : ℕ) → numbered z.book.ledger.links k ≡ option_map (stamped_if (gone_by x k (has_outstanding k z)) x.book.ledger.entry) (numbered x.book.ledger.links k)
 
@@ -139,7 +139,7 @@ module _ (x z : StateSeen) (h : IsNoted x z) (link row : ℕ) where
   abbrev z1 : StateSeen
   z1 = record (reset_on link row z) { outstanding = remove_key (is_same (link, row)) z.outstanding }
 
-  rising1 : AreRising z1.outstanding
+  rising1 : PairsAreRising z1.outstanding
   rising1 = rising_remove z.outstanding (link, row) h.rising
 
   on_z : (k : ℕ) → has_outstanding k z ≡ list_any (is_of_link k) z.outstanding

@@ -18,7 +18,7 @@ use Rattle.call_cases.proofs.CallEnds.On.{resets, to_end}
 use Rattle.call_cases.proofs.CallEnds.Sets.{done}
 use Rattle.call_cases.proofs.OneCallEnds.Gone as gone
 use Rattle.call_cases.proofs.OneCallEnds.Own.{calls_are, columns_on, others_slots, own_slot}
-use Rattle.call_cases.proofs.OneCallEnds.Rows.{outstanding_on, patient_on, queue_on, same}
+use Rattle.call_cases.proofs.OneCallEnds.Rows.{outstanding_on, wait_for_ready_on, queue_on, same}
 use Rattle.call_cases.specs.CallEnds.Ends.{EndsNext, HasEnded, IsToEnd}
 use Rattle.call_cases.specs.CallEnds.Laws.{OneCallEnds, OneCallEndsAhead}
 use Rattle.channel_core.proofs.Resting.{changed_length}
@@ -78,11 +78,11 @@ module _ (waits : Line → Bool) (n : ℕ) (why : EndCause) (x : StateSeen) (o :
   sets : SeesSets now u
   sets = record {
     queue = queue_on waits n why x o s is;
-    patient = patient_on waits n why x o s is;
+    ready_waiters = wait_for_ready_on waits n why x o s is;
     dues = (timers_on waits n why x o s is).dues;
     deadlines = (timers_on waits n why x o s is).deadlines;
-    bare = (timers_on waits n why x o s is).bare;
-    impatient = (timers_on waits n why x o s is).impatient;
+    awaiting_config = (timers_on waits n why x o s is).awaiting_config;
+    fail_fast = (timers_on waits n why x o s is).fail_fast;
     outstanding = outstanding_on waits n why x o s is;
     resets = is.agrees.sets.resets;
   }

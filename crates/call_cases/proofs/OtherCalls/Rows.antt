@@ -3,7 +3,7 @@ use Rattle.call_actions.proofs.Places.{place_is}
 use Rattle.call_actions.proofs.CallsApart.Acts.{IsIn, at_place, in_filter}
 use Rattle.call_actions.proofs.CallsApart.Kept.{seen_same}
 use Rattle.call_actions.proofs.CallsApart.Seen.{all_numbered}
-use Rattle.call_actions.specs.CallsApart.Apart.{AreCalls, IsApart}
+use Rattle.call_actions.specs.CallsApart.Apart.{CallsAreNumbered, IsApart}
 use Rattle.call_cases.proofs.OtherCalls.Along.{goes_apart, goes_on}
 use Rattle.call_cases.proofs.OtherCalls.Grows.{GrowsBut}
 use Rattle.call_cases.specs.OtherCalls.Laws.{ColumnsStay, OthersAreSame, RowsStay}
@@ -36,13 +36,13 @@ filter_in p [] i a got passes = absurd (cc)
 filter_in p (x ∷ xs) i a got passes = passes_by p x xs (p x) refl i a got passes (λ j e. filter_in p xs j a e passes)
 
 -- the number of a call is its place
-number_from : (n : ℕ) (xs : List Call) (i : ℕ) (c : Call) → AreCalls n xs → slice_get xs i ≡ Some c → c.number ≡ n + i
+number_from : (n : ℕ) (xs : List Call) (i : ℕ) (c : Call) → CallsAreNumbered n xs → slice_get xs i ≡ Some c → c.number ≡ n + i
 number_from n [] i c h e = absurd (cc)
 number_from n (d ∷ xs) zero c h e =
     let one : c ≡ d = (cc) in ap (λ (q : Call). q.number) one ∙ h.0 ∙ (let up : n ≡ n + 0 = omega arith in up)
 number_from n (d ∷ xs) (suc i) c h e = number_from (suc n) xs i c h.1 e ∙ (let up : suc n + i ≡ n + suc i = omega arith in up)
 
-pub number_at : (xs : List Call) (k : ℕ) (c : Call) → AreCalls 1 xs → numbered xs k ≡ Some c → c.number ≡ k
+pub number_at : (xs : List Call) (k : ℕ) (c : Call) → CallsAreNumbered 1 xs → numbered xs k ≡ Some c → c.number ≡ k
 number_at xs zero c h e = absurd (cc)
 number_at xs (suc i) c h e = number_from 1 xs i c h e ∙ (let up : 1 + i ≡ suc i = omega arith in up)
 

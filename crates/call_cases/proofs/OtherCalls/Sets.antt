@@ -3,7 +3,7 @@ use Rattle.call_actions.proofs.CallsApart.Kept.{over_same}
 use Rattle.call_actions.proofs.CallsApart.Seen.{all_numbered}
 use Rattle.call_actions.specs.CallsApart.Apart.{IsApart}
 use Rattle.channel_actions.specs.Calls.{HasSlot, SeesCalls, deadline_of, due_of}
-use Rattle.channel_actions.specs.Sets.{is_in_bare, is_in_deadlines, is_in_dues, is_patient, is_waiting}
+use Rattle.channel_actions.specs.Sets.{is_awaiting_config, is_in_deadlines, is_in_dues, is_ready_waiter, is_waiting}
 use Rattle.channel_core.specs.States.{StateSeen}
 use Rattle.call_cases.proofs.OtherCalls.Rows.{apart_at, calls_same, number_is, own_of, row_before, rows_same}
 use Rattle.call_cases.specs.OtherCalls.Laws.{SetsApart, SetsStay}
@@ -88,14 +88,14 @@ module _ (number : ℕ) (s t : Seen) (g : GoesApart number s t) where
       by None e = refl
       by (Some c) e = same c e
 
-  patient_same : (k : ℕ) → (k == number) ≡ false → is_patient t k ≡ is_patient s k
-  patient_same k off =
+  wait_for_ready_same : (k : ℕ) → (k == number) ≡ false → is_ready_waiter t k ≡ is_ready_waiter s k
+  wait_for_ready_same k off =
       of_call (λ (c : Call). waits_for_ready c s) (λ (c : Call). waits_for_ready c t) k off
       (λ c e. let a : IsApart s t c = apart_at number s t g k c e off in
       ap (λ (o : Option HeldConfig). unwrap_or (option_or c.request.wait (option_map_or (λ (h : HeldConfig). chosen_for h.config c.request.path) o no_choice).wait) false) a.config)
 
-  bare_same : (zero_ k : ℕ) → (k == number) ≡ false → is_in_bare t zero_ k ≡ is_in_bare s zero_ k
-  bare_same zero_ k off =
+  unconfigured_same : (zero_ k : ℕ) → (k == number) ≡ false → is_awaiting_config t zero_ k ≡ is_awaiting_config s zero_ k
+  unconfigured_same zero_ k off =
       ap (λ (b : Bool). (zero_ == 0) && b)
       (of_call (λ (c : Call). is_open_call c && is_none c.config) (λ (c : Call). is_open_call c && is_none c.config) k off (λ c e. refl))
 
@@ -114,12 +114,12 @@ module _ (number : ℕ) (s t : Seen) (g : GoesApart number s t) where
 
     pub sets_apart : SetsApart number s t
     sets_apart = record {
-      queue = λ k row off. ap (λ (b : Bool). b && not (is_patient t k)) (waiting_same k row off) ∙ ap (λ (b : Bool). is_waiting s k row && not b) (patient_same k off);
-      patient = λ k row off. ap (λ (b : Bool). b && is_patient t k) (waiting_same k row off) ∙ ap (λ (b : Bool). is_waiting s k row && b) (patient_same k off);
+      queue = λ k row off. ap (λ (b : Bool). b && not (is_ready_waiter t k)) (waiting_same k row off) ∙ ap (λ (b : Bool). is_waiting s k row && not b) (wait_for_ready_same k off);
+      ready_waiters = λ k row off. ap (λ (b : Bool). b && is_ready_waiter t k) (waiting_same k row off) ∙ ap (λ (b : Bool). is_waiting s k row && b) (wait_for_ready_same k off);
       dues = dues_same;
       deadlines = deadlines_same;
-      bare = bare_same;
-      impatient = λ zero_ k off. ap (λ (b : Bool). b && not (is_patient t k)) (bare_same zero_ k off) ∙ ap (λ (b : Bool). is_in_bare s zero_ k && not b) (patient_same k off);
+      awaiting_config = unconfigured_same;
+      fail_fast = λ zero_ k off. ap (λ (b : Bool). b && not (is_ready_waiter t k)) (unconfigured_same zero_ k off) ∙ ap (λ (b : Bool). is_awaiting_config s zero_ k && not b) (wait_for_ready_same k off);
       outstanding = λ link row off. ap (holds (λ (a : Attempt). is_outstanding a && (link_number a == link))) (rows_same number s t g row off);
     }
 

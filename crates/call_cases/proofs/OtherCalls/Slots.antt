@@ -11,7 +11,7 @@ use Rattle.channel_actions.specs.Configs.{bucket_place}
 use Rattle.channel_core.specs.States.{StateSeen}
 use Rattle.channel_core.specs.Tables.{tokens_in}
 use Rattle.channel_core.specs.declared.state.slots.CallSlot.{CallSlot}
-use Rattle.call_cases.proofs.OtherCalls.Along.{goes_heard, goes_on}
+use Rattle.call_cases.proofs.OtherCalls.Along.{goes_received, goes_on}
 use Rattle.call_cases.proofs.OtherCalls.Buckets.{place_same, tokens_same}
 use Rattle.call_cases.proofs.OtherCalls.Grows.{GrowsBut}
 use Rattle.call_cases.proofs.OtherCalls.Rows.{apart_at, calls_same, off_of, own_of}
@@ -25,7 +25,7 @@ use Rattle.session_actions.specs.declared.seen.Seen.{Seen}
 use Rattle.std.proofs.Common.{Bool, List, None, Option, Some, [], ap, eqb-true, false, if◌then◌else◌, length, option_map, refl, subst, sym, true, ℕ, ◌==◌, ◌∙◌, ◌≡◌}
 use Rattle.call_actions.specs.TakeActions.Serves.{Serves}
 use Rattle.call_actions.proofs.TakesApart.Served.{deadlines_stay, others_are_due, others_are_served}
-use Rattle.call_actions.specs.TakesApart.Heard.{IsHeardAlike}
+use Rattle.call_actions.specs.TakesApart.Received.{IsReceivedAlike}
 
 module _ (number : ℕ) (x y : StateSeen) (s t : Seen) (g : GoesApart number s t) (b : BooksApart number x y t) where
   module _ (k : ℕ) (c : Call) (off : (k == number) ≡ false) (at : numbered s.calls k ≡ Some c) (slot : CallSlot) where
@@ -38,8 +38,8 @@ module _ (number : ℕ) (x y : StateSeen) (s t : Seen) (g : GoesApart number s t
     own_now : numbered t.calls c.number ≡ Some c
     own_now = apart.call ∙ own
 
-    heard : IsHeardAlike s t c
-    heard = goes_heard number c (off_of number s t g k c at off) s t g own
+    handled : IsReceivedAlike s t c
+    handled = goes_received number c (off_of number s t g k c at off) s t g own
 
     has : has_config s c ≡ true
     has = all_numbered (has_config s) s.calls k c g.earlier.book.configs at
@@ -67,7 +67,7 @@ module _ (number : ℕ) (x y : StateSeen) (s t : Seen) (g : GoesApart number s t
       let a : IsApart s t c = apart k c off at h.slot in
       let mine : numbered s.calls c.number ≡ Some c = own k c off at h.slot in
       let served : Serves t c (lent h.slot.call (ledger_lent y t) (tokens_in_run t (run_number c t)) [])
-      = others_are_served s t c (lent h.slot.call (ledger_lent x s) (tokens_in x.book.buckets h.slot.bucket) []) (ledger_lent y t) [] a (heard k c off at h.slot) g.later.book
+      = others_are_served s t c (lent h.slot.call (ledger_lent x s) (tokens_in x.book.buckets h.slot.bucket) []) (ledger_lent y t) [] a (handled k c off at h.slot) g.later.book
       h.sees.serves h.sees.order (recorded k c off at h.slot) (record { links = refl; reads = g.later.reads }) in
       record {
         slot = h.slot;

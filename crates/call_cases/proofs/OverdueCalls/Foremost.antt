@@ -36,18 +36,18 @@ module _ {X : Type 0} (before : X → X → Bool) (p : X → Bool) where
   head_by a xs true e rest = ap (λ (x : X). Some x) (first_by a (foremost before (filter p xs)) rest)
   head_by a xs false e rest = absurd (cc)
 
-  -- it comes before those in front of it, and none behind it comes before it
+  -- it comes before those before it, and none after it comes before it
   pub is_foremost : (xs : List X) (i : ℕ) (a : X) → slice_get xs i ≡ Some a → p a ≡ true
       → ((j : ℕ) (x : X) → j < i → slice_get xs j ≡ Some x → p x ≡ true → before a x ≡ true)
       → ((j : ℕ) (x : X) → i < j → slice_get xs j ≡ Some x → p x ≡ true → before x a ≡ false) → foremost before (filter p xs) ≡ Some a
-  is_foremost [] i a at passes front behind = absurd (cc)
-  is_foremost (x ∷ xs) zero a at passes front behind =
+  is_foremost [] i a at passes prefix afterwards = absurd (cc)
+  is_foremost (x ∷ xs) zero a at passes prefix afterwards =
       let same : a ≡ x = (cc) in
       ap (λ (z : X). foremost before (cond (p z) (z ∷ filter p xs) (filter p xs))) (sym same)
-      ∙ head_by a xs (p a) passes (none_before a xs (λ j y there. behind (suc j) y (omega arith) there))
-  is_foremost (x ∷ xs) (suc i) a at passes front behind =
-      later_by a x xs (p x) refl (front zero x (omega arith) refl)
-      (is_foremost xs i a at passes (λ j y less there. front (suc j) y (omega (arith, less)) there) (λ j y less there. behind (suc j) y (omega (arith, less)) there))
+      ∙ head_by a xs (p a) passes (none_before a xs (λ j y there. afterwards (suc j) y (omega arith) there))
+  is_foremost (x ∷ xs) (suc i) a at passes prefix afterwards =
+      later_by a x xs (p x) refl (prefix zero x (omega arith) refl)
+      (is_foremost xs i a at passes (λ j y less there. prefix (suc j) y (omega (arith, less)) there) (λ j y less there. afterwards (suc j) y (omega (arith, less)) there))
 
   -- where none passes, there is none
   none_by : (x : X) (xs : List X) (b : Bool) → p x ≡ b → b ≡ false → filter p xs ≡ [] → cond b (x ∷ filter p xs) (filter p xs) ≡ []
@@ -62,9 +62,9 @@ module _ {X : Type 0} (before : X → X → Bool) (p : X → Bool) where
   pub numbered_foremost : (xs : List X) (n : ℕ) (a : X) → numbered xs n ≡ Some a → p a ≡ true
       → ((m : ℕ) (x : X) → m < n → numbered xs m ≡ Some x → p x ≡ true → before a x ≡ true)
       → ((m : ℕ) (x : X) → n < m → numbered xs m ≡ Some x → p x ≡ true → before x a ≡ false) → foremost before (filter p xs) ≡ Some a
-  numbered_foremost xs zero a at passes front behind = absurd (cc)
-  numbered_foremost xs (suc i) a at passes front behind =
-      is_foremost xs i a at passes (λ j x less there. front (suc j) x (omega (arith, less)) there) (λ j x less there. behind (suc j) x (omega (arith, less)) there)
+  numbered_foremost xs zero a at passes prefix afterwards = absurd (cc)
+  numbered_foremost xs (suc i) a at passes prefix afterwards =
+      is_foremost xs i a at passes (λ j x less there. prefix (suc j) x (omega (arith, less)) there) (λ j x less there. afterwards (suc j) x (omega (arith, less)) there)
 
   pub none_numbered : (xs : List X) → ((m : ℕ) (x : X) → numbered xs m ≡ Some x → p x ≡ false) → filter p xs ≡ []
   none_numbered xs none = none_passes xs (λ i x at. none (suc i) x at)

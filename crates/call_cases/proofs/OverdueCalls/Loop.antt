@@ -10,12 +10,12 @@ use Rattle.call_actions.proofs.TakeActions.Deadlines.{deadline_is, none_by}
 use Rattle.call_core.specs.Steps as call
 use Rattle.channel_actions.proofs.Does.{does_on, none_on}
 use Rattle.channel_actions.proofs.Links.Settings.Keys.{head_out}
-use Rattle.channel_actions.proofs.Links.Settings.Pairs.{none_behind, self_same}
+use Rattle.channel_actions.proofs.Links.Settings.Pairs.{none_afterwards, self_same}
 use Rattle.channel_actions.proofs.Stamps.{counted_at}
 use Rattle.channel_actions.specs.Agrees.{Agrees}
 use Rattle.channel_actions.specs.Calls.{HasSlot, lent_to}
-use Rattle.channel_actions.specs.Calm.{IsAt}
-use Rattle.call_cases.specs.EndsFollow.Cuts.{AreUnreset}
+use Rattle.channel_actions.specs.Quiescent.{IsAt}
+use Rattle.call_cases.specs.EndsFollow.Cuts.{NoStreamIsToReset}
 use Rattle.channel_actions.specs.Points.{Reaches}
 use Rattle.channel_actions.specs.Stages.{IsTimely}
 use Rattle.call_cases.proofs.CallPosts.Answered.{of_order}
@@ -29,7 +29,7 @@ use Rattle.channel_core.specs.Steps.{all_timed_out, closed, overdue_ended, timed
 use Rattle.channel_core.specs.Timing.{due_keys, later, timer_moved}
 use Rattle.grpc_base.specs.declared.event.EndCause.{EndCause}
 use Rattle.grpc_base.specs.declared.event.EndCause.TheVariants as ending
-use Rattle.picker_gate.specs.Pairs.{has, is_behind, is_same}
+use Rattle.picker_gate.specs.Pairs.{has, comes_after, is_same}
 use Rattle.session_actions.specs.Actions.{first_action, following, of_stage}
 use Rattle.session_actions.specs.CallEnds.{next_deadline}
 use Rattle.session_actions.specs.Configs.{deadline}
@@ -41,10 +41,10 @@ use Rattle.session_actions.specs.declared.call.Call.{Call}
 use Rattle.session_actions.specs.declared.entry.OpenEntry.{OpenEntry}
 use Rattle.session_actions.specs.declared.entry.Stage.TheVariants as stage
 use Rattle.session_actions.specs.declared.seen.Seen.{Seen}
-use Rattle.session_order.proofs.Calms.{calm_is_exact, calm_leaves_stage}
+use Rattle.session_order.proofs.Quiescence.{quiescence_is_exact, quiescence_leaves_stage}
 use Rattle.session_order.proofs.Ended.{ended_leaves}
-use Rattle.session_order.specs.Calm as order
-use Rattle.session_order.specs.Calm.{IsStill}
+use Rattle.session_order.specs.Quiescent as order
+use Rattle.session_order.specs.Quiescent.{IsStill}
 use Rattle.session_order.specs.declared.line.Line.{Line}
 use Rattle.session_order.specs.declared.line.Line.TheVariants as line
 
@@ -84,7 +84,7 @@ pub record Waits (m : ℕ) (d : List (ℕ × ℕ)) (z : StateSeen) (o : OpenEntr
   pub left : z.deadlines ≡ later m d
   pub moment : z.book.moment ≡ m
   pub at_event : IsAt stage.Event o s
-  pub unreset : AreUnreset s
+  pub unreset : NoStreamIsToReset s
   pub few : (q : ℕ × ℕ) → has d q ≡ true → q.1 ≤ 4294967295
 
 pub record Ends (y : StateSeen) (o : OpenEntry) (s : Seen) : Type 0 where
@@ -123,12 +123,12 @@ module _ (m : ℕ) (p : ℕ × ℕ) (rest : List (ℕ × ℕ)) (z : StateSeen) (
   come_now : nat_le p.0 z.book.moment ≡ true
   come_now = ap (nat_le p.0) w.moment ∙ come
 
-  calm : order.IsCalm o s
-  calm = (calm_is_exact o s).0 (w.at_event.calm.calls, w.at_event.calm.links, w.at_event.calm.policies)
+  quiescent : order.IsQuiescent o s
+  quiescent = (quiescence_is_exact o s).0 (w.at_event.quiescent.calls, w.at_event.quiescent.links, w.at_event.quiescent.policies)
 
   follows : following s ≡ Some (action.CallEnds n ending.Deadline)
   follows =
-      calm_leaves_stage o s w.at_event.current calm ∙ ap (of_stage o s) w.at_event.stage_is
+      quiescence_leaves_stage o s w.at_event.current quiescent ∙ ap (of_stage o s) w.at_event.stage_is
       ∙ ap (λ (a : Option Action). first_action (a ∷ event_action o.event s ∷ [])) (next_is z s p rest w.agrees come_now)
 
   open_now : first.call.end ≡ None
@@ -144,10 +144,10 @@ module _ (m : ℕ) (p : ℕ × ℕ) (rest : List (ℕ × ℕ)) (z : StateSeen) (
     there = first.there;
     going = open_now;
     next = follows;
-    uncut = calm line.Cut;
-    unfollowed = calm line.Transparent;
+    uncut = quiescent line.Cut;
+    unfollowed = quiescent line.Transparent;
     still = λ l uncut f. ended_leaves n ending.Deadline o s w.at_event.current (λ k c there. counted_at (λ (d : Call). d.number) s.calls k c w.agrees.kept.calls there) l o
-        w.at_event.current (ap (λ (b : Bool). b || false) uncut) (calm l);
+        w.at_event.current (ap (λ (b : Bool). b || false) uncut) (quiescent l);
   }
 
   pub ended : HasEnded (λ (l : Line). false) n ending.Deadline y o s
@@ -184,7 +184,7 @@ module _ (m : ℕ) (p : ℕ × ℕ) (rest : List (ℕ × ℕ)) (z : StateSeen) (
       ap (λ (x : StateSeen). x.deadlines) out_is ∙ deadlines_are ending.Deadline n z own.slot own.there going
       ∙ ap (λ (t : Option ℕ). timer_moved n t None z.deadlines) timer
       ∙ ap (remove_key (is_same p)) (w.left ∙ ap (λ (b : Bool). if b then later m rest else p ∷ rest) come)
-      ∙ remove_none p (later m rest) (none_behind p (later m rest) (all_later (is_behind p) m rest w.agrees.sets.deadlines.rising.0))
+      ∙ remove_none p (later m rest) (none_afterwards p (later m rest) (all_later (comes_after p) m rest w.agrees.sets.deadlines.rising.0))
 
   agrees_now : Agrees (at rest z2) ended.seen
   agrees_now = subst (λ (x : StateSeen). Agrees x ended.seen) closed_is ended.agrees
@@ -197,7 +197,7 @@ module _ (m : ℕ) (p : ℕ × ℕ) (rest : List (ℕ × ℕ)) (z : StateSeen) (
     agrees = agrees_now;
     left = left_now;
     moment = sym agrees_now.clock.moment ∙ moment_of ended.seen ended.current ∙ sym (moment_of s w.at_event.current) ∙ w.agrees.clock.moment ∙ w.moment;
-    at_event = record { current = ended.current; stage_is = w.at_event.stage_is; calm = of_order o ended.seen (λ l. ended.still l refl) };
+    at_event = record { current = ended.current; stage_is = w.at_event.stage_is; quiescent = of_order o ended.seen (λ l. ended.still l refl) };
     unreset = ended.unreset;
     few = λ q h. w.few q (ap (λ (b : Bool). is_same q p || b) h ∙ or_true (is_same q p));
   }

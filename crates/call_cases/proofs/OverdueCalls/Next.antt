@@ -10,12 +10,12 @@ use Rattle.channel_actions.proofs.Links.Settings.Pairs.{same_is}
 use Rattle.channel_actions.proofs.Stamps.{counted_at}
 use Rattle.channel_actions.specs.Agrees.{Agrees}
 use Rattle.channel_actions.specs.Calls.{deadline_of}
-use Rattle.channel_actions.specs.Sets.{AreExactly, is_in_deadlines}
+use Rattle.channel_actions.specs.Sets.{PairsAreExactly, is_in_deadlines}
 use Rattle.call_cases.proofs.OverdueCalls.Apart.{at}
 use Rattle.call_cases.proofs.OverdueCalls.Foremost.{none_numbered, numbered_foremost}
 use Rattle.channel_core.specs.States.{StateSeen}
 use Rattle.grpc_base.specs.declared.event.EndCause.TheVariants as ending
-use Rattle.picker_gate.specs.Pairs.{has, is_behind, is_same}
+use Rattle.picker_gate.specs.Pairs.{has, comes_after, is_same}
 use Rattle.session_actions.specs.CallEnds.{deadline_or, ending_call, is_due_before, is_past_deadline, next_deadline}
 use Rattle.session_actions.specs.Calls.{is_open_call}
 use Rattle.session_actions.specs.Configs.{deadline}
@@ -32,43 +32,43 @@ same_number n = grind (arith, nat_tests)
 equal_numbers : (n m : ℕ) → (n == m) ≡ true → n ≡ m
 equal_numbers n m e = grind (arith, nat_tests)
 
-before_by : (p q : ℕ × ℕ) → is_behind p q ≡ true → q.1 < p.1 → nat_lt p.0 q.0 ≡ true
+before_by : (p q : ℕ × ℕ) → comes_after p q ≡ true → q.1 < p.1 → nat_lt p.0 q.0 ≡ true
 before_by p q e less = grind (arith, nat_tests)
 
-not_before : (p q : ℕ × ℕ) → is_behind p q ≡ true → nat_lt q.0 p.0 ≡ false
+not_before : (p q : ℕ × ℕ) → comes_after p q ≡ true → nat_lt q.0 p.0 ≡ false
 not_before p q e = grind (arith, nat_tests)
 
-late_by : (p q : ℕ × ℕ) (m : ℕ) → is_behind p q ≡ true → nat_le p.0 m ≡ false → nat_le q.0 m ≡ false
+late_by : (p q : ℕ × ℕ) (m : ℕ) → comes_after p q ≡ true → nat_le p.0 m ≡ false → nat_le q.0 m ≡ false
 late_by p q m e late = grind (arith, nat_tests)
 
 not_less : (n : ℕ) → n < n → ⊥
 not_less n e = omega (arith, e)
 
-behind_by : (p q r : ℕ × ℕ) (rest : List (ℕ × ℕ)) (b : Bool) → is_same q r ≡ b → is_behind p r ≡ true → (has rest q ≡ true → is_behind p q ≡ true)
-    → (b || has rest q) ≡ true → is_behind p q ≡ true
-behind_by p q r rest true e here more h = ap (is_behind p) (same_is q r e) ∙ here
-behind_by p q r rest false e here more h = more h
+afterwards_by : (p q r : ℕ × ℕ) (rest : List (ℕ × ℕ)) (b : Bool) → is_same q r ≡ b → comes_after p r ≡ true → (has rest q ≡ true → comes_after p q ≡ true)
+    → (b || has rest q) ≡ true → comes_after p q ≡ true
+afterwards_by p q r rest true e here more h = ap (comes_after p) (same_is q r e) ∙ here
+afterwards_by p q r rest false e here more h = more h
 
-behind_in : (p q : ℕ × ℕ) (rest : List (ℕ × ℕ)) → list_all (is_behind p) rest ≡ true → has rest q ≡ true → is_behind p q ≡ true
-behind_in p q [] all h = absurd (cc)
-behind_in p q (r ∷ rest) all h =
-    let both = and_parts (is_behind p r) (list_all (is_behind p) rest) all in
-    behind_by p q r rest (is_same q r) refl both.0 (behind_in p q rest both.1) h
+after_in : (p q : ℕ × ℕ) (rest : List (ℕ × ℕ)) → list_all (comes_after p) rest ≡ true → has rest q ≡ true → comes_after p q ≡ true
+after_in p q [] all h = absurd (cc)
+after_in p q (r ∷ rest) all h =
+    let both = and_parts (comes_after p r) (list_all (comes_after p) rest) all in
+    afterwards_by p q r rest (is_same q r) refl both.0 (after_in p q rest both.1) h
 
-first_by : (p q : ℕ × ℕ) (rest : List (ℕ × ℕ)) (b : Bool) → is_same q p ≡ b → list_all (is_behind p) rest ≡ true → (b || has rest q) ≡ true → (q ≡ p) ⊎ (is_behind p q ≡ true)
+first_by : (p q : ℕ × ℕ) (rest : List (ℕ × ℕ)) (b : Bool) → is_same q p ≡ b → list_all (comes_after p) rest ≡ true → (b || has rest q) ≡ true → (q ≡ p) ⊎ (comes_after p q ≡ true)
 first_by p q rest true e all h = inl (same_is q p e)
-first_by p q rest false e all h = inr (behind_in p q rest all h)
+first_by p q rest false e all h = inr (after_in p q rest all h)
 
-pub first_of_all : (p q : ℕ × ℕ) (rest : List (ℕ × ℕ)) → list_all (is_behind p) rest ≡ true → has (p ∷ rest) q ≡ true → (q ≡ p) ⊎ (is_behind p q ≡ true)
+pub first_of_all : (p q : ℕ × ℕ) (rest : List (ℕ × ℕ)) → list_all (comes_after p) rest ≡ true → has (p ∷ rest) q ≡ true → (q ≡ p) ⊎ (comes_after p q ≡ true)
 first_of_all p q rest all h = first_by p q rest (is_same q p) refl all h
 
 -- where the first is late, all are
-pub all_late : (p : ℕ × ℕ) (rest : List (ℕ × ℕ)) (m : ℕ) → list_all (is_behind p) rest ≡ true → nat_le p.0 m ≡ false → (q : ℕ × ℕ) → has (p ∷ rest) q ≡ true → nat_le q.0 m ≡ false
+pub all_late : (p : ℕ × ℕ) (rest : List (ℕ × ℕ)) (m : ℕ) → list_all (comes_after p) rest ≡ true → nat_le p.0 m ≡ false → (q : ℕ × ℕ) → has (p ∷ rest) q ≡ true → nat_le q.0 m ≡ false
 all_late p rest m all late q h = by_place (first_of_all p q rest all h)
   where
-    by_place : (q ≡ p) ⊎ (is_behind p q ≡ true) → nat_le q.0 m ≡ false
+    by_place : (q ≡ p) ⊎ (comes_after p q ≡ true) → nat_le q.0 m ≡ false
     by_place (inl same) = ap (λ (r : ℕ × ℕ). nat_le r.0 m) same ∙ late
-    by_place (inr behind) = late_by p q m behind late
+    by_place (inr afterwards) = late_by p q m afterwards late
 
 -- a call whose deadline has come
 pub record IsPast (s : Seen) (c : Call) (number : ℕ) : Type 0 where
@@ -117,42 +117,42 @@ is_timed s p h = timed_by s p (numbered s.calls p.1) refl h
 
 -- the first deadline has come
 module _ (z : StateSeen) (s : Seen) (p : ℕ × ℕ) (rest : List (ℕ × ℕ)) (h : Agrees (at (p ∷ rest) z) s) where
-  abbrev exact : AreExactly (p ∷ rest) (is_in_deadlines s)
+  abbrev exact : PairsAreExactly (p ∷ rest) (is_in_deadlines s)
   exact = h.sets.deadlines
 
   pub found : IsTimedCall s p
   found = is_timed s p (head_passes p rest (is_in_deadlines s) exact)
 
-  in_place : (m : ℕ) (x : Call) (past : IsPast s x m) → ((past.moment, m) ≡ p) ⊎ (is_behind p (past.moment, m) ≡ true)
+  in_place : (m : ℕ) (x : Call) (past : IsPast s x m) → ((past.moment, m) ≡ p) ⊎ (comes_after p (past.moment, m) ≡ true)
   in_place m x past = first_of_all p (past.moment, m) rest exact.rising.0 (exact.exact past.moment m ∙ past.in_set)
 
   before_is : (x : Call) (t : ℕ) → deadline x s ≡ Some t → is_due_before s found.call x ≡ nat_lt p.0 t
   before_is x t e =
       ap (λ (q : Option ℕ). nat_lt (unwrap_or q 0) (deadline_or x s)) found.deadline_is ∙ ap (λ (q : Option ℕ). nat_lt p.0 (unwrap_or q 0)) e
 
-  behind_is : (x : Call) (t : ℕ) → deadline x s ≡ Some t → is_due_before s x found.call ≡ nat_lt t p.0
-  behind_is x t e =
+  after_is : (x : Call) (t : ℕ) → deadline x s ≡ Some t → is_due_before s x found.call ≡ nat_lt t p.0
+  after_is x t e =
       ap (λ (q : Option ℕ). nat_lt (unwrap_or q 0) (deadline_or found.call s)) e ∙ ap (λ (q : Option ℕ). nat_lt t (unwrap_or q 0)) found.deadline_is
 
-  front : (m : ℕ) (x : Call) → m < p.1 → numbered s.calls m ≡ Some x → is_past_deadline s x ≡ true → is_due_before s found.call x ≡ true
-  front m x less there passes = before_is x past.moment past.deadline_is ∙ by_place (in_place m x past)
+  prefix : (m : ℕ) (x : Call) → m < p.1 → numbered s.calls m ≡ Some x → is_past_deadline s x ≡ true → is_due_before s found.call x ≡ true
+  prefix m x less there passes = before_is x past.moment past.deadline_is ∙ by_place (in_place m x past)
     where
       past : IsPast s x m
       past = is_past s x m there passes
 
-      by_place : ((past.moment, m) ≡ p) ⊎ (is_behind p (past.moment, m) ≡ true) → nat_lt p.0 past.moment ≡ true
+      by_place : ((past.moment, m) ≡ p) ⊎ (comes_after p (past.moment, m) ≡ true) → nat_lt p.0 past.moment ≡ true
       by_place (inl same) = absurd (not_less p.1 (subst (λ (k : ℕ). k < p.1) (ap (λ (q : ℕ × ℕ). q.1) same) less))
-      by_place (inr behind) = before_by p (past.moment, m) behind less
+      by_place (inr afterwards) = before_by p (past.moment, m) afterwards less
 
-  behind : (m : ℕ) (x : Call) → p.1 < m → numbered s.calls m ≡ Some x → is_past_deadline s x ≡ true → is_due_before s x found.call ≡ false
-  behind m x less there passes = behind_is x past.moment past.deadline_is ∙ by_place (in_place m x past)
+  afterwards : (m : ℕ) (x : Call) → p.1 < m → numbered s.calls m ≡ Some x → is_past_deadline s x ≡ true → is_due_before s x found.call ≡ false
+  afterwards m x less there passes = after_is x past.moment past.deadline_is ∙ by_place (in_place m x past)
     where
       past : IsPast s x m
       past = is_past s x m there passes
 
-      by_place : ((past.moment, m) ≡ p) ⊎ (is_behind p (past.moment, m) ≡ true) → nat_lt past.moment p.0 ≡ false
+      by_place : ((past.moment, m) ≡ p) ⊎ (comes_after p (past.moment, m) ≡ true) → nat_lt past.moment p.0 ≡ false
       by_place (inl same) = absurd (not_less p.1 (subst (λ (k : ℕ). p.1 < k) (ap (λ (q : ℕ × ℕ). q.1) same) less))
-      by_place (inr behind) = not_before p (past.moment, m) behind
+      by_place (inr afterwards) = not_before p (past.moment, m) afterwards
 
   module _ (come : nat_le p.0 z.book.moment ≡ true) where
     passes : is_past_deadline s found.call ≡ true
@@ -162,7 +162,7 @@ module _ (z : StateSeen) (s : Seen) (p : ℕ × ℕ) (rest : List (ℕ × ℕ)) 
 
     pub next_is : next_deadline s ≡ Some (action.CallEnds p.1 ending.Deadline)
     next_is =
-        ap (option_map (ending_call ending.Deadline)) (numbered_foremost (is_due_before s) (is_past_deadline s) s.calls p.1 found.call found.there passes front behind)
+        ap (option_map (ending_call ending.Deadline)) (numbered_foremost (is_due_before s) (is_past_deadline s) s.calls p.1 found.call found.there passes prefix afterwards)
         ∙ ap (λ (k : ℕ). Some (action.CallEnds k ending.Deadline)) (counted_at (λ (c : Call). c.number) s.calls p.1 found.call h.kept.calls found.there)
 
 -- or none has

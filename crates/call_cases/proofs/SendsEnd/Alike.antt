@@ -30,6 +30,6 @@ calls_end_alike ends number why x o s unreset h =
       entries = e.entries;
       setup = e.setup;
       current = e.current;
-      calm = of_order o e.seen (λ l. e.still l refl);
+      quiescent = of_order o e.seen (λ l. e.still l refl);
       agrees = e.agrees;
     }

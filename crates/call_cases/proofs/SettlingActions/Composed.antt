@@ -4,7 +4,7 @@ use Rattle.std.specs.Prelude.{option_and_then}
 use Rattle.channel_actions.proofs.Does.{does_on, none_on}
 use Rattle.channel_actions.proofs.Settles.{follows_by}
 use Rattle.channel_actions.specs.Agrees.{Agrees}
-use Rattle.channel_actions.specs.Calm.{IsAt}
+use Rattle.channel_actions.specs.Quiescent.{IsAt}
 use Rattle.channel_actions.specs.Stages.{IsSettled}
 use Rattle.channel_core.specs.Settling.{most, prepared, queue_served, round, rounds, settled}
 use Rattle.channel_core.specs.States.{StateSeen}
@@ -143,7 +143,7 @@ closes_by o s at done =
     ∙ last_by (next_of_clock s) (next_take_over s) (next_connected s) (first_of (config_action s) s.calls) (next_of_pass o s) (next_due_attempt s) (next_of_queue s)
     action.EntryCloses tended.clock tended.take_over tended.connected tended.configs tended.pass done.made.due done.queue in
     ap (option_and_then (following_in s)) at.current
-    ∙ follows_by (of_calls o s) (of_links o s) (of_policies o s) (of_stage o s o.stage) action.EntryCloses at.calm.calls at.calm.links at.calm.policies stage_gives
+    ∙ follows_by (of_calls o s) (of_links o s) (of_policies o s) (of_stage o s o.stage) action.EntryCloses at.quiescent.calls at.quiescent.links at.quiescent.policies stage_gives
 
 module _ (keeps : SettlingKeeps) (clocks : ClockSteps) (nets : NetSteps) (configs : ConfigSteps) (steps : RoundSteps) (ends : RoundsEnd) (x : StateSeen) (o : OpenEntry)
     (s : Seen) (h : Agrees x s) (sound : IsSound x s) (at : IsAt stage.Settling o s) (fresh : o.turn ≡ None) where

@@ -8,15 +8,15 @@ use Rattle.channel_actions.specs.Clock.{SeesClock}
 use Rattle.channel_actions.specs.Columns.{SeesColumns}
 use Rattle.channel_actions.specs.Configs.{SeesBuckets, SeesConfigs}
 use Rattle.channel_actions.specs.Links.{SeesLinks}
-use Rattle.channel_actions.specs.Sets.{AreExactly, SeesSets, is_in_bare, is_in_deadlines, is_in_dues, is_in_impatient}
+use Rattle.channel_actions.specs.Sets.{PairsAreExactly, SeesSets, is_awaiting_config, is_in_deadlines, is_in_dues, is_in_fail_fast}
 use Rattle.channel_core.specs.States.{StateSeen}
 use Rattle.channel_core.specs.Steps.{closed}
 use Rattle.channel_core.specs.declared.state.links.LinkSlot.{LinkSlot}
 use Rattle.grpc_base.specs.declared.event.EndCause.{EndCause}
-use Rattle.call_cases.specs.EndsFollow.Cuts.{AreCutOff, AreUnreset}
+use Rattle.call_cases.specs.EndsFollow.Cuts.{AttemptsAreCutOff, NoStreamIsToReset}
 use Rattle.call_cases.specs.EndsFollow.Laws.{IsSameRest, is_late, is_out_of}
 use Rattle.channel_actions.specs.KeptSessions.Kept.{IsKept}
-use Rattle.call_cases.specs.LinkEnds.Laws.{AreResetToo, with_cuts}
+use Rattle.call_cases.specs.LinkEnds.Laws.{StreamsAreResetToo, with_cuts}
 use Rattle.net_actions.specs.Runs.{IsOfCalls}
 use Rattle.net_actions.specs.Sees.{Sees}
 use Rattle.call_cases.specs.OtherCalls.Others.{GoesApart}
@@ -33,7 +33,7 @@ use Rattle.session_actions.specs.declared.call.Call.{Call}
 use Rattle.session_actions.specs.declared.entry.OpenEntry.{OpenEntry}
 use Rattle.session_actions.specs.declared.link.Link.{Link}
 use Rattle.session_actions.specs.declared.seen.Seen.{Seen}
-use Rattle.session_order.specs.Calm.{IsStill}
+use Rattle.session_order.specs.Quiescent.{IsStill}
 use Rattle.session_order.specs.Lines.{is_line}
 use Rattle.session_order.specs.declared.line.Line.{Line}
 use Rattle.session_order.specs.declared.line.Line.TheVariants as line
@@ -43,7 +43,7 @@ pub record EndsNext (waits : Line → Bool) (number : ℕ) (why : EndCause) (x :
   pub late : (l : Line) → waits l ≡ true → is_late l ≡ true
   pub current : s.current ≡ Some o
   pub agrees : Agrees x s
-  pub unreset : AreUnreset s
+  pub unreset : NoStreamIsToReset s
   pub call : Call
   pub there : numbered s.calls number ≡ Some call
   pub going : call.end ≡ None
@@ -89,7 +89,7 @@ pub record IsToEnd (waits : Line → Bool) (number : ℕ) (why : EndCause) (x : 
   pub uncut : IsStill line.Cut o s
   pub unfollowed : IsStill line.Transparent o s
   pub still : (l : Line) → is_line l line.Cut ≡ false → waits l ≡ false → IsStill l o (call_ended number why s)
-  pub reset : (t : Seen) (cuts : List Attempt) → cuts ≡ filter (is_out_of number) s.attempts → AreCutOff cuts (call_ended number why s) t → AreResetToo (with_cuts cuts x) t
+  pub reset : (t : Seen) (cuts : List Attempt) → cuts ≡ filter (is_out_of number) s.attempts → AttemptsAreCutOff cuts (call_ended number why s) t → StreamsAreResetToo (with_cuts cuts x) t
 
 -- what is so of all but the books, once nothing follows from it any more: each of the actions was next; all attempts of the call that were outstanding were cut
 -- off; the links, as the channel then has them, agree; and so does the net
@@ -104,16 +104,16 @@ pub record EndsOn (waits : Line → Bool) (number : ℕ) (why : EndCause) (x : S
   pub still : (l : Line) → waits l ≡ false → IsStill l o seen
   pub rest : IsSameRest s seen
   pub kept : IsKept seen
-  pub unreset : AreUnreset seen
+  pub unreset : NoStreamIsToReset seen
   pub links : SeesLinks (with_cuts cuts x) seen
   pub net : Sees seen x.net
 
 -- the moments for which calls wait, and the calls without a config
 pub record TimersAgree (y : StateSeen) (s : Seen) : Type 0 where
-  pub dues : AreExactly y.dues (is_in_dues s)
-  pub deadlines : AreExactly y.deadlines (is_in_deadlines s)
-  pub bare : AreExactly y.bare (is_in_bare s)
-  pub impatient : AreExactly y.impatient (is_in_impatient s)
+  pub dues : PairsAreExactly y.dues (is_in_dues s)
+  pub deadlines : PairsAreExactly y.deadlines (is_in_deadlines s)
+  pub awaiting_config : PairsAreExactly y.awaiting_config (is_awaiting_config s)
+  pub fail_fast : PairsAreExactly y.fail_fast (is_in_fail_fast s)
 
 -- what agrees then: all but the columns of the ledger, the slots of calls, and the sets of rows; and what happened was of this call alone, so that all that is of another one
 -- is as before (`other_calls`)
@@ -147,6 +147,6 @@ pub record HasEnded (waits : Line → Bool) (number : ℕ) (why : EndCause) (x :
   pub setup : seen.setup ≡ s.setup
   pub current : seen.current ≡ Some o
   pub still : (l : Line) → waits l ≡ false → IsStill l o seen
-  pub unreset : AreUnreset seen
+  pub unreset : NoStreamIsToReset seen
   pub links : map unowed seen.links ≡ map unowed s.links
   pub agrees : Agrees (closed why number x) seen

@@ -8,7 +8,7 @@ use Rattle.channel_core.specs.States.{StateSeen}
 use Rattle.grpc_base.specs.declared.event.EndCause.{EndCause}
 use Rattle.grpc_base.specs.declared.event.Event.{Event}
 use Rattle.grpc_base.specs.declared.event.Event.TheVariants as event
-use Rattle.call_cases.specs.EndsFollow.Cuts.{AreUnreset}
+use Rattle.call_cases.specs.EndsFollow.Cuts.{NoStreamIsToReset}
 use Rattle.session_actions.specs.Words.{numbered}
 use Rattle.session_actions.specs.declared.call.Call.{Call}
 use Rattle.session_actions.specs.declared.entry.OpenEntry.{OpenEntry}
@@ -52,7 +52,7 @@ pub record IsLateCancel (e : Event) (x : StateSeen) (s : Seen) : Type 0 where
 pub record IsOpenCancel (e : Event) (x : StateSeen) (s : Seen) : Type 0 where
   pub cancelled : IsCancelled e x s
   pub going : cancelled.call.end ≡ None
-  pub unreset : AreUnreset s
+  pub unreset : NoStreamIsToReset s
 
 abbrev pub LateCancels : Type 0
 LateCancels = EventsAnswered IsLateCancel

@@ -3,7 +3,7 @@
 -- what the call holds, or refused.
 use Rattle.std.specs.Prelude.{List, None, Some, [], ℕ, ◌∷◌, ◌≡◌}
 use Rattle.channel_actions.specs.Agrees.{Agrees}
-use Rattle.channel_actions.specs.Calm.{IsCalm}
+use Rattle.channel_actions.specs.Quiescent.{IsQuiescent}
 use Rattle.channel_actions.specs.Stages.{EventsAnswered}
 use Rattle.channel_core.specs.Applying as channel
 use Rattle.channel_core.specs.States.{StateSeen}
@@ -12,7 +12,7 @@ use Rattle.call_cases.specs.FullSends.Laws.{LeadsToCommit, commits}
 use Rattle.grpc_base.specs.declared.event.Event.{Event}
 use Rattle.grpc_base.specs.declared.event.Event.TheVariants as event
 use Rattle.grpc_base.specs.declared.event.Reply.{Reply}
-use Rattle.call_cases.specs.LongSends.Laws.{AreUnreset, CallsEndAlike}
+use Rattle.call_cases.specs.LongSends.Laws.{NoStreamIsReset, CallsEndAlike}
 use Rattle.session_actions.specs.Laws.{posted_in}
 use Rattle.session_actions.specs.Sessions.{Does}
 use Rattle.session_actions.specs.declared.action.Action.{Action}
@@ -30,12 +30,12 @@ pub record CommitsAlike (number row : ℕ) (why : CommitCause) (x : StateSeen) (
   pub entries : seen.entries ≡ s.entries
   pub setup : seen.setup ≡ s.setup
   pub current : seen.current ≡ Some o
-  pub calm : IsCalm o seen
+  pub quiescent : IsQuiescent o seen
   pub agrees : Agrees (sealed (call_asked (commits row x.book.moment) number x)) seen
 
 abbrev pub CallsCommitAlike : Type 0
 CallsCommitAlike =
-    (number : ℕ) (why : CommitCause) (x y : StateSeen) (r : Reply) (o : OpenEntry) (s : Seen) → AreUnreset s → (led : LeadsToCommit number why x y r o s)
+    (number : ℕ) (why : CommitCause) (x y : StateSeen) (r : Reply) (o : OpenEntry) (s : Seen) → NoStreamIsReset s → (led : LeadsToCommit number why x y r o s)
     → CommitsAlike number led.attempt.place why led.between led.entry led.seen
 
 -- any Send of a call that is there, while the channel is open; no stream was reset of an attempt that goes on
@@ -44,7 +44,7 @@ pub record IsSend (e : Event) (x : StateSeen) (s : Seen) : Type 0 where
   pub message : List ℕ
   pub event_is : e ≡ event.Send call message
   pub kept : channel.refusal_of e x ≡ None
-  pub unreset : AreUnreset s
+  pub unreset : NoStreamIsReset s
 
 abbrev pub SendsAreAllAnswered : Type 0
 SendsAreAllAnswered = CallsEndAlike → CallsCommitAlike → EventsAnswered IsSend

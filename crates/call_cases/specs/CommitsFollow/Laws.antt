@@ -7,8 +7,8 @@ use Rattle.std.specs.List.{list_all}
 use Rattle.std.specs.Prelude.{Bool, List, Some, false, filter, is_some, not, true, ℕ, ◌&&◌, ◌++◌, ◌==◌, ◌∷◌, ◌≡◌}
 use Rattle.call_actions.specs.CallsApart.Apart.{IsBook}
 use Rattle.call_actions.specs.Order.{IsInOrder, IsInTurn}
-use Rattle.call_actions.specs.TakeActions.Cuts.{AreCut, CanCommit}
-use Rattle.call_cases.specs.EndsFollow.Cuts.{AreCutOff, AreReset}
+use Rattle.call_actions.specs.TakeActions.Cuts.{AttemptsAreCut, CanCommit}
+use Rattle.call_cases.specs.EndsFollow.Cuts.{AttemptsAreCutOff, StreamsAreReset}
 use Rattle.call_cases.specs.EndsFollow.Laws.{IsSameRest, is_late}
 use Rattle.session_actions.specs.Actions.{following}
 use Rattle.session_actions.specs.Attempts.{call_of, is_outstanding}
@@ -22,7 +22,7 @@ use Rattle.session_actions.specs.declared.attempt.Attempt.{Attempt}
 use Rattle.session_actions.specs.declared.call.Call.{Call}
 use Rattle.session_actions.specs.declared.entry.OpenEntry.{OpenEntry}
 use Rattle.session_actions.specs.declared.seen.Seen.{Seen}
-use Rattle.session_order.specs.Calm.{IsStill}
+use Rattle.session_order.specs.Quiescent.{IsStill}
 use Rattle.session_order.specs.Lines.{is_line}
 use Rattle.session_order.specs.declared.line.Line.{Line}
 use Rattle.session_order.specs.declared.line.Line.TheVariants as line
@@ -53,12 +53,12 @@ is_other_out number own a = (a.row.call == number) && (is_outstanding a && not (
 pub record OthersAreOut (number : ℕ) (k : Attempt) (s t : Seen) : Type 0 where
   pub attempts : List Attempt
   pub all : attempts ≡ filter (is_other_out number k.row.number) s.attempts
-  pub off : AreCutOff attempts (call_committed k.place s) t
+  pub off : AttemptsAreCutOff attempts (call_committed k.place s) t
 
 abbrev pub OthersAreCutOff : Type 0
 OthersAreCutOff =
     (waits : Line → Bool) (number : ℕ) (why : CommitCause) (o : OpenEntry) (s t : Seen) (cuts : List Action) → (is : IsNextToCommit waits number why o s)
-    → AreCut number cuts (call_committed is.attempt.place s) t → OthersAreOut number is.attempt s t
+    → AttemptsAreCut number cuts (call_committed is.attempt.place s) t → OthersAreOut number is.attempt s t
 
 -- so each of these actions is next, and nothing else follows from them
 pub record CommitFollowsOn (waits : Line → Bool) (place : ℕ) (why : CommitCause) (o : OpenEntry) (s : Seen) (actions : List Action) (u : Seen) : Type 0 where
@@ -70,5 +70,5 @@ pub record CommitFollowsOn (waits : Line → Bool) (place : ℕ) (why : CommitCa
 abbrev pub CommitsFollow : Type 0
 CommitsFollow =
     (waits : Line → Bool) (number : ℕ) (why : CommitCause) (o : OpenEntry) (s t u : Seen) (cuts resets : List Action) → (is : IsNextToCommit waits number why o s)
-    → AreCut number cuts (call_committed is.attempt.place s) t → AreReset resets t u
+    → AttemptsAreCut number cuts (call_committed is.attempt.place s) t → StreamsAreReset resets t u
     → CommitFollowsOn waits is.attempt.place why o s (cuts ++ resets) u

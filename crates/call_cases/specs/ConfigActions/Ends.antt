@@ -2,7 +2,7 @@
 -- Example: call 1 waits for a config, the resolution fails, and CallEnds 1 is next. After it nothing follows at once, and channel and session agree, with call 1
 -- ended in both.
 use Rattle.std.specs.Prelude.{List, Some, [], ◌∷◌, ◌≡◌, ℕ}
-use Rattle.call_actions.specs.Laws.{IsBare}
+use Rattle.call_actions.specs.Laws.{IsUnconfigured}
 use Rattle.channel_actions.specs.Agrees.{Agrees}
 use Rattle.channel_core.specs.States.{StateSeen}
 use Rattle.channel_core.specs.Steps.{closed}
@@ -17,21 +17,21 @@ use Rattle.session_actions.specs.declared.action.Action.TheVariants as action
 use Rattle.session_actions.specs.declared.call.Call.{Call}
 use Rattle.session_actions.specs.declared.entry.OpenEntry.{OpenEntry}
 use Rattle.session_actions.specs.declared.seen.Seen.{Seen}
-use Rattle.session_order.specs.Calm.{IsCalm}
+use Rattle.session_order.specs.Quiescent.{IsQuiescent}
 
 -- its end is next, and nothing follows at once
-pub record BareEndsNext (number : ℕ) (why : EndCause) (x : StateSeen) (o : OpenEntry) (s : Seen) : Type 0 where
+pub record UnconfiguredEndsNext (number : ℕ) (why : EndCause) (x : StateSeen) (o : OpenEntry) (s : Seen) : Type 0 where
   pub current : s.current ≡ Some o
   pub agrees : Agrees x s
   pub early : IsEarlyKept s
   pub call : Call
   pub there : numbered s.calls number ≡ Some call
-  pub bare : IsBare s call
-  pub calm : IsCalm o s
+  pub awaiting_config : IsUnconfigured s call
+  pub quiescent : IsQuiescent o s
   pub next : following s ≡ Some (action.CallEnds number why)
 
 -- it has ended, in the same entry, and nothing follows at once
-pub record BareHasEnded (number : ℕ) (why : EndCause) (x : StateSeen) (o : OpenEntry) (s : Seen) : Type 0 where
+pub record UnconfiguredHasEnded (number : ℕ) (why : EndCause) (x : StateSeen) (o : OpenEntry) (s : Seen) : Type 0 where
   pub actions : List Action
   pub seen : Seen
   pub does : Does (action.CallEnds number why ∷ actions) s seen
@@ -39,9 +39,9 @@ pub record BareHasEnded (number : ℕ) (why : EndCause) (x : StateSeen) (o : Ope
   pub entries : seen.entries ≡ s.entries
   pub setup : seen.setup ≡ s.setup
   pub current : seen.current ≡ Some o
-  pub calm : IsCalm o seen
+  pub quiescent : IsQuiescent o seen
   pub agrees : Agrees (closed why number x) seen
 
-abbrev pub BareCallsEnd : Type 0
-BareCallsEnd =
-    (number : ℕ) (why : EndCause) (x : StateSeen) (o : OpenEntry) (s : Seen) → BareEndsNext number why x o s → BareHasEnded number why x o s
+abbrev pub UnconfiguredCallsEnd : Type 0
+UnconfiguredCallsEnd =
+    (number : ℕ) (why : EndCause) (x : StateSeen) (o : OpenEntry) (s : Seen) → UnconfiguredEndsNext number why x o s → UnconfiguredHasEnded number why x o s

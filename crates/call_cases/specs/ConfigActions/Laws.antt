@@ -4,13 +4,13 @@
 use Rattle.std.specs.Prelude.{None, Some, false, true, ℕ, ◌≡◌}
 use Rattle.call_core.specs.Parts.{is_too_long}
 use Rattle.channel_actions.specs.Agrees.{Agrees}
-use Rattle.channel_actions.specs.Calm.{IsAt}
+use Rattle.channel_actions.specs.Quiescent.{IsAt}
 use Rattle.channel_actions.specs.Stages.{SettlingsOf}
 use Rattle.channel_core.specs.Books.{slot_at}
 use Rattle.channel_core.specs.States.{StateSeen}
-use Rattle.channel_core.specs.Steps.{bare_served, clocked, net_settled}
+use Rattle.channel_core.specs.Steps.{unconfigured_served, clocked, net_settled}
 use Rattle.channel_core.specs.declared.state.slots.CallSlot.{CallSlot}
-use Rattle.call_cases.specs.ConfigActions.Ends.{BareCallsEnd}
+use Rattle.call_cases.specs.ConfigActions.Ends.{UnconfiguredCallsEnd}
 use Rattle.picker_gate.specs.Pairs.{has}
 use Rattle.service_config.specs.Choice.{chosen_for}
 use Rattle.service_config.specs.declared.config.Config.{Config}
@@ -23,26 +23,26 @@ use Rattle.call_cases.specs.SettlingActions.Steps.{ClockSteps, IsJoined, IsTende
 -- the step of configs, where no config is held
 abbrev pub UnservedCallsEnd : Type 0
 UnservedCallsEnd =
-    BareCallsEnd → (x : StateSeen) (o : OpenEntry) (s : Seen) → Agrees x s → IsSound x s → IsAt stage.Settling o s → IsJoined o s → x.held ≡ None
-    → Leads (bare_served x) o s IsTended
+    UnconfiguredCallsEnd → (x : StateSeen) (o : OpenEntry) (s : Seen) → Agrees x s → IsSound x s → IsAt stage.Settling o s → IsJoined o s → x.held ≡ None
+    → Leads (unconfigured_served x) o s IsTended
 
 -- and where one is held, and allows each message that calls without a config accepted, each of them gets it. (A call that accepted a longer one ends at once;
 -- that is not stated here.)
 abbrev pub IsAllowed : Config → StateSeen → Type 0
 IsAllowed config x =
-    (number : ℕ) (slot : CallSlot) → has x.bare (0, number) ≡ true → slot_at x.book number ≡ Some slot
+    (number : ℕ) (slot : CallSlot) → has x.awaiting_config (0, number) ≡ true → slot_at x.book number ≡ Some slot
     → is_too_long (Some (chosen_for config slot.call.request.path)) slot.call.longest ≡ false
 
 abbrev pub ServedCallsGetConfigs : Type 0
 ServedCallsGetConfigs =
     (config : Config) (x : StateSeen) (o : OpenEntry) (s : Seen) → Agrees x s → IsSound x s → IsAt stage.Settling o s → IsJoined o s → x.held ≡ Some config
-    → IsAllowed config x → Leads (bare_served x) o s IsTended
+    → IsAllowed config x → Leads (unconfigured_served x) o s IsTended
 
 -- so it is whichever config is held, if any
 abbrev pub ConfigsAreStep : Type 0
 ConfigsAreStep =
-    BareCallsEnd → (x : StateSeen) (o : OpenEntry) (s : Seen) → Agrees x s → IsSound x s → IsAt stage.Settling o s → IsJoined o s
-    → ((config : Config) → x.held ≡ Some config → IsAllowed config x) → Leads (bare_served x) o s IsTended
+    UnconfiguredCallsEnd → (x : StateSeen) (o : OpenEntry) (s : Seen) → Agrees x s → IsSound x s → IsAt stage.Settling o s → IsJoined o s
+    → ((config : Config) → x.held ≡ Some config → IsAllowed config x) → Leads (unconfigured_served x) o s IsTended
 
 -- a whole settling where no config is held: once the net has done its part, calls end or wait, and no attempt is due or queued, since there is none
 pub record IsUnserved (x : StateSeen) (s : Seen) : Type 0 where
@@ -50,4 +50,4 @@ pub record IsUnserved (x : StateSeen) (s : Seen) : Type 0 where
   pub unheld : x.held ≡ None
 
 abbrev pub UnservedSettlings : Type 0
-UnservedSettlings = BareCallsEnd → SoundStays clocked → SoundStays net_settled → ClockSteps → NetSteps → SettlingsOf IsUnserved
+UnservedSettlings = UnconfiguredCallsEnd → SoundStays clocked → SoundStays net_settled → ClockSteps → NetSteps → SettlingsOf IsUnserved

@@ -3,7 +3,7 @@
 -- Example: a call with a timeout of 9 s waits at 2 s, and a config with a timeout of 3 s is held. It has the deadline 5 s, if it began at 2 s, and its first
 -- attempt is due at 2 s. It is in none of the sets of calls without a config any more.
 use Rattle.std.specs.Prelude.{Some, length, ℕ, ◌≡◌}
-use Rattle.call_actions.specs.Laws.{IsBare}
+use Rattle.call_actions.specs.Laws.{IsUnconfigured}
 use Rattle.channel_actions.specs.Agrees.{Agrees}
 use Rattle.channel_actions.specs.Calls.{HasSlot}
 use Rattle.channel_core.specs.States.{StateSeen}
@@ -38,7 +38,7 @@ pub record ConfigNext (number : ℕ) (x : StateSeen) (o : OpenEntry) (s : Seen) 
   pub agrees : Agrees x s
   pub call : Call
   pub there : numbered s.calls number ≡ Some call
-  pub bare : IsBare s call
+  pub awaiting_config : IsUnconfigured s call
   pub held : HeldConfig
   pub is_held : held_config s ≡ Some held
   pub next : following s ≡ Some (action.CallConfigured number (length s.configs))

@@ -25,8 +25,8 @@ timed slot = with_timers (due_at (Some slot)) (deadline_of (Some slot)) slot
 
 abbrev pub with_config : Chosen → ℕ → CallSlot → StateSeen → StateSeen
 with_config chosen number slot x = record x {
-  bare = remove_key (is_same (0, number)) x.bare;
-  impatient = remove_key (is_same (0, number)) x.impatient;
+  awaiting_config = remove_key (is_same (0, number)) x.awaiting_config;
+  fail_fast = remove_key (is_same (0, number)) x.fail_fast;
   dues = timer_moved number slot.due (due_at (Some (chosen_slot chosen slot x))) x.dues;
   deadlines = timer_moved number slot.deadline (deadline_of (Some (chosen_slot chosen slot x))) x.deadlines;
   book = record x.book {

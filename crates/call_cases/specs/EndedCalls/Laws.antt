@@ -3,14 +3,14 @@
 -- Example: the config of call 1 allows 10 bytes, and it is sent 11. EventAnswered Done, CallEnds 1 for its request, AttemptEnds of its attempts, and StreamReset of
 -- their streams. Call 2 accepted 11 bytes before a config came: CallConfigured 2 and CallEnds 2 for its request follow one another.
 use Rattle.channel_actions.specs.Agrees.{Agrees}
-use Rattle.channel_actions.specs.Calm.{IsAt}
-use Rattle.call_cases.specs.EndsFollow.Cuts.{AreUnreset}
+use Rattle.channel_actions.specs.Quiescent.{IsAt}
+use Rattle.call_cases.specs.EndsFollow.Cuts.{NoStreamIsToReset}
 use Rattle.channel_actions.specs.Stages.{DeadlinesOf, EventsAnswered}
 use Rattle.call_cases.specs.LongSends.Laws.{IsLongSendThen}
 use Rattle.call_cases.specs.SettlingActions.Sound.{IsSound}
 use Rattle.call_cases.specs.SettlingActions.Steps.{IsJoined, IsTended, Leads}
 use Rattle.channel_core.specs.States.{StateSeen}
-use Rattle.channel_core.specs.Steps.{bare_served}
+use Rattle.channel_core.specs.Steps.{unconfigured_served}
 use Rattle.service_config.specs.declared.config.Config.{Config}
 use Rattle.session_actions.specs.declared.entry.OpenEntry.{OpenEntry}
 use Rattle.session_actions.specs.declared.entry.Stage.TheVariants as stage
@@ -23,7 +23,7 @@ LongSendsEnd = EventsAnswered IsLongSendThen
 -- calls whose deadline has come end one after the other, the earliest first, until none is left; also where none has come. (Asked is of the session that no stream was
 -- reset of an attempt that goes on, which `kept_calls` has of every session, and that numbers of calls do not end, which no session reaches.)
 pub record IsTimed (x : StateSeen) (s : Seen) : Type 0 where
-  pub unreset : AreUnreset s
+  pub unreset : NoStreamIsToReset s
   pub few : length s.calls ≤ 4294967295
 
 abbrev pub DeadlinesAreMet : Type 0
@@ -34,4 +34,4 @@ DeadlinesAreMet = DeadlinesOf IsTimed
 abbrev pub CallsGetConfigsOrEnd : Type 0
 CallsGetConfigsOrEnd =
     (config : Config) (x : StateSeen) (o : OpenEntry) (s : Seen) → Agrees x s → IsSound x s → IsAt stage.Settling o s → IsJoined o s → x.held ≡ Some config
-    → Leads (bare_served x) o s IsTended
+    → Leads (unconfigured_served x) o s IsTended

@@ -23,15 +23,15 @@ cut_off a s = attempt_ended a.place (end_of a cut_end s) s
 abbrev pub is_unreset : Attempt → Bool
 is_unreset a = is_some a.row.ended || not a.reset
 
-abbrev pub AreUnreset : Seen → Type 0
-AreUnreset s = list_all is_unreset s.attempts ≡ true
+abbrev pub NoStreamIsToReset : Seen → Type 0
+NoStreamIsToReset s = list_all is_unreset s.attempts ≡ true
 
 -- these are cut off, one after the other
-abbrev pub AreCutOff : List Attempt → Seen → Seen → Type 0
-AreCutOff [] s t = t ≡ s
-AreCutOff (a ∷ cuts) s t = IsOut s a × AreCutOff cuts (cut_off a s) t
+abbrev pub AttemptsAreCutOff : List Attempt → Seen → Seen → Type 0
+AttemptsAreCutOff [] s t = t ≡ s
+AttemptsAreCutOff (a ∷ cuts) s t = IsOut s a × AttemptsAreCutOff cuts (cut_off a s) t
 
 -- streams are reset, each the next one, until none is left
-abbrev pub AreReset : List Action → Seen → Seen → Type 0
-AreReset [] s t = (next_reset s ≡ None) × (t ≡ s)
-AreReset (a ∷ actions) s t = (next_reset s ≡ Some a) × AreReset actions (after a s) t
+abbrev pub StreamsAreReset : List Action → Seen → Seen → Type 0
+StreamsAreReset [] s t = (next_reset s ≡ None) × (t ≡ s)
+StreamsAreReset (a ∷ actions) s t = (next_reset s ≡ Some a) × StreamsAreReset actions (after a s) t

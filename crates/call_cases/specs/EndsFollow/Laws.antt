@@ -6,7 +6,7 @@ use Rattle.std.specs.List.{list_all}
 use Rattle.std.specs.Prelude.{Bool, List, Some, false, filter, is_some, true, ℕ, ◌&&◌, ◌++◌, ◌==◌, ◌∷◌, ◌≡◌}
 use Rattle.call_actions.specs.Order.{IsInOrder, IsInTurn}
 use Rattle.call_actions.specs.CallsApart.Apart.{IsBook}
-use Rattle.call_cases.specs.EndsFollow.Cuts.{AreCutOff, AreReset}
+use Rattle.call_cases.specs.EndsFollow.Cuts.{AttemptsAreCutOff, StreamsAreReset}
 use Rattle.grpc_base.specs.declared.event.EndCause.{EndCause}
 use Rattle.session_actions.specs.Actions.{following}
 use Rattle.session_actions.specs.Attempts.{call_of, is_outstanding}
@@ -19,11 +19,11 @@ use Rattle.session_actions.specs.declared.attempt.Attempt.{Attempt}
 use Rattle.session_actions.specs.declared.call.Call.{Call}
 use Rattle.session_actions.specs.declared.entry.OpenEntry.{OpenEntry}
 use Rattle.session_actions.specs.declared.seen.Seen.{Seen}
-use Rattle.session_order.specs.Calm.{IsStill}
+use Rattle.session_order.specs.Quiescent.{IsStill}
 use Rattle.session_order.specs.Lines.{is_line, is_of_policies}
 use Rattle.session_order.specs.declared.line.Line.{Line}
 use Rattle.session_order.specs.declared.line.Line.TheVariants as line
-use Rattle.call_actions.specs.TakeActions.Cuts.{AreCut}
+use Rattle.call_actions.specs.TakeActions.Cuts.{AttemptsAreCut}
 
 -- the lines that come after the resets: of a channel that is shut down, and of policies. Some of them may still give something
 abbrev pub is_late : Line → Bool
@@ -54,12 +54,12 @@ is_out_of number a = (a.row.call == number) && is_outstanding a
 pub record AreAllOut (number : ℕ) (why : EndCause) (s t : Seen) : Type 0 where
   pub attempts : List Attempt
   pub all : attempts ≡ filter (is_out_of number) s.attempts
-  pub off : AreCutOff attempts (call_ended number why s) t
+  pub off : AttemptsAreCutOff attempts (call_ended number why s) t
 
 abbrev pub CutsAreOut : Type 0
 CutsAreOut =
     (waits : Line → Bool) (number : ℕ) (why : EndCause) (o : OpenEntry) (s t : Seen) (cuts : List Action) → IsNextToEnd waits number why o s
-    → AreCut number cuts (call_ended number why s) t → AreAllOut number why s t
+    → AttemptsAreCut number cuts (call_ended number why s) t → AreAllOut number why s t
 
 -- what is left of all but calls, attempts and links
 pub record IsSameRest (s u : Seen) : Type 0 where
@@ -83,4 +83,4 @@ pub record FollowsOn (waits : Line → Bool) (number : ℕ) (why : EndCause) (o 
 abbrev pub EndsFollow : Type 0
 EndsFollow =
     (waits : Line → Bool) (number : ℕ) (why : EndCause) (o : OpenEntry) (s t u : Seen) (cuts resets : List Action) → IsNextToEnd waits number why o s
-    → AreCut number cuts (call_ended number why s) t → AreReset resets t u → FollowsOn waits number why o s (cuts ++ resets) u
+    → AttemptsAreCut number cuts (call_ended number why s) t → StreamsAreReset resets t u → FollowsOn waits number why o s (cuts ++ resets) u

@@ -2,14 +2,14 @@
 -- are reset. It is stated of any attempts, so of the end of a call and of a commitment alike (gRPC, "Core concepts": Cancelling an RPC; gRFC A6, "When Retries
 -- are Valid"; RFC 9113, section 6.4).
 -- Example: call 1 is cancelled, with attempts on the links 1 and 2. After the resets of their streams the links 1 and 2 agree with the session, each with
--- RST_STREAM queued behind all that it owed; and link 3 does as before.
+-- RST_STREAM queued after all that it owed; and link 3 does as before.
 use Rattle.std.specs.List.{list_any}
 use Rattle.std.specs.Prelude.{List, false, is_some, true, ℕ, ◌≡◌}
 use Rattle.channel_actions.specs.Links.{SeesLinks}
 use Rattle.channel_core.specs.States.{StateSeen}
 use Rattle.grpc_base.specs.declared.event.EndCause.{EndCause}
 use Rattle.channel_actions.specs.KeptSessions.Kept.{IsKept}
-use Rattle.call_cases.specs.EndsFollow.Cuts.{AreCutOff, AreReset, AreUnreset}
+use Rattle.call_cases.specs.EndsFollow.Cuts.{AttemptsAreCutOff, StreamsAreReset, NoStreamIsToReset}
 use Rattle.call_cases.specs.LinkEnds.Cuts.{links_closed, links_cut}
 use Rattle.session_actions.specs.AttemptEnds.{reset_code_of}
 use Rattle.session_actions.specs.CallEnds.{call_ended}
@@ -28,14 +28,14 @@ with_cuts cuts x = record x { links = links_closed cuts (links_cut cuts x.links)
 
 -- no stream is to be reset; attempts are cut off; and then resets follow, until none is left. (That no stream was reset of an attempt that goes on is asked of
 -- the session: StreamReset is given of attempts alone that ended.)
-pub record AreResetToo (x : StateSeen) (t : Seen) : Type 0 where
+pub record StreamsAreResetToo (x : StateSeen) (t : Seen) : Type 0 where
   pub actions : List Action
   pub seen : Seen
-  pub resets : AreReset actions t seen
-  pub unreset : AreUnreset seen
+  pub resets : StreamsAreReset actions t seen
+  pub unreset : NoStreamIsToReset seen
   pub links : SeesLinks x seen
 
 abbrev pub CutsAreReset : Type 0
 CutsAreReset =
     (x : StateSeen) (s t : Seen) (cuts : List Attempt) → is_some s.current ≡ true → IsKept s → SeesLinks x s
-    → AreUnreset s → list_any (λ a. is_some (reset_code_of s a)) s.attempts ≡ false → AreCutOff cuts s t → AreResetToo (with_cuts cuts x) t
+    → NoStreamIsToReset s → list_any (λ a. is_some (reset_code_of s a)) s.attempts ≡ false → AttemptsAreCutOff cuts s t → StreamsAreResetToo (with_cuts cuts x) t

@@ -6,7 +6,7 @@ use Rattle.std.specs.Prelude.{List, None, Some, [], false, is_some, length, not,
 use Rattle.call_core.specs.Parts.{is_too_long}
 use Rattle.call_core.specs.Steps.{send_refusal}
 use Rattle.channel_actions.specs.Agrees.{Agrees}
-use Rattle.channel_actions.specs.Calm.{IsAt, IsCalm}
+use Rattle.channel_actions.specs.Quiescent.{IsAt, IsQuiescent}
 use Rattle.channel_actions.specs.Points.{IsSameEntry}
 use Rattle.channel_actions.specs.Stages.{EventsAnswered}
 use Rattle.channel_core.specs.Applying as channel
@@ -32,7 +32,7 @@ use Rattle.session_actions.specs.declared.call.Call.{Call}
 use Rattle.session_actions.specs.declared.entry.OpenEntry.{OpenEntry}
 use Rattle.session_actions.specs.declared.entry.Stage.TheVariants as stage
 use Rattle.session_actions.specs.declared.seen.Seen.{Seen}
-use Rattle.session_order.specs.Calm.{IsStill}
+use Rattle.session_order.specs.Quiescent.{IsStill}
 use Rattle.session_order.specs.Lines.{is_line}
 use Rattle.session_order.specs.declared.line.Line.{Line}
 use Rattle.session_order.specs.declared.line.Line.TheVariants as line
@@ -81,8 +81,8 @@ LongSendsLead =
 
 -- So it is answered as any other event, where a call that is to end ends alike in both. That is asked here, of sessions in which no stream was reset of an
 -- attempt that goes on; `call_ends` states it
-abbrev pub AreUnreset : Seen → Type 0
-AreUnreset s = list_all (λ a. is_some a.row.ended || not a.reset) s.attempts ≡ true
+abbrev pub NoStreamIsReset : Seen → Type 0
+NoStreamIsReset s = list_all (λ a. is_some a.row.ended || not a.reset) s.attempts ≡ true
 
 pub record EndsAlike (number : ℕ) (why : EndCause) (x : StateSeen) (o : OpenEntry) (s : Seen) : Type 0 where
   pub actions : List Action
@@ -92,16 +92,16 @@ pub record EndsAlike (number : ℕ) (why : EndCause) (x : StateSeen) (o : OpenEn
   pub entries : seen.entries ≡ s.entries
   pub setup : seen.setup ≡ s.setup
   pub current : seen.current ≡ Some o
-  pub calm : IsCalm o seen
+  pub quiescent : IsQuiescent o seen
   pub agrees : Agrees (closed why number x) seen
 
 abbrev pub CallsEndAlike : Type 0
 CallsEndAlike =
-    (number : ℕ) (why : EndCause) (x : StateSeen) (o : OpenEntry) (s : Seen) → AreUnreset s → IsToEnd number why x o s → EndsAlike number why x o s
+    (number : ℕ) (why : EndCause) (x : StateSeen) (o : OpenEntry) (s : Seen) → NoStreamIsReset s → IsToEnd number why x o s → EndsAlike number why x o s
 
 pub record IsLongSendThen (e : Event) (x : StateSeen) (s : Seen) : Type 0 where
   pub send : IsLongSend e x s
-  pub unreset : AreUnreset s
+  pub unreset : NoStreamIsReset s
 
 abbrev pub LongSendsAreAnswered : Type 0
 LongSendsAreAnswered = CallsEndAlike → EventsAnswered IsLongSendThen

@@ -5,7 +5,7 @@ use Rattle.call_actions.specs.CallsApart.Apart.{has_config, run_number}
 use Rattle.call_actions.specs.CallsApart.Laws.{tokens_in_run}
 use Rattle.channel_actions.specs.Calls.{HasSlot, SeesCalls}
 use Rattle.channel_actions.specs.Configs.{SeesBuckets, bucket_place}
-use Rattle.channel_actions.specs.Sets.{is_in_bare, is_in_deadlines, is_in_dues, is_in_impatient, is_in_outstanding, is_in_patient, is_in_queue}
+use Rattle.channel_actions.specs.Sets.{is_awaiting_config, is_in_deadlines, is_in_dues, is_in_fail_fast, is_in_outstanding, is_in_ready_waiters, is_in_queue}
 use Rattle.channel_core.specs.States.{StateSeen}
 use Rattle.channel_core.specs.Tables.{BucketsSeen, tokens_in}
 use Rattle.call_cases.specs.OtherCalls.Others.{BooksApart, GoesApart, is_of_number}
@@ -44,11 +44,11 @@ RowsStay =
 -- the channel's sets: what they say of other calls, and the outstanding attempts of other calls by row
 pub record SetsApart (number : ℕ) (s t : Seen) : Type 0 where
   pub queue : (k row : ℕ) → (k == number) ≡ false → is_in_queue t k row ≡ is_in_queue s k row
-  pub patient : (k row : ℕ) → (k == number) ≡ false → is_in_patient t k row ≡ is_in_patient s k row
+  pub ready_waiters : (k row : ℕ) → (k == number) ≡ false → is_in_ready_waiters t k row ≡ is_in_ready_waiters s k row
   pub dues : (moment k : ℕ) → (k == number) ≡ false → is_in_dues t moment k ≡ is_in_dues s moment k
   pub deadlines : (moment k : ℕ) → (k == number) ≡ false → is_in_deadlines t moment k ≡ is_in_deadlines s moment k
-  pub bare : (zero_ k : ℕ) → (k == number) ≡ false → is_in_bare t zero_ k ≡ is_in_bare s zero_ k
-  pub impatient : (zero_ k : ℕ) → (k == number) ≡ false → is_in_impatient t zero_ k ≡ is_in_impatient s zero_ k
+  pub awaiting_config : (zero_ k : ℕ) → (k == number) ≡ false → is_awaiting_config t zero_ k ≡ is_awaiting_config s zero_ k
+  pub fail_fast : (zero_ k : ℕ) → (k == number) ≡ false → is_in_fail_fast t zero_ k ≡ is_in_fail_fast s zero_ k
   pub outstanding : (link row : ℕ) → is_of_number number (numbered t.attempts row) ≡ false → is_in_outstanding t link row ≡ is_in_outstanding s link row
 
 abbrev pub SetsStay : Type 0

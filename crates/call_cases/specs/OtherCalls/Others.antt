@@ -21,7 +21,7 @@ use Rattle.session_actions.specs.declared.action.Action.{Action}
 use Rattle.session_actions.specs.declared.attempt.Attempt.{Attempt}
 use Rattle.session_actions.specs.declared.call.Call.{Call}
 use Rattle.session_actions.specs.declared.seen.Seen.{Seen}
-use Rattle.call_actions.specs.TakesApart.Heard.{passes_on}
+use Rattle.call_actions.specs.TakesApart.Received.{passes_on}
 
 -- an action is of the call of a number or of no call, and so is what it passes on a link. The number may be that of a call which begins by it; no call has
 -- the number 0
@@ -29,11 +29,11 @@ pub record IsOfCall (number : ℕ) (a : Action) (s : Seen) : Type 0 where
   pub acts : option_map_or (λ k. k == number) (acts_on a s) true ≡ true
   pub passes : (c : Call) → numbered s.calls c.number ≡ Some c → (c.number == number) ≡ false → passes_on a s c ≡ false
 
-abbrev pub AreOfCall : ℕ → List Action → Seen → Type 0
-AreOfCall number [] s = Unit {0}
-AreOfCall number (a ∷ actions) s = IsOfCall number a s × AreOfCall number actions (after a s)
+abbrev pub ActionsAreOfCall : ℕ → List Action → Seen → Type 0
+ActionsAreOfCall number [] s = Unit {0}
+ActionsAreOfCall number (a ∷ actions) s = IsOfCall number a s × ActionsAreOfCall number actions (after a s)
 
--- what is asked of a session, before and after (`IsKept` has all of it): its books are in order, each attempt is of a call, and no frame was read behind the
+-- what is asked of a session, before and after (`IsKept` has all of it): its books are in order, each attempt is of a call, and no frame was read after the
 -- bytes that were read
 pub record IsBooked (s : Seen) : Type 0 where
   pub book : IsBook s
@@ -44,7 +44,7 @@ pub record IsBooked (s : Seen) : Type 0 where
 pub record GoesApart (number : ℕ) (s t : Seen) : Type 0 where
   pub actions : List Action
   pub does : Does actions s t
-  pub apart : AreOfCall number actions s
+  pub apart : ActionsAreOfCall number actions s
   pub earlier : IsBooked s
   pub later : IsBooked t
 

@@ -2,7 +2,7 @@
 -- Example: a backoff is over, and a call waits without a config. The steps are BackoffEnds, then CallConfigured, then AttemptMade; no pick can be had yet, so
 -- the attempt waits, and the entry closes.
 use Rattle.channel_actions.specs.Stages.{SettlingsOf}
-use Rattle.channel_core.specs.Steps.{bare_served, clocked, net_settled}
+use Rattle.channel_core.specs.Steps.{unconfigured_served, clocked, net_settled}
 use Rattle.channel_core.specs.Settling.{queue_served}
 use Rattle.channel_core.specs.States.{StateSeen}
 use Rattle.call_cases.specs.SettlingActions.Sound.{IsSound, SoundStays}
@@ -15,7 +15,7 @@ queue_served_state x = (queue_served x).state
 pub record SettlingKeeps : Type 0 where
   pub clocks : SoundStays clocked
   pub nets : SoundStays net_settled
-  pub configs : SoundStays bare_served
+  pub configs : SoundStays unconfigured_served
   pub making : SoundStays round_made_state
   pub queue : SoundStays queue_served_state
 

@@ -7,7 +7,7 @@ use Rattle.channel_actions.specs.FewCalls.Reached.{IsReached}
 use Rattle.channel_actions.specs.HeldTexts.Fits.{TextsFit}
 use Rattle.channel_actions.specs.KeptCalls.Early.{IsEarlyKept}
 use Rattle.channel_actions.specs.SoundBuffers.Held.{BuffersAreSound}
-use Rattle.channel_actions.specs.SoundCalls.Sound.{AreSoundCalls, all_attempts}
+use Rattle.channel_actions.specs.SoundCalls.Sound.{CallsAreSound, all_attempts}
 use Rattle.channel_core.specs.States.{StateSeen}
 use Rattle.session_actions.specs.Sessions.{Does}
 use Rattle.session_actions.specs.declared.action.Action.{Action}
@@ -21,7 +21,7 @@ pub record IsSound (x : StateSeen) (s : Seen) : Type 0 where
   -- attempt that goes on
   pub reached : IsReached s
   pub early : IsEarlyKept s
-  pub calls : AreSoundCalls x
+  pub calls : CallsAreSound x
   -- and of the channel alone, what its calls hold of their messages
   pub buffers : BuffersAreSound x
   -- which are no more than the session accepted

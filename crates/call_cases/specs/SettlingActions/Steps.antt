@@ -4,11 +4,11 @@
 -- brings AttemptMade, and then PickRequested and AttemptPlaced. The second round does nothing, and the entry closes.
 use Rattle.std.specs.Prelude.{Bool, None, false, if◌then◌else◌, suc, true, zero, ℕ, ◌≡◌}
 use Rattle.channel_actions.specs.Agrees.{Agrees}
-use Rattle.channel_actions.specs.Calm.{IsAt}
+use Rattle.channel_actions.specs.Quiescent.{IsAt}
 use Rattle.channel_actions.specs.Points.{Reaches}
 use Rattle.channel_core.specs.Settling.{most, queue_served, round}
 use Rattle.channel_core.specs.States.{StateSeen}
-use Rattle.channel_core.specs.Steps.{bare_served, clocked, net_settled, round_made}
+use Rattle.channel_core.specs.Steps.{unconfigured_served, clocked, net_settled, round_made}
 use Rattle.session_actions.specs.Actions.{config_action}
 use Rattle.session_actions.specs.Making.{next_due_attempt}
 use Rattle.session_actions.specs.Policies.{next_of_pass, next_of_queue, next_take_over}
@@ -79,7 +79,7 @@ NetSteps = IsStep IsClocked net_settled IsJoined
 
 -- calls get their configs, or end for want of one
 abbrev pub ConfigSteps : Type 0
-ConfigSteps = IsStep IsJoined bare_served IsTended
+ConfigSteps = IsStep IsJoined unconfigured_served IsTended
 
 -- the attempts that are due are made, by call, or a hedge is withheld
 abbrev pub round_made_state : StateSeen → StateSeen

@@ -138,7 +138,7 @@ and_second false b e = absurd (cc)
 pub cut_refused : (end : RowEnd) → is_cut end.cause ≡ true → is_refused end ≡ true → ⊥
 cut_refused end e h = cut_by_peer end.cause e (and_second end.unseen (is_by_peer end.cause) h)
 
--- a step that writes no stamp and tells no end
+-- a step that writes no stamp and reports no end
 pub ended_case : (owner : ℕ) (rows : List Row) (place number : ℕ) (end : RowEnd) → is_by_peer end.cause ≡ true → IsFollowedAt owner rows place number → EndsSo owner rows place number end → IsEndedIn owner rows place end
 ended_case owner rows place number end by_peer f (inl fresh) = absurd (fresh.unfollowed by_peer f)
 ended_case owner rows place number end by_peer f (inr has) = has
@@ -251,7 +251,7 @@ following_step at owner rows after is_spent newest step old = record {
   followed = λ place row is end e.
       let was : (r : Row) × (IsRowOf owner rows place r × IsKeptRow r row) = row_back owner rows after place row step.like is in
       duly_step at owner rows after place row.number was.0.number end step was.1.1.number (λ has. duly_there owner rows place was.0 end old.followed was.1.0 has) (step.ends place row is end e);
-  once = λ place other end behind first second. old.once place other end behind (spent_back at owner rows after place end step first) (spent_back at owner rows after other behind step second);
+  once = λ place other end afterwards first second. old.once place other end afterwards (spent_back at owner rows after place end step first) (spent_back at owner rows after other afterwards step second);
   free = λ place end spent other row is stamp e.
       let was : (r : Row) × (IsRowOf owner rows other r × IsKeptRow r row) = row_back owner rows after other row step.like is in
       let before : IsSpentBy owner rows place end = spent_back at owner rows after place end step spent in

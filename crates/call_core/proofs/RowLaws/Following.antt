@@ -25,8 +25,8 @@ use Rattle.call_core.specs.Commitments.{HasOwnEnd, IsCommittedOnce, IsInChain, I
 use Rattle.call_core.specs.Laws.{IsKept}
 use Rattle.call_core.specs.Parts.{committed_buffer, count_of, find_live, furthest, has_none, is_above, is_followed, is_refusal, judged, kind_of_next, names, pushed_over, row_end, stopped_attempts}
 use Rattle.call_core.specs.Reasons.{IsKeptRow}
-use Rattle.call_core.specs.RowChains.{AreChained}
-use Rattle.call_core.specs.RowFollowers.{AreFollowing, HasEndIn, HasSpent, HaveFollowers, IsCommittedBy, IsTakenBefore, IsTold, IsUnfollowed}
+use Rattle.call_core.specs.RowChains.{RowsAreChained}
+use Rattle.call_core.specs.RowFollowers.{AreFollowing, HasEndIn, HasSpent, HaveFollowers, IsCommittedBy, IsTakenBefore, IsReported, IsUnfollowed}
 use Rattle.call_core.specs.Rows.{IsApart, IsStanding, row_in}
 use Rattle.call_core.specs.Steps as step
 use Rattle.call_core.specs.Steps.{Stepped, call_plan, is_committed_live, judged_of, left_live, new_call, new_row, next_due, settled, stamp_if, with_chosen, with_judged, with_message}
@@ -45,7 +45,7 @@ use Rattle.call_core.proofs.RowLaws.Writes.{cuts_fair, ended_fair, following_lat
 use Rattle.call_core.proofs.Standing.{found_stands}
 
 -- a live row isn't followed
-pub live_unfollowed : (place : ℕ) (row : LiveRow) (s : Stepped) → find_live place s.call.live ≡ Some row → IsApart s → AreChained s → IsUnfollowed s.call.number s.ledger.rows row.place
+pub live_unfollowed : (place : ℕ) (row : LiveRow) (s : Stepped) → find_live place s.call.live ≡ Some row → IsApart s → RowsAreChained s → IsUnfollowed s.call.number s.ledger.rows row.place
 live_unfollowed place row s f apart chained = λ r is follows.
     let one : IsStanding s.call.number s.ledger.rows row = found_stands s.call.number s.ledger.rows place s.call.live row apart.tied f in
     let same : one.row ≡ r = one_row s.call.number s.ledger.rows row.place one.row r (record { there = one.there; call = one.call }) is in
@@ -124,24 +124,24 @@ stamped_some at s (Some place) c e once old =
     let stamp : (k : ℕ) × (one.row.committed ≡ Some k) = stamp_of one.row.committed one.stamped in
     record { place = place; row = one.row; is = one.is; stamp = stamp.0; committed = stamp.1; order = old.stamped_at place one.row one.is stamp.0 stamp.1 }
 
-refused_why : (at : ℕ) (row : LiveRow) (told : EndNews) (end : RowEnd) (s : Stepped) → end.entry ≡ at → at ≡ s.ledger.entry → end.seen ≡ told.seen → is_by_peer told.cause ≡ true → IsTold s row told → IsCommittedOnce s → AreFollowing at s → (is_some s.call.attempts.committed ≡ true) ⊎ (s.call.attempts.is_refusal_followed ≡ true) → IsTakenBefore s.call.number s.ledger.rows row.place end ⊎ IsCommittedBy s.call.number s.ledger.rows end.entry
-refused_why at row told end s e now seen by_peer in_order once old (inl c) =
+refused_why : (at : ℕ) (row : LiveRow) (reported : EndNews) (end : RowEnd) (s : Stepped) → end.entry ≡ at → at ≡ s.ledger.entry → end.seen ≡ reported.seen → is_by_peer reported.cause ≡ true → IsReported s row reported → IsCommittedOnce s → AreFollowing at s → (is_some s.call.attempts.committed ≡ true) ⊎ (s.call.attempts.is_refusal_followed ≡ true) → IsTakenBefore s.call.number s.ledger.rows row.place end ⊎ IsCommittedBy s.call.number s.ledger.rows end.entry
+refused_why at row reported end s e now seen by_peer in_order once old (inl c) =
     inr (subst (λ (k : ℕ). IsCommittedBy s.call.number s.ledger.rows k) (sym e) (stamped_some at s s.call.attempts.committed refl c once old))
-refused_why at row told end s e now seen by_peer in_order once old (inr f) =
+refused_why at row reported end s e now seen by_peer in_order once old (inr f) =
     let has : HasSpent s.call.number s.ledger.rows = old.spent_by f in
     inl (record {
       other = has.place;
       earlier = has.end;
       spent = has.spent;
       order =
-          before_same has.end end (row_end told s.ledger.entry 0 None) has.place row.place (e ∙ now) seen
+          before_same has.end end (row_end reported s.ledger.entry 0 None) has.place row.place (e ∙ now) seen
           (in_order by_peer has.place has.end has.spent.has has.spent.by_peer);
     })
   where
-    before_same : (earlier end other : RowEnd) (place behind : ℕ) → end.entry ≡ other.entry → end.seen ≡ other.seen → comes_before earlier place other behind ≡ true → comes_before earlier place end behind ≡ true
-    before_same earlier end other place behind entry seen h =
-        ap (λ (k : ℕ). comes_before earlier place (record end { entry = k }) behind) entry
-        ∙ ap (λ (k : ℕ). comes_before earlier place (record end { entry = other.entry; seen = k }) behind) seen ∙ h
+    before_same : (earlier end other : RowEnd) (place afterwards : ℕ) → end.entry ≡ other.entry → end.seen ≡ other.seen → comes_before earlier place other afterwards ≡ true → comes_before earlier place end afterwards ≡ true
+    before_same earlier end other place afterwards entry seen h =
+        ap (λ (k : ℕ). comes_before earlier place (record end { entry = k }) afterwards) entry
+        ∙ ap (λ (k : ℕ). comes_before earlier place (record end { entry = other.entry; seen = k }) afterwards) seen ∙ h
 
 -- an end that counts
 peer_part : (u p : Bool) → (u && p) ≡ true → p ≡ true
@@ -152,21 +152,21 @@ or_true_first : (a b : Bool) → a ≡ true → (a || b) ≡ true
 or_true_first true b e = refl
 or_true_first false b e = absurd (cc)
 
-fresh_end : (at place : ℕ) (row : LiveRow) (told : EndNews) (end : RowEnd) (s : Stepped) → end.entry ≡ at → at ≡ s.ledger.entry → end.cause ≡ told.cause → end.unseen ≡ told.unseen → end.seen ≡ told.seen → is_followed s.call.attempts told.cause told.unseen ≡ false → (f : find_live place s.call.live ≡ Some row) → IsTold s row told → IsApart s → IsCommittedOnce s → AreChained s → AreFollowing at s → (r : Row) → IsRowOf s.call.number s.ledger.rows row.place r → IsFreshEnd s.call.number s.ledger.rows row.place r.number end
-fresh_end at place row told end s e now same_cause same_unseen same_seen never f in_order apart once chained old r is =
+fresh_end : (at place : ℕ) (row : LiveRow) (reported : EndNews) (end : RowEnd) (s : Stepped) → end.entry ≡ at → at ≡ s.ledger.entry → end.cause ≡ reported.cause → end.unseen ≡ reported.unseen → end.seen ≡ reported.seen → is_followed s.call.attempts reported.cause reported.unseen ≡ false → (f : find_live place s.call.live ≡ Some row) → IsReported s row reported → IsApart s → IsCommittedOnce s → RowsAreChained s → AreFollowing at s → (r : Row) → IsRowOf s.call.number s.ledger.rows row.place r → IsFreshEnd s.call.number s.ledger.rows row.place r.number end
+fresh_end at place row reported end s e now same_cause same_unseen same_seen never f in_order apart once chained old r is =
     let a : Attempts = s.call.attempts in
-    let not_retried : (is_unsent told.cause || (is_by_peer told.cause && told.unseen && not (is_some a.committed) && not a.is_refusal_followed)) ≡ false =
-    sym (retried_by a told.cause told.unseen) ∙ never in
+    let not_retried : (is_unsent reported.cause || (is_by_peer reported.cause && reported.unseen && not (is_some a.committed) && not a.is_refusal_followed)) ≡ false =
+    sym (retried_by a reported.cause reported.unseen) ∙ never in
     record {
       duly = record {
         unsent = λ h.
             absurd (let no : true ≡ false =
-            sym (or_true_first (is_unsent told.cause) (is_by_peer told.cause && told.unseen && not (is_some a.committed) && not a.is_refusal_followed) (ap (λ (c : RowCause). is_unsent c) (sym same_cause) ∙ h)) ∙ not_retried in cc);
+            sym (or_true_first (is_unsent reported.cause) (is_by_peer reported.cause && reported.unseen && not (is_some a.committed) && not a.is_refusal_followed) (ap (λ (c : RowCause). is_unsent c) (sym same_cause) ∙ h)) ∙ not_retried in cc);
         refused = λ h.
-            let told_refused : (told.unseen && is_by_peer told.cause) ≡ true =
-            ap (λ (b : Bool). b && is_by_peer told.cause) (sym same_unseen) ∙ ap (λ (c : RowCause). end.unseen && is_by_peer c) (sym same_cause) ∙ h in
-            inr (refused_why at row told end s e now same_seen (peer_part told.unseen (is_by_peer told.cause) told_refused) in_order once old
-            (unfollowed_parts a told.cause told.unseen (is_by_peer told.cause) told.unseen (is_some a.committed) a.is_refusal_followed refl refl refl refl told_refused not_retried));
+            let reported_refused : (reported.unseen && is_by_peer reported.cause) ≡ true =
+            ap (λ (b : Bool). b && is_by_peer reported.cause) (sym same_unseen) ∙ ap (λ (c : RowCause). end.unseen && is_by_peer c) (sym same_cause) ∙ h in
+            inr (refused_why at row reported end s e now same_seen (peer_part reported.unseen (is_by_peer reported.cause) reported_refused) in_order once old
+            (unfollowed_parts a reported.cause reported.unseen (is_by_peer reported.cause) reported.unseen (is_some a.committed) a.is_refusal_followed refl refl refl refl reported_refused not_retried));
       };
       unfollowed = λ h follows. live_unfollowed place row s f apart chained r is follows;
     }
@@ -181,46 +181,46 @@ pub record IsWell (s : Stepped) : Type 0 where
   pub kept : IsKept s.call
   pub apart : IsApart s
   pub once : IsCommittedOnce s
-  pub chained : AreChained s
+  pub chained : RowsAreChained s
 
-ended_step : (at place : ℕ) (row : LiveRow) (told : EndNews) (end : RowEnd) (s : Stepped) → end.entry ≡ at → at ≡ s.ledger.entry → end.cause ≡ told.cause → end.unseen ≡ told.unseen → end.seen ≡ told.seen → is_followed s.call.attempts told.cause told.unseen ≡ false → find_live place s.call.live ≡ Some row → IsTold s row told → IsWell s → AreFollowing at s → HaveFollowers at s.call.number (changed_at (ended_row end) s.ledger.rows row.place) s.call.attempts.is_refusal_followed s.call.attempts.last
-ended_step at place row told end s e now same_cause same_unseen same_seen never f in_order well old =
+ended_step : (at place : ℕ) (row : LiveRow) (reported : EndNews) (end : RowEnd) (s : Stepped) → end.entry ≡ at → at ≡ s.ledger.entry → end.cause ≡ reported.cause → end.unseen ≡ reported.unseen → end.seen ≡ reported.seen → is_followed s.call.attempts reported.cause reported.unseen ≡ false → find_live place s.call.live ≡ Some row → IsReported s row reported → IsWell s → AreFollowing at s → HaveFollowers at s.call.number (changed_at (ended_row end) s.ledger.rows row.place) s.call.attempts.is_refusal_followed s.call.attempts.last
+ended_step at place row reported end s e now same_cause same_unseen same_seen never f in_order well old =
     let owner : ℕ = s.call.number in
     let one : IsStanding owner s.ledger.rows row = found_stands owner s.ledger.rows place s.call.live row well.apart.tied f in
     let is : IsRowOf owner s.ledger.rows row.place one.row = record { there = one.there; call = one.call } in
     following_step at owner s.ledger.rows (changed_at (ended_row end) s.ledger.rows row.place) s.call.attempts.is_refusal_followed s.call.attempts.last
     (ended_fair at owner s.ledger.rows row.place one.row end is
-    (fresh_end at place row told end s e now same_cause same_unseen same_seen never f in_order well.apart well.once well.chained old one.row is)) old
+    (fresh_end at place row reported end s e now same_cause same_unseen same_seen never f in_order well.apart well.once well.chained old one.row is)) old
 
 ended_off : (place : ℕ) (row : LiveRow) (end : RowEnd) (s : Stepped) → find_live place s.call.live ≡ Some row → IsWell s → IsUnfollowed s.call.number (changed_at (ended_row end) s.ledger.rows row.place) row.place
 ended_off place row end s f well =
     unfollowed_like s.call.number s.ledger.rows (changed_at (ended_row end) s.ledger.rows row.place) row.place
     (same_rows s.call.number s.ledger.rows (changed_at (ended_row end) s.ledger.rows row.place) (all_changed_at IsKeptRow kept_write (ended_row end) (λ r. kept_write.ended end r) s.ledger.rows row.place)) (live_unfollowed place row s f well.apart well.chained)
 
-following_closed : (at place : ℕ) (row : LiveRow) (told : EndNews) (end : RowEnd) (moment word : ℕ) (s : Stepped) (b : Bool) → end.entry ≡ at → at ≡ s.ledger.entry → end.cause ≡ told.cause → end.unseen ≡ told.unseen → end.seen ≡ told.seen → is_followed s.call.attempts told.cause told.unseen ≡ false → find_live place s.call.live ≡ Some row → IsTold s row told → IsWell s → AreFollowing at s → AreFollowing at (step.closed_if b row.place moment (with_judged row end (judged_of row end word (left_live row.place s).call (settled told (left_live row.place s)).tokens) (settled told (left_live row.place s))))
-following_closed at place row told end moment word s b e now same_cause same_unseen same_seen never f in_order well old =
+following_closed : (at place : ℕ) (row : LiveRow) (reported : EndNews) (end : RowEnd) (moment word : ℕ) (s : Stepped) (b : Bool) → end.entry ≡ at → at ≡ s.ledger.entry → end.cause ≡ reported.cause → end.unseen ≡ reported.unseen → end.seen ≡ reported.seen → is_followed s.call.attempts reported.cause reported.unseen ≡ false → find_live place s.call.live ≡ Some row → IsReported s row reported → IsWell s → AreFollowing at s → AreFollowing at (step.closed_if b row.place moment (with_judged row end (judged_of row end word (left_live row.place s).call (settled reported (left_live row.place s)).tokens) (settled reported (left_live row.place s))))
+following_closed at place row reported end moment word s b e now same_cause same_unseen same_seen never f in_order well old =
     let owner : ℕ = s.call.number in
-    let v : Stepped = settled told (left_live row.place s) in
+    let v : Stepped = settled reported (left_live row.place s) in
     let after : Judged = judged_of row end word v.call v.tokens in
     let last : RowEnd = record end { word = after.word } in
     let rows : List Row = changed_at (ended_row last) s.ledger.rows row.place in
     let w : Stepped = with_judged row end after v in
     let off : IsUnfollowed owner rows row.place = ended_off place row last s f well in
-    let first : HaveFollowers at owner rows s.call.attempts.is_refusal_followed s.call.attempts.last = ended_step at place row told last s e now same_cause same_unseen same_seen never f in_order well old in
+    let first : HaveFollowers at owner rows s.call.attempts.is_refusal_followed s.call.attempts.last = ended_step at place row reported last s e now same_cause same_unseen same_seen never f in_order well old in
     let second : HaveFollowers at owner rows s.call.attempts.is_refusal_followed (Some row.place) = with_newest at owner rows s.call.attempts.is_refusal_followed s.call.attempts.last row.place off first in
     let one : AreFollowing at w =
     subst (λ (x : Bool). HaveFollowers at owner rows x (Some row.place)) (sym (judged_spent (call_plan s.call) s.call.attempts row.number (has_none v.call.live) end (is_above v.tokens) word)) second in
     elim b as (λ c. AreFollowing at (step.closed_if c row.place moment w)) [ true ↦ following_by_row at row.place moment w now off one | false ↦ one ]
 
-following_counted : (at place : ℕ) (row : LiveRow) (told : EndNews) (moment word : ℕ) (s : Stepped) (o : Option ℕ) → at ≡ s.ledger.entry → is_followed s.call.attempts told.cause told.unseen ≡ false → find_live place s.call.live ≡ Some row → IsTold s row told → IsWell s → AreFollowing at s → AreFollowing at (if is_some o then step.ended_as ends.Row moment (step.row_ended row.place (row_end told s.ledger.entry moment (count_of (settled told (left_live row.place s)).tokens)) (settled told (left_live row.place s))) else step.counted_free row (row_end told s.ledger.entry moment (count_of (settled told (left_live row.place s)).tokens)) moment word (settled told (left_live row.place s)))
-following_counted at place row told moment word s (Some p) now never f in_order well old =
-    let v : Stepped = settled told (left_live row.place s) in
-    let end : RowEnd = row_end told s.ledger.entry moment (count_of v.tokens) in
-    following_end at ends.Row moment (step.row_ended row.place end v) (ended_step at place row told end s (sym now) now refl refl refl never f in_order well old)
-following_counted at place row told moment word s None now never f in_order well old =
-    let v : Stepped = settled told (left_live row.place s) in
-    let end : RowEnd = row_end told s.ledger.entry moment (count_of v.tokens) in
-    following_closed at place row told end moment word s (judged_of row end word v.call v.tokens).closes (sym now) now refl refl refl never f in_order well old
+following_counted : (at place : ℕ) (row : LiveRow) (reported : EndNews) (moment word : ℕ) (s : Stepped) (o : Option ℕ) → at ≡ s.ledger.entry → is_followed s.call.attempts reported.cause reported.unseen ≡ false → find_live place s.call.live ≡ Some row → IsReported s row reported → IsWell s → AreFollowing at s → AreFollowing at (if is_some o then step.ended_as ends.Row moment (step.row_ended row.place (row_end reported s.ledger.entry moment (count_of (settled reported (left_live row.place s)).tokens)) (settled reported (left_live row.place s))) else step.counted_free row (row_end reported s.ledger.entry moment (count_of (settled reported (left_live row.place s)).tokens)) moment word (settled reported (left_live row.place s)))
+following_counted at place row reported moment word s (Some p) now never f in_order well old =
+    let v : Stepped = settled reported (left_live row.place s) in
+    let end : RowEnd = row_end reported s.ledger.entry moment (count_of v.tokens) in
+    following_end at ends.Row moment (step.row_ended row.place end v) (ended_step at place row reported end s (sym now) now refl refl refl never f in_order well old)
+following_counted at place row reported moment word s None now never f in_order well old =
+    let v : Stepped = settled reported (left_live row.place s) in
+    let end : RowEnd = row_end reported s.ledger.entry moment (count_of v.tokens) in
+    following_closed at place row reported end moment word s (judged_of row end word v.call v.tokens).closes (sym now) now refl refl refl never f in_order well old
 
 -- an end that is followed
 or_right : (a b : Bool) → b ≡ true → (a || b) ≡ true
@@ -253,9 +253,9 @@ unsent_peer cause.Goaway e h = let no : false ≡ true = e in cc
 unsent_peer cause.Pick e h = let no : false ≡ true = e in cc
 unsent_peer cause.Cut e h = let no : false ≡ true = e in cc
 
-cause_case : (told : EndNews) (end : RowEnd) (a : Attempts) → end.cause ≡ told.cause → end.unseen ≡ told.unseen → (is_unsent told.cause ≡ true) ⊎ IsRefusedFree a told.cause told.unseen → (is_unsent end.cause ≡ true) ⊎ (is_refused end ≡ true)
-cause_case told end a c u (inl e) = inl (ap (λ (x : RowCause). is_unsent x) c ∙ e)
-cause_case told end a c u (inr r) = inr (ap (λ (b : Bool). b && is_by_peer end.cause) u ∙ ap (λ (x : RowCause). told.unseen && is_by_peer x) c ∙ r.refused)
+cause_case : (reported : EndNews) (end : RowEnd) (a : Attempts) → end.cause ≡ reported.cause → end.unseen ≡ reported.unseen → (is_unsent reported.cause ≡ true) ⊎ IsRefusedFree a reported.cause reported.unseen → (is_unsent end.cause ≡ true) ⊎ (is_refused end ≡ true)
+cause_case reported end a c u (inl e) = inl (ap (λ (x : RowCause). is_unsent x) c ∙ e)
+cause_case reported end a c u (inr r) = inr (ap (λ (b : Bool). b && is_by_peer end.cause) u ∙ ap (λ (x : RowCause). reported.unseen && is_by_peer x) c ∙ r.refused)
 
 free_when : (why : RowCause) (unseen : Bool) (a : Attempts) → is_by_peer why ≡ true → (is_unsent why ≡ true) ⊎ IsRefusedFree a why unseen → IsRefusedFree a why unseen
 free_when why unseen a by (inl e) = absurd (unsent_peer why e by)
@@ -284,17 +284,17 @@ inherits_by place row s r (Some k) e f is well =
 own_end : (s : Stepped) (q : ℕ) → IsCommittedOnce s → s.call.attempts.last ≡ Some q → HasEndIn s.call.number s.ledger.rows q
 own_end s q once e = let has : HasOwnEnd s.call.number s.ledger.rows q = once.last q e in record { row = has.row; is = has.is; end = has.end; ended = has.ended }
 
-following_followed : (at place : ℕ) (row : LiveRow) (told : EndNews) (moment : ℕ) (s : Stepped) → at ≡ s.ledger.entry → is_followed s.call.attempts told.cause told.unseen ≡ true → find_live place s.call.live ≡ Some row → IsWell s → AreFollowing at s → AreFollowing at (step.followed row told moment (left_live row.place s))
-following_followed at place row told moment s now follows f well old =
+following_followed : (at place : ℕ) (row : LiveRow) (reported : EndNews) (moment : ℕ) (s : Stepped) → at ≡ s.ledger.entry → is_followed s.call.attempts reported.cause reported.unseen ≡ true → find_live place s.call.live ≡ Some row → IsWell s → AreFollowing at s → AreFollowing at (step.followed row reported moment (left_live row.place s))
+following_followed at place row reported moment s now follows f well old =
     let owner : ℕ = s.call.number in
     let rows : List Row = s.ledger.rows in
     let a : Attempts = s.call.attempts in
-    let end : RowEnd = row_end told s.ledger.entry moment (count_of s.tokens) in
+    let end : RowEnd = row_end reported s.ledger.entry moment (count_of s.tokens) in
     let new : Row = new_row owner row.number kind.Transparent moment (stamp_if (names row.place a.committed) s.ledger.entry) in
     let one : IsStanding owner rows row = found_stands owner rows place s.call.live row well.apart.tied f in
     let is : IsRowOf owner rows row.place one.row = record { there = one.there; call = one.call } in
-    let why : (is_unsent told.cause ≡ true) ⊎ IsRefusedFree a told.cause told.unseen = follow_parts a told.cause told.unseen follows in
-    following_retry at owner rows row.place one.row end new a.is_refusal_followed (a.is_refusal_followed || is_refusal told.cause) a.last
+    let why : (is_unsent reported.cause ≡ true) ⊎ IsRefusedFree a reported.cause reported.unseen = follow_parts a reported.cause reported.unseen follows in
+    following_retry at owner rows row.place one.row end new a.is_refusal_followed (a.is_refusal_followed || is_refusal reported.cause) a.last
     (record {
       is = is;
       free = one.ended;
@@ -305,28 +305,28 @@ following_followed at place row told moment s now follows f well old =
       kind = refl;
       ended = refl;
       due = refl;
-      cause = cause_case told end a refl refl why;
+      cause = cause_case reported end a refl refl why;
       inherits = inherits_by place row s one.row one.row.committed refl f is well;
       entry = sym now;
       stamp = λ k e. stamp_entry (names row.place a.committed) s.ledger.entry k e ∙ sym now;
-      unspent = λ by. (free_when told.cause told.unseen a by why).unspent;
+      unspent = λ by. (free_when reported.cause reported.unseen a by why).unspent;
       uncommitted = λ by.
-          let free : a.committed ≡ None = (free_when told.cause told.unseen a by why).free in
+          let free : a.committed ≡ None = (free_when reported.cause reported.unseen a by why).free in
           (ap (λ (o : Option ℕ). stamp_if (names row.place o) s.ledger.entry) free, none_stamped s well.once free);
-      spends = λ by. or_right a.is_refusal_followed (is_refusal told.cause) (refusal_peer told.cause ∙ by);
-      keeps = λ e. or_true_first a.is_refusal_followed (is_refusal told.cause) e;
-      by = λ e. by_case (or_split a.is_refusal_followed (is_refusal told.cause) e);
+      spends = λ by. or_right a.is_refusal_followed (is_refusal reported.cause) (refusal_peer reported.cause ∙ by);
+      keeps = λ e. or_true_first a.is_refusal_followed (is_refusal reported.cause) e;
+      by = λ e. by_case (or_split a.is_refusal_followed (is_refusal reported.cause) e);
       newest_ended = λ q e. own_end s q well.once e;
     })
     old
   where
-    by_case : (s.call.attempts.is_refusal_followed ≡ true) ⊎ (is_refusal told.cause ≡ true) → (s.call.attempts.is_refusal_followed ≡ true) ⊎ (is_by_peer told.cause ≡ true)
+    by_case : (s.call.attempts.is_refusal_followed ≡ true) ⊎ (is_refusal reported.cause ≡ true) → (s.call.attempts.is_refusal_followed ≡ true) ⊎ (is_by_peer reported.cause ≡ true)
     by_case (inl e) = inl e
-    by_case (inr e) = inr (sym (refusal_peer told.cause) ∙ e)
+    by_case (inr e) = inr (sym (refusal_peer reported.cause) ∙ e)
 
-following_live : (at place : ℕ) (row : LiveRow) (told : EndNews) (moment word : ℕ) (s : Stepped) (b : Bool) → is_followed s.call.attempts told.cause told.unseen ≡ b → at ≡ s.ledger.entry → find_live place s.call.live ≡ Some row → IsTold s row told → IsWell s → AreFollowing at s → AreFollowing at (if b then step.followed row told moment (left_live row.place s) else step.counted row told moment word (settled told (left_live row.place s)))
-following_live at place row told moment word s true e now f in_order well old = following_followed at place row told moment s now e f well old
-following_live at place row told moment word s false e now f in_order well old = following_counted at place row told moment word s s.call.attempts.committed now e f in_order well old
+following_live : (at place : ℕ) (row : LiveRow) (reported : EndNews) (moment word : ℕ) (s : Stepped) (b : Bool) → is_followed s.call.attempts reported.cause reported.unseen ≡ b → at ≡ s.ledger.entry → find_live place s.call.live ≡ Some row → IsReported s row reported → IsWell s → AreFollowing at s → AreFollowing at (if b then step.followed row reported moment (left_live row.place s) else step.counted row reported moment word (settled reported (left_live row.place s)))
+following_live at place row reported moment word s true e now f in_order well old = following_followed at place row reported moment s now e f well old
+following_live at place row reported moment word s false e now f in_order well old = following_counted at place row reported moment word s s.call.attempts.committed now e f in_order well old
 
 -- the other things that are done
 following_head : (at place : ℕ) (row : LiveRow) (meta : List Field) (moment : ℕ) (s : Stepped) (b : Bool) → at ≡ s.ledger.entry → find_live place s.call.live ≡ Some row → IsWell s → AreFollowing at s → AreFollowing at (step.with_head meta (if b then s else step.committed place moment (record s { call = record s.call { buffer = committed_buffer place s.call.buffer } })))
@@ -365,7 +365,7 @@ following_made at due s well old =
 now_following : (at : ℕ) (s : Stepped) → at ≤ s.ledger.entry → AreFollowing at s → AreFollowing s.ledger.entry s
 now_following at s le old = following_later at s.ledger.entry s.call.number s.ledger.rows s.call.attempts.is_refusal_followed s.call.attempts.last le old
 
-pub following_moves : Moves (λ chosen. Unit {0}) (λ s row told. IsTold s row told) (λ moment s t. (at : ℕ) → at ≤ s.ledger.entry → IsKept s.call → IsApart s → IsCommittedOnce s → AreChained s → AreFollowing at s → AreFollowing s.ledger.entry t)
+pub following_moves : Moves (λ chosen. Unit {0}) (λ s row reported. IsReported s row reported) (λ moment s t. (at : ℕ) → at ≤ s.ledger.entry → IsKept s.call → IsApart s → IsCommittedOnce s → RowsAreChained s → AreFollowing at s → AreFollowing s.ledger.entry t)
 following_moves = record {
   same = λ moment s at le kept apart once chained old. now_following at s le old;
   configured = λ chosen moment s known e fresh at le kept apart once chained old. now_following at s le old;
@@ -376,8 +376,8 @@ following_moves = record {
   head = λ place row meta moment s e at le kept apart once chained old.
       following_head s.ledger.entry place row meta moment s (is_some s.call.attempts.committed) refl e (record { kept = kept; apart = apart; once = once; chained = chained }) (now_following at s le old);
   message = λ row octets moment s at le kept apart once chained old. following_message s.ledger.entry octets s (is_committed_live row s.call) (now_following at s le old);
-  row_ended = λ place row told moment word s e in_order at le kept apart once chained old.
-      following_live s.ledger.entry place row told moment word s (is_followed s.call.attempts told.cause told.unseen) refl refl e in_order (record { kept = kept; apart = apart; once = once; chained = chained }) (now_following at s le old);
+  row_ended = λ place row reported moment word s e in_order at le kept apart once chained old.
+      following_live s.ledger.entry place row reported moment word s (is_followed s.call.attempts reported.cause reported.unseen) refl refl e in_order (record { kept = kept; apart = apart; once = once; chained = chained }) (now_following at s le old);
   placed = λ place row placed s entry e free at le kept apart once chained old.
       following_step s.ledger.entry s.call.number s.ledger.rows (changed_at (placed_row placed) s.ledger.rows row.place) s.call.attempts.is_refusal_followed s.call.attempts.last
       (placed_fair s.ledger.entry s.call.number placed s.ledger.rows row.place) (now_following at s le old);
@@ -394,7 +394,7 @@ pub following_new : (number : ℕ) (request : RequestSeen) (begun : ℕ) (ledger
 following_new number request begun ledger tokens acts none = record {
   followers = λ place row is kind. absurd (none place row is.there is.call);
   followed = λ place row is. absurd (none place row is.there is.call);
-  once = λ place other end behind first second. absurd (none place first.has.row first.has.is.there first.has.is.call);
+  once = λ place other end afterwards first second. absurd (none place first.has.row first.has.is.there first.has.is.call);
   free = λ place end spent. absurd (none place spent.has.row spent.has.is.there spent.has.is.call);
   spent = λ place end spent. absurd (none place spent.has.row spent.has.is.there spent.has.is.call);
   spent_by = λ e. absurd (cc);

@@ -33,10 +33,10 @@ use Rattle.call_core.specs.declared.judge.Judged.{Judged}
 use Rattle.call_core.specs.declared.live.LiveRow.{LiveRow}
 use Rattle.call_core.specs.Commitments.{IsRowOf}
 use Rattle.call_core.specs.Laws.{IsKept}
-use Rattle.call_core.specs.Orders.{AreDue}
+use Rattle.call_core.specs.Orders.{RowsAreDue}
 use Rattle.call_core.specs.Parts.{committed_buffer, count_of, cut_end, find_live, furthest, has_none, is_above, is_followed as follows_end, judged, kind_of_next, names, plan_of, pushed_over, row_end, stopped_attempts}
 use Rattle.call_core.specs.Reasons.{HasReasons, IsDelayedBefore, IsForcedBefore, IsKeptRow, Reason}
-use Rattle.call_core.specs.RowLaws.{AreHedged, EndsHedging, EndsKeep, HasNoRows, HedgesBy, IsFollowedAt, KeepsHedges, NeverBreaks, StopsHedging, WasHedge, rows_of}
+use Rattle.call_core.specs.RowLaws.{RowsAreHedged, EndsHedging, EndsKeep, HasNoRows, HedgesBy, IsFollowedAt, KeepsHedges, NeverBreaks, StopsHedging, WasHedge, rows_of}
 use Rattle.call_core.specs.Rows.{IsApart, IsStanding, row_in}
 use Rattle.call_core.specs.Steps as step
 use Rattle.call_core.specs.Steps.{Stepped, call_plan, is_committed_live, judged_of, left_live, new_call, new_row, next_due, settled, stamp_if, with_chosen, with_judged, with_message}
@@ -86,7 +86,7 @@ cut_stops policy owner final moment tokens by = λ entry seen place row old.
 
 -- the rows of a call, at a moment by which all were due
 record AreHedgedBy (moment : ℕ) (s : Stepped) : Type 0 where
-  hedged : AreHedged s
+  hedged : RowsAreHedged s
   by : HedgesBy s.call.number s.ledger.rows moment
 
 -- commitment and end
@@ -170,11 +170,11 @@ judged_stops (plans.Retry other) policy a number is_alone end above word e h = a
 judged_stops (plans.Hedge other) policy a number is_alone end above word e h =
     let same : policy ≡ other = (cc) in or_second a.stopped (stops other end above) (subst (λ (p : HedgePolicy). stops p end above ≡ true) same h)
 
-hedged_closed : (place : ℕ) (row : LiveRow) (told : EndNews) (end : RowEnd) (moment word : ℕ) (s : Stepped) (b : Bool) → end.moment ≡ moment → AreHedgedBy moment s → AreHedgedBy moment (step.closed_if b row.place moment (with_judged row end (judged_of row end word (left_live row.place s).call (settled told (left_live row.place s)).tokens) (settled told (left_live row.place s))))
-hedged_closed place row told end moment word s b at old =
+hedged_closed : (place : ℕ) (row : LiveRow) (reported : EndNews) (end : RowEnd) (moment word : ℕ) (s : Stepped) (b : Bool) → end.moment ≡ moment → AreHedgedBy moment s → AreHedgedBy moment (step.closed_if b row.place moment (with_judged row end (judged_of row end word (left_live row.place s).call (settled reported (left_live row.place s)).tokens) (settled reported (left_live row.place s))))
+hedged_closed place row reported end moment word s b at old =
     let owner : ℕ = s.call.number in
     let rows : List Row = s.ledger.rows in
-    let v : Stepped = settled told (left_live row.place s) in
+    let v : Stepped = settled reported (left_live row.place s) in
     let after : Judged = judged_of row end word v.call v.tokens in
     let last : RowEnd = record end { word = after.word } in
     let w : Stepped = with_judged row end after v in
@@ -193,10 +193,10 @@ hedged_closed place row told end moment word s b at old =
     } in
     elim b as (λ c. AreHedgedBy moment (step.closed_if c row.place moment w)) [ true ↦ hedged_by_row row.place moment w one | false ↦ one ]
 
-hedged_counted : (place : ℕ) (row : LiveRow) (told : EndNews) (moment word : ℕ) (s : Stepped) (o : Option ℕ) → s.call.attempts.committed ≡ o → IsKept s.call → AreHedgedBy moment s → AreHedgedBy moment (if is_some o then step.ended_as ends.Row moment (step.row_ended row.place (row_end told s.ledger.entry moment (count_of (settled told (left_live row.place s)).tokens)) (settled told (left_live row.place s))) else step.counted_free row (row_end told s.ledger.entry moment (count_of (settled told (left_live row.place s)).tokens)) moment word (settled told (left_live row.place s)))
-hedged_counted place row told moment word s (Some p) c kept old =
-    let v : Stepped = settled told (left_live row.place s) in
-    let end : RowEnd = row_end told s.ledger.entry moment (count_of v.tokens) in
+hedged_counted : (place : ℕ) (row : LiveRow) (reported : EndNews) (moment word : ℕ) (s : Stepped) (o : Option ℕ) → s.call.attempts.committed ≡ o → IsKept s.call → AreHedgedBy moment s → AreHedgedBy moment (if is_some o then step.ended_as ends.Row moment (step.row_ended row.place (row_end reported s.ledger.entry moment (count_of (settled reported (left_live row.place s)).tokens)) (settled reported (left_live row.place s))) else step.counted_free row (row_end reported s.ledger.entry moment (count_of (settled reported (left_live row.place s)).tokens)) moment word (settled reported (left_live row.place s)))
+hedged_counted place row reported moment word s (Some p) c kept old =
+    let v : Stepped = settled reported (left_live row.place s) in
+    let end : RowEnd = row_end reported s.ledger.entry moment (count_of v.tokens) in
     let rows : List Row = s.ledger.rows in
     hedged_end ends.Row moment (step.row_ended row.place end v)
     (record {
@@ -207,10 +207,10 @@ hedged_counted place row told moment word s (Some p) c kept old =
       };
       by = by_like s.call.number rows (changed_at (ended_row end) rows row.place) moment (all_changed_at IsKeptRow kept_write (ended_row end) (λ r. kept_write.ended end r) rows row.place) old.by;
     })
-hedged_counted place row told moment word s None c kept old =
-    let v : Stepped = settled told (left_live row.place s) in
-    let end : RowEnd = row_end told s.ledger.entry moment (count_of v.tokens) in
-    hedged_closed place row told end moment word s (judged_of row end word v.call v.tokens).closes refl old
+hedged_counted place row reported moment word s None c kept old =
+    let v : Stepped = settled reported (left_live row.place s) in
+    let end : RowEnd = row_end reported s.ledger.entry moment (count_of v.tokens) in
+    hedged_closed place row reported end moment word s (judged_of row end word v.call v.tokens).closes refl old
 
 followed_stops : (policy : HedgePolicy) (place : ℕ) (row : LiveRow) (end : RowEnd) (new : Row) (s : Stepped) → find_live place s.call.live ≡ Some row → IsApart s → new.call ≡ s.call.number → new.number ≡ row.number → new.kind ≡ kind.Transparent → new.ended ≡ None → is_stop end.pushback ≡ false → Ends policy s.call.attempts.stopped s.call.number s.ledger.rows s.ledger.rows → Ends policy s.call.attempts.stopped s.call.number (changed_at (ended_row end) s.ledger.rows row.place ++ new ∷ []) (changed_at (ended_row end) s.ledger.rows row.place ++ new ∷ [])
 followed_stops policy place row end new s f apart call number why none plain old =
@@ -246,42 +246,42 @@ followed_stops policy place row end new s f apart call number why none plain old
     never_ends policy owner final place number end plain follows (inl e) = let no : true ≡ false = sym e ∙ plain in cc
     never_ends policy owner final place number end plain follows (inr both) = both.1 follows
 
-hedged_live : (place : ℕ) (row : LiveRow) (told : EndNews) (moment word : ℕ) (s : Stepped) (b : Bool) → (b ≡ true → is_stop told.pushback ≡ false) → find_live place s.call.live ≡ Some row → IsKept s.call → IsApart s → AreHedgedBy moment s → AreHedged (if b then step.followed row told moment (left_live row.place s) else step.counted row told moment word (settled told (left_live row.place s)))
-hedged_live place row told moment word s true plain f kept apart old =
-    let end : RowEnd = row_end told s.ledger.entry moment (count_of s.tokens) in
+hedged_live : (place : ℕ) (row : LiveRow) (reported : EndNews) (moment word : ℕ) (s : Stepped) (b : Bool) → (b ≡ true → is_stop reported.pushback ≡ false) → find_live place s.call.live ≡ Some row → IsKept s.call → IsApart s → AreHedgedBy moment s → RowsAreHedged (if b then step.followed row reported moment (left_live row.place s) else step.counted row reported moment word (settled reported (left_live row.place s)))
+hedged_live place row reported moment word s true plain f kept apart old =
+    let end : RowEnd = row_end reported s.ledger.entry moment (count_of s.tokens) in
     let new : Row = new_row s.call.number row.number kind.Transparent moment (stamp_if (names row.place s.call.attempts.committed) s.ledger.entry) in
     record { ends = λ policy e. followed_stops policy place row end new s f apart refl refl refl refl (plain refl) (old.hedged.ends policy e) }
-hedged_live place row told moment word s false plain f kept apart old = (hedged_counted place row told moment word s s.call.attempts.committed refl kept old).hedged
+hedged_live place row reported moment word s false plain f kept apart old = (hedged_counted place row reported moment word s s.call.attempts.committed refl kept old).hedged
 
 -- the other things that are done
-no_rows : (s t : Stepped) → t.call.number ≡ s.call.number → t.ledger.rows ≡ s.ledger.rows → EachRow (λ p row. ⊥) s.call.number s.ledger.rows → AreHedged t
+no_rows : (s t : Stepped) → t.call.number ≡ s.call.number → t.ledger.rows ≡ s.ledger.rows → EachRow (λ p row. ⊥) s.call.number s.ledger.rows → RowsAreHedged t
 no_rows s t number rows none = record {
   ends = λ policy e place row is.
       absurd (none place row (record { there = ap (λ (l : List Row). row_in l place) (sym rows) ∙ is.there; call = is.call ∙ number }));
 }
 
-over_hedged : (chosen : Chosen) (moment : ℕ) (s : Stepped) → EachRow (λ p row. ⊥) s.call.number s.ledger.rows → AreHedged (step.ended_as ends.Request moment (with_chosen chosen moment s))
+over_hedged : (chosen : Chosen) (moment : ℕ) (s : Stepped) → EachRow (λ p row. ⊥) s.call.number s.ledger.rows → RowsAreHedged (step.ended_as ends.Request moment (with_chosen chosen moment s))
 over_hedged chosen moment s none =
     let t : Stepped = with_chosen chosen moment s in
     let after : EachRow (λ p row. ⊥) s.call.number (step.ended_as ends.Request moment t).ledger.rows =
     each_cut (λ p row. ⊥) s.call.number None moment (count_of s.tokens) s.call.live t.ledger (λ entry seen place row no. no) none in
     record { ends = λ policy e place row is. absurd (after place row is) }
 
-hedged_head : (place : ℕ) (meta : List Field) (moment : ℕ) (s : Stepped) (b : Bool) → AreHedgedBy moment s → AreHedged (step.with_head meta (if b then s else step.committed place moment (record s { call = record s.call { buffer = committed_buffer place s.call.buffer } })))
+hedged_head : (place : ℕ) (meta : List Field) (moment : ℕ) (s : Stepped) (b : Bool) → AreHedgedBy moment s → RowsAreHedged (step.with_head meta (if b then s else step.committed place moment (record s { call = record s.call { buffer = committed_buffer place s.call.buffer } })))
 hedged_head place meta moment s true old = record { ends = old.hedged.ends }
 hedged_head place meta moment s false old =
     let c : Stepped = record s { call = record s.call { buffer = committed_buffer place s.call.buffer } } in
     let after : AreHedgedBy moment (step.committed place moment c) = hedged_commit place moment c (record { hedged = record { ends = old.hedged.ends }; by = old.by }) in
     record { ends = after.hedged.ends }
 
-hedged_message : (octets : List ℕ) (s : Stepped) (b : Bool) → AreHedged s → AreHedged (record s { call = (if b then record s.call { inbox = record s.call.inbox { messages = s.call.inbox.messages ++ octets ∷ [] } } else s.call) })
+hedged_message : (octets : List ℕ) (s : Stepped) (b : Bool) → RowsAreHedged s → RowsAreHedged (record s { call = (if b then record s.call { inbox = record s.call.inbox { messages = s.call.inbox.messages ++ octets ∷ [] } } else s.call) })
 hedged_message octets s true old = record { ends = old.ends }
 hedged_message octets s false old = record { ends = old.ends }
 
-hedged_by_last : (last : Option ℕ) (moment : ℕ) (s : Stepped) → AreHedgedBy moment s → AreHedged (step.ended_by_last last moment s)
+hedged_by_last : (last : Option ℕ) (moment : ℕ) (s : Stepped) → AreHedgedBy moment s → RowsAreHedged (step.ended_by_last last moment s)
 hedged_by_last None moment s old = old.hedged
 hedged_by_last (Some last) moment s old =
-    elim (has_none s.call.live) as (λ b. AreHedged (if b then step.ended_by_row last moment s else s)) [ true ↦ (hedged_by_row last moment s old).hedged | false ↦ old.hedged ]
+    elim (has_none s.call.live) as (λ b. RowsAreHedged (if b then step.ended_by_row last moment s else s)) [ true ↦ (hedged_by_row last moment s old).hedged | false ↦ old.hedged ]
 
 hedged_stopped : (moment : ℕ) (s : Stepped) → AreHedgedBy moment s → AreHedgedBy moment (step.with_attempts (stopped_attempts s.call.attempts) s)
 hedged_stopped moment s old = record {
@@ -289,12 +289,12 @@ hedged_stopped moment s old = record {
   by = old.by;
 }
 
-hedged_over : (over : Bool) (row : Option ℕ) (moment : ℕ) (s : Stepped) → AreHedgedBy moment s → AreHedged (step.committed_over over row moment s)
+hedged_over : (over : Bool) (row : Option ℕ) (moment : ℕ) (s : Stepped) → AreHedgedBy moment s → RowsAreHedged (step.committed_over over row moment s)
 hedged_over over None moment s old = old.hedged
 hedged_over true (Some place) moment s old = (hedged_commit place moment s old).hedged
 hedged_over false (Some place) moment s old = old.hedged
 
-hedged_place : (row : LiveRow) (at : Placed) (s : Stepped) → AreHedged s → AreHedged (step.placed_row_live row at s)
+hedged_place : (row : LiveRow) (at : Placed) (s : Stepped) → RowsAreHedged s → RowsAreHedged (step.placed_row_live row at s)
 hedged_place row at s old =
     let owner : ℕ = s.call.number in
     let rows : List Row = s.ledger.rows in
@@ -306,7 +306,7 @@ hedged_place row at s old =
           (ends_to policy s.call.attempts.stopped s.call.attempts.stopped owner rows after rows (kept_like owner rows after like) (λ m h. by_like owner rows after m like h) (λ h. h) (old.ends policy e));
     }
 
-hedged_made : (due : ℕ) (s : Stepped) → next_due s.call ≡ Some due → AreHedged s → AreHedged (step.made due s)
+hedged_made : (due : ℕ) (s : Stepped) → next_due s.call ≡ Some due → RowsAreHedged s → RowsAreHedged (step.made due s)
 hedged_made due s e old =
     let owner : ℕ = s.call.number in
     let rows : List Row = s.ledger.rows in
@@ -320,13 +320,13 @@ hedged_made due s e old =
           let no : true ≡ false = sym was ∙ going in cc));
     }
 
-timed_by : (now moment : ℕ) (s : Stepped) → now ≤ moment → AreDue now s → AreHedged s → AreHedgedBy moment s
+timed_by : (now moment : ℕ) (s : Stepped) → now ≤ moment → RowsAreDue now s → RowsAreHedged s → AreHedgedBy moment s
 timed_by now moment s le timed old = record {
   hedged = old;
   by = λ place row is h. (let due : row.due ≤ now = timed place row is in omega (arith, due, le));
 }
 
-pub hedged_moves : Moves (λ chosen. Unit {0}) (λ s row told. follows_end s.call.attempts told.cause told.unseen ≡ true → is_stop told.pushback ≡ false) (λ moment s t. (now : ℕ) → now ≤ moment → IsKept s.call → IsApart s → AreDue now s → HasNoRows s → AreHedged s → AreHedged t)
+pub hedged_moves : Moves (λ chosen. Unit {0}) (λ s row reported. follows_end s.call.attempts reported.cause reported.unseen ≡ true → is_stop reported.pushback ≡ false) (λ moment s t. (now : ℕ) → now ≤ moment → IsKept s.call → IsApart s → RowsAreDue now s → HasNoRows s → RowsAreHedged s → RowsAreHedged t)
 hedged_moves = record {
   same = λ moment s now le kept apart timed none old. old;
   configured = λ chosen moment s known e fresh now le kept apart timed none old. no_rows s (with_chosen chosen moment s) refl refl (none fresh);
@@ -335,8 +335,8 @@ hedged_moves = record {
   too_large = λ row moment s e now le kept apart timed none old. (hedged_end ends.Response moment s (timed_by now moment s le timed old)).hedged;
   head = λ place row meta moment s e now le kept apart timed none old. hedged_head place meta moment s (is_some s.call.attempts.committed) (timed_by now moment s le timed old);
   message = λ row octets moment s now le kept apart timed none old. hedged_message octets s (is_committed_live row s.call) old;
-  row_ended = λ place row told moment word s e plain now le kept apart timed none old.
-      hedged_live place row told moment word s (follows_end s.call.attempts told.cause told.unseen) plain e kept apart (timed_by now moment s le timed old);
+  row_ended = λ place row reported moment word s e plain now le kept apart timed none old.
+      hedged_live place row reported moment word s (follows_end s.call.attempts reported.cause reported.unseen) plain e kept apart (timed_by now moment s le timed old);
   placed = λ place row at s entry e free now le kept apart timed none old. hedged_place row at s old;
   refused = λ due moment s e passed tested now le kept apart timed none old.
       hedged_by_last s.call.attempts.last moment (step.with_attempts (stopped_attempts s.call.attempts) s) (hedged_stopped moment s (timed_by now moment s le timed old));
@@ -347,11 +347,11 @@ hedged_moves = record {
       hedged_over (pushed_over s.call.buffer (framed message) row) row moment (record s { call = with_message message row s.call }) (record { hedged = record { ends = old.ends }; by = before.by });
 }
 
-pub hedged_new : (number : ℕ) (request : RequestSeen) (begun : ℕ) (ledger : Ledger) (tokens : Option Bucket) (acts : List CallAct) → AreHedged (step.lent (new_call number request begun) ledger tokens acts)
+pub hedged_new : (number : ℕ) (request : RequestSeen) (begun : ℕ) (ledger : Ledger) (tokens : Option Bucket) (acts : List CallAct) → RowsAreHedged (step.lent (new_call number request begun) ledger tokens acts)
 hedged_new number request begun ledger tokens acts = record { ends = λ policy e. absurd (cc) }
 
 -- what is done to other calls
-pub hedged_elsewhere : (s : Stepped) (ledger : Ledger) → KeepsHedges s.call.number s.ledger.rows ledger.rows → AreHedged s → AreHedged (record s { ledger = ledger })
+pub hedged_elsewhere : (s : Stepped) (ledger : Ledger) → KeepsHedges s.call.number s.ledger.rows ledger.rows → RowsAreHedged s → RowsAreHedged (record s { ledger = ledger })
 hedged_elsewhere s ledger keeps old = record {
   ends = λ policy known place row is end e.
       let owner : ℕ = s.call.number in
@@ -419,7 +419,7 @@ ended_some : (test : RowEnd → Bool) (o : Option RowEnd) → option_map_or test
 ended_some test None e = absurd (cc)
 ended_some test (Some end) e = (end, (refl, e))
 
-never_over : (policy : HedgePolicy) (s : Stepped) (place : ℕ) (hedge : Row) → call_plan s.call ≡ plans.Hedge policy → AreHedged s → IsRowOf s.call.number s.ledger.rows place hedge → is_hedge hedge.kind ≡ true → is_hedging_over policy hedge.due (rows_of s.call.number s.ledger.rows) ≡ true → ⊥
+never_over : (policy : HedgePolicy) (s : Stepped) (place : ℕ) (hedge : Row) → call_plan s.call ≡ plans.Hedge policy → RowsAreHedged s → IsRowOf s.call.number s.ledger.rows place hedge → is_hedge hedge.kind ≡ true → is_hedging_over policy hedge.due (rows_of s.call.number s.ledger.rows) ≡ true → ⊥
 never_over policy s place hedge plan hedged is why e =
     let owner : ℕ = s.call.number in
     let rows : List Row = s.ledger.rows in
@@ -435,7 +435,7 @@ never_over policy s place hedge plan hedged is why e =
     (over_by policy owner rows found.before found.row found.after end split (is_stop end.pushback) (not (has_code policy.codes end.code) && not (is_followed found.row found.after)) refl refl both.1)).1 place hedge is why in
     omega (arith, early, late)
 
-row_hedged : (plan : CallPlan) (s : Stepped) (before : List Row) (row : Row) (after : List Row) → call_plan s.call ≡ plan → HasReasons s → AreHedged s → rows_of s.call.number s.ledger.rows ≡ before ++ row ∷ after → KeepsHedging plan (rows_of s.call.number s.ledger.rows) before row
+row_hedged : (plan : CallPlan) (s : Stepped) (before : List Row) (row : Row) (after : List Row) → call_plan s.call ≡ plan → HasReasons s → RowsAreHedged s → rows_of s.call.number s.ledger.rows ≡ before ++ row ∷ after → KeepsHedging plan (rows_of s.call.number s.ledger.rows) before row
 row_hedged plans.None s before row after known reasons hedged together = tt
 row_hedged (plans.Retry policy) s before row after known reasons hedged together = tt
 row_hedged (plans.Hedge policy) s before row after known reasons hedged together =
@@ -457,7 +457,7 @@ breaks_ten chosen rows before row after keeps (inr (inr (inl h))) = h.1 keeps
 breaks_ten chosen rows before row after keeps (inr (inr (inr (inl h)))) = let no : 10 ≡ 11 = h.0 in omega (arith, no)
 breaks_ten chosen rows before row after keeps (inr (inr (inr (inr h)))) = let no : 10 ≡ 12 = h.0 in omega (arith, no)
 
-pub never_unhedged : (chosen : Chosen) (s : Stepped) → s.call.chosen ≡ Some chosen → HasReasons s → AreHedged s → NeverBreaks 10 chosen s
+pub never_unhedged : (chosen : Chosen) (s : Stepped) → s.call.chosen ≡ Some chosen → HasReasons s → RowsAreHedged s → NeverBreaks 10 chosen s
 never_unhedged chosen s known reasons hedged = λ place breaks.
     breaks_ten chosen (rows_of s.call.number s.ledger.rows) breaks.before breaks.row breaks.after
     (row_hedged chosen.plan s breaks.before breaks.row breaks.after (ap (λ (o : Option Chosen). plan_of o) known) reasons hedged breaks.together) breaks.broken

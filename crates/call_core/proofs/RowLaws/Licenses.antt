@@ -15,7 +15,7 @@ use Rattle.call_core.specs.Parts.{cut_end}
 use Rattle.call_core.specs.Reasons.{IsKeptRow}
 use Rattle.call_core.specs.RowFollowers.{IsEndedIn}
 use Rattle.call_core.specs.RowLaws.{IsCountedAt, IsFollowedAt}
-use Rattle.call_core.specs.RowLicenses.{AreWaiting, HaveLicenses, IsAsked, IsKnownEnd, IsLastAsked, IsLicense, IsRetryOf, IsStampedBy, due_after, may_retry}
+use Rattle.call_core.specs.RowLicenses.{LicensesWait, HaveLicenses, IsAsked, IsKnownEnd, IsLastAsked, IsLicense, IsRetryOf, IsStampedBy, due_after, may_retry}
 use Rattle.call_core.specs.Steps.{cut_all}
 use Rattle.call_core.proofs.Alike.{AreLike, all_changed_at, all_cut}
 use Rattle.call_core.proofs.EachRow.{EachRow, TakesCuts, each_changed, each_cut}
@@ -152,7 +152,7 @@ quiet_step chosen owner rows after sent within step old = record {
       (retry_like chosen owner rows after was.0.number was.0.due step.like step.free (λ since h. last_to chosen owner rows after sent was.0.number since has le step h) before));
 }
 
--- the same of what waits, where no end is told that counts
+-- the same of what waits, where no end is reported that counts
 last_still : (chosen : Chosen) (owner : ℕ) (rows after : List Row) (sent below since : ℕ) → IsQuietStep chosen owner rows after sent → ((number : ℕ) → IsAsked owner after number → IsAsked owner rows number) → IsLastAsked owner rows below since → IsLastAsked owner after below since
 last_still chosen owner rows after sent below since step back old = record {
   most = λ number h less. old.most number (back number h) less;
@@ -163,7 +163,7 @@ pending_case : (chosen : Chosen) (owner : ℕ) (rows after : List Row) (sent due
 pending_case chosen owner rows after sent due to (inl e) = inl e
 pending_case chosen owner rows after sent due to (inr h) = inr (to h)
 
-pub quiet_waiting : (chosen : Chosen) (owner : ℕ) (rows after : List Row) (sent : ℕ) (forced : Option ℕ) (delayed : ℕ) → IsQuietStep chosen owner rows after sent → ((number : ℕ) → IsAsked owner after number → IsAsked owner rows number) → AreWaiting chosen owner rows sent forced delayed → AreWaiting chosen owner after sent forced delayed
+pub quiet_waiting : (chosen : Chosen) (owner : ℕ) (rows after : List Row) (sent : ℕ) (forced : Option ℕ) (delayed : ℕ) → IsQuietStep chosen owner rows after sent → ((number : ℕ) → IsAsked owner after number → IsAsked owner rows number) → LicensesWait chosen owner rows sent forced delayed → LicensesWait chosen owner after sent forced delayed
 quiet_waiting chosen owner rows after sent forced delayed step back old = record {
   pending = λ due e.
       pending_case chosen owner rows after sent due
@@ -283,34 +283,34 @@ stamp_quiet chosen at owner sent rows place off =
       free = λ q old new is_old is_new end e h. stamp_free chosen at owner rows place q old new end off is_old e h (written owner (committed_row at) rows place q old new is_old is_new).is;
     }
 
--- an end that is told
-abbrev pub IsToldOr : ℕ → List Row → ℕ → RowEnd → ℕ → Row → Type 0
-IsToldOr owner rows place told p row = (end : RowEnd) → row.ended ≡ Some end → IsEndedIn owner rows p end ⊎ ((p ≡ place) × (end ≡ told))
+-- an end that is reported
+abbrev pub IsReportedOr : ℕ → List Row → ℕ → RowEnd → ℕ → Row → Type 0
+IsReportedOr owner rows place reported p row = (end : RowEnd) → row.ended ≡ Some end → IsEndedIn owner rows p end ⊎ ((p ≡ place) × (end ≡ reported))
 
-told_split : (owner : ℕ) (rows : List Row) (place : ℕ) (told end : RowEnd) (o : Option RowEnd) → stamped told o ≡ Some end → (o ≡ Some end → IsEndedIn owner rows place end ⊎ ((place ≡ place) × (end ≡ told))) → IsEndedIn owner rows place end ⊎ ((place ≡ place) × (end ≡ told))
-told_split owner rows place told end None e old = let same : told ≡ end = (cc) in inr (refl, sym same)
-told_split owner rows place told end (Some x) e old = old e
+reported_split : (owner : ℕ) (rows : List Row) (place : ℕ) (reported end : RowEnd) (o : Option RowEnd) → stamped reported o ≡ Some end → (o ≡ Some end → IsEndedIn owner rows place end ⊎ ((place ≡ place) × (end ≡ reported))) → IsEndedIn owner rows place end ⊎ ((place ≡ place) × (end ≡ reported))
+reported_split owner rows place reported end None e old = let same : reported ≡ end = (cc) in inr (refl, sym same)
+reported_split owner rows place reported end (Some x) e old = old e
 
-pub told_ends : (owner : ℕ) (rows : List Row) (place : ℕ) (told : RowEnd) → EachRow (IsToldOr owner rows place told) owner (changed_at (ended_row told) rows place)
-told_ends owner rows place told =
-    each_changed (IsToldOr owner rows place told) owner place (ended_row told) rows (λ r. record { call = refl })
-    (λ r is old end e. told_split owner rows place told end r.ended e (λ h. old end h))
+pub reported_ends : (owner : ℕ) (rows : List Row) (place : ℕ) (reported : RowEnd) → EachRow (IsReportedOr owner rows place reported) owner (changed_at (ended_row reported) rows place)
+reported_ends owner rows place reported =
+    each_changed (IsReportedOr owner rows place reported) owner place (ended_row reported) rows (λ r. record { call = refl })
+    (λ r is old end e. reported_split owner rows place reported end r.ended e (λ h. old end h))
     (λ q row is end e. inl (record { row = row; is = is; ended = e }))
 
-told_known : (chosen : Chosen) (owner : ℕ) (rows after : List Row) (sent place p : ℕ) (told end : RowEnd) (row : Row) → ((row : Row) → IsRowOf owner after place row → IsKnownEnd chosen owner after place row told × (has_retries chosen.plan ≡ true → IsCountedAt owner after place row.number told → sent ≤ row.number)) → IsRowOf owner after p row → IsEndedIn owner rows p end ⊎ ((p ≡ place) × (end ≡ told)) → IsEndedIn owner rows p end ⊎ (IsKnownEnd chosen owner after p row end × (has_retries chosen.plan ≡ true → IsCountedAt owner after p row.number end → sent ≤ row.number))
-told_known chosen owner rows after sent place p told end row known is (inl has) = inl has
-told_known chosen owner rows after sent place p told end row known is (inr both) =
+reported_known : (chosen : Chosen) (owner : ℕ) (rows after : List Row) (sent place p : ℕ) (reported end : RowEnd) (row : Row) → ((row : Row) → IsRowOf owner after place row → IsKnownEnd chosen owner after place row reported × (has_retries chosen.plan ≡ true → IsCountedAt owner after place row.number reported → sent ≤ row.number)) → IsRowOf owner after p row → IsEndedIn owner rows p end ⊎ ((p ≡ place) × (end ≡ reported)) → IsEndedIn owner rows p end ⊎ (IsKnownEnd chosen owner after p row end × (has_retries chosen.plan ≡ true → IsCountedAt owner after p row.number end → sent ≤ row.number))
+reported_known chosen owner rows after sent place p reported end row known is (inl has) = inl has
+reported_known chosen owner rows after sent place p reported end row known is (inr both) =
     inr (subst (λ (k : ℕ). IsKnownEnd chosen owner after k row end × (has_retries chosen.plan ≡ true → IsCountedAt owner after k row.number end → sent ≤ row.number)) (sym both.0)
     (subst (λ (x : RowEnd). IsKnownEnd chosen owner after place row x × (has_retries chosen.plan ≡ true → IsCountedAt owner after place row.number x → sent ≤ row.number)) (sym both.1)
     (known row (subst (λ (k : ℕ). IsRowOf owner after k row) both.0 is))))
 
-pub told_quiet : (chosen : Chosen) (owner sent : ℕ) (rows : List Row) (place : ℕ) (told : RowEnd) → ((row : Row) → IsRowOf owner (changed_at (ended_row told) rows place) place row → IsKnownEnd chosen owner (changed_at (ended_row told) rows place) place row told × (has_retries chosen.plan ≡ true → IsCountedAt owner (changed_at (ended_row told) rows place) place row.number told → sent ≤ row.number)) → IsQuietStep chosen owner rows (changed_at (ended_row told) rows place) sent
-told_quiet chosen owner sent rows place told known =
-    let after : List Row = changed_at (ended_row told) rows place in
-    let named : AreLike IsNamed rows after = all_changed_at IsNamed named_write (ended_row told) (λ r. named_write.ended told r) rows place in
+pub reported_quiet : (chosen : Chosen) (owner sent : ℕ) (rows : List Row) (place : ℕ) (reported : RowEnd) → ((row : Row) → IsRowOf owner (changed_at (ended_row reported) rows place) place row → IsKnownEnd chosen owner (changed_at (ended_row reported) rows place) place row reported × (has_retries chosen.plan ≡ true → IsCountedAt owner (changed_at (ended_row reported) rows place) place row.number reported → sent ≤ row.number)) → IsQuietStep chosen owner rows (changed_at (ended_row reported) rows place) sent
+reported_quiet chosen owner sent rows place reported known =
+    let after : List Row = changed_at (ended_row reported) rows place in
+    let named : AreLike IsNamed rows after = all_changed_at IsNamed named_write (ended_row reported) (λ r. named_write.ended reported r) rows place in
     record {
-      like = same_rows owner rows after (all_changed_at IsKeptRow kept_write (ended_row told) (λ r. kept_write.ended told r) rows place);
-      ends = λ p row is end e. told_known chosen owner rows after sent place p told end row known is (told_ends owner rows place told p row is end e);
+      like = same_rows owner rows after (all_changed_at IsKeptRow kept_write (ended_row reported) (λ r. kept_write.ended reported r) rows place);
+      ends = λ p row is end e. reported_known chosen owner rows after sent place p reported end row known is (reported_ends owner rows place reported p row is end e);
       stays = λ q old new is_old is_new stamp e. committed_same owner rows after q old new named is_old is_new ∙ e;
       free = λ q old new is_old is_new end e h. committed_same owner rows after q old new named is_old is_new ∙ h.free;
     }

@@ -29,7 +29,7 @@ use Rattle.call_core.specs.Parts.{count_of, find_live, is_above, plan_of, row_en
 use Rattle.call_core.specs.Reasons.{IsKeptRow}
 use Rattle.call_core.specs.RowFollowers.{IsEndedIn}
 use Rattle.call_core.specs.RowLaws.{FitsTokens, IsCountedAt, IsFollowedAt}
-use Rattle.call_core.specs.RowLicenses.{AreLicensed, AreWaiting, HaveLicenses, IsAsked, IsKnownEnd, IsRetryOf, IsSound, IsStampedBy, may_retry}
+use Rattle.call_core.specs.RowLicenses.{RowsAreLicensed, LicensesWait, HaveLicenses, IsAsked, IsKnownEnd, IsRetryOf, IsSound, IsStampedBy, may_retry}
 use Rattle.call_core.specs.Rows.{IsApart, IsStanding, row_in}
 use Rattle.call_core.specs.Steps as step
 use Rattle.call_core.specs.Steps.{Stepped, call_plan, cut_all, is_committed_live, judged_of, left_live, new_call, new_row, next_due, settled, stamp_if, with_chosen, with_judged, with_message}
@@ -41,7 +41,7 @@ use Rattle.call_core.proofs.KeptReasons.{kept_committed, kept_write}
 use Rattle.call_core.proofs.RowLaws.Chains.{AreKinds, last_found}
 use Rattle.call_core.proofs.RowLaws.Followers.{one_row, same_rows}
 use Rattle.call_core.proofs.RowLaws.Licensed.{StaysUnfollowed, commute_at, last_more, licenses_more, more_at, retry_more}
-use Rattle.call_core.proofs.RowLaws.Licenses.{IsQuietStep, IsUnlicensed, asked_still, cuts_like, cuts_asked, cuts_quiet, quiet_step, quiet_waiting, stamp_quiet, told_ends, told_quiet, within_like}
+use Rattle.call_core.proofs.RowLaws.Licenses.{IsQuietStep, IsUnlicensed, asked_still, cuts_like, cuts_asked, cuts_quiet, quiet_step, quiet_waiting, stamp_quiet, reported_ends, reported_quiet, within_like}
 use Rattle.call_core.proofs.RowLaws.Made.{which}
 use Rattle.call_core.proofs.Standing.{found_stands, row_changed_other, row_changed_same, row_last, row_more}
 
@@ -101,13 +101,13 @@ committed_within place moment s within =
     (within_like s.call.number s.ledger.rows (step.commit_stamped place s.ledger).rows s.call.attempts.sent
     (same_rows s.call.number s.ledger.rows (step.commit_stamped place s.ledger).rows (all_changed_at IsKeptRow kept_write (committed_row s.ledger.entry) (kept_committed s.ledger.entry) s.ledger.rows place)) within)
 
-pub licensed_commit : (place moment : ℕ) (s : Stepped) → AreWithin s → ((chosen : Chosen) → s.call.chosen ≡ Some chosen → IsUnlicensed chosen s.call.number s.ledger.rows place) → AreLicensed s → AreLicensed (step.committed place moment s)
+pub licensed_commit : (place moment : ℕ) (s : Stepped) → AreWithin s → ((chosen : Chosen) → s.call.chosen ≡ Some chosen → IsUnlicensed chosen s.call.number s.ledger.rows place) → RowsAreLicensed s → RowsAreLicensed (step.committed place moment s)
 licensed_commit place moment s within off old = record {
   ends = λ chosen e. licenses_commit chosen place moment s within (off chosen e) (old.ends chosen e);
   waiting = λ chosen e has none. absurd (let no : Some place ≡ None = none in cc);
 }
 
-pub licensed_end : (why : EndCause) (moment : ℕ) (s : Stepped) → AreWithin s → AreLicensed s → AreLicensed (step.ended_as why moment s)
+pub licensed_end : (why : EndCause) (moment : ℕ) (s : Stepped) → AreWithin s → RowsAreLicensed s → RowsAreLicensed (step.ended_as why moment s)
 licensed_end why moment s within old = record {
   ends = λ chosen e. licenses_end chosen why moment s within (old.ends chosen e);
   waiting = λ chosen e has none.
@@ -116,7 +116,7 @@ licensed_end why moment s within old = record {
       (λ number h. cuts_asked s.call.number None moment (count_of s.tokens) s.call.live s.ledger number h) (old.waiting chosen e has none);
 }
 
-pub licensed_by_row : (place moment : ℕ) (s : Stepped) → AreWithin s → ((chosen : Chosen) → s.call.chosen ≡ Some chosen → IsUnlicensed chosen s.call.number s.ledger.rows place) → AreLicensed s → AreLicensed (step.ended_by_row place moment s)
+pub licensed_by_row : (place moment : ℕ) (s : Stepped) → AreWithin s → ((chosen : Chosen) → s.call.chosen ≡ Some chosen → IsUnlicensed chosen s.call.number s.ledger.rows place) → RowsAreLicensed s → RowsAreLicensed (step.ended_by_row place moment s)
 licensed_by_row place moment s within off old =
     licensed_end ends.Row moment (step.committed place moment s) (committed_within place moment s within) (licensed_commit place moment s within off old)
 
@@ -152,7 +152,7 @@ pub pending_more : (chosen : Chosen) (owner : ℕ) (rows : List Row) (x : Row) (
 pending_more chosen owner rows x sent due off none (inl e) = inl e
 pending_more chosen owner rows x sent due off none (inr h) = inr (retry_more chosen owner rows x (sent + 1) due off none h)
 
-pub waiting_more : (chosen : Chosen) (owner : ℕ) (rows : List Row) (x : Row) (sent : ℕ) (forced : Option ℕ) (delayed : ℕ) → StaysUnfollowed owner rows x → x.ended ≡ None → AreWaiting chosen owner rows sent forced delayed → AreWaiting chosen owner (rows ++ x ∷ []) sent forced delayed
+pub waiting_more : (chosen : Chosen) (owner : ℕ) (rows : List Row) (x : Row) (sent : ℕ) (forced : Option ℕ) (delayed : ℕ) → StaysUnfollowed owner rows x → x.ended ≡ None → LicensesWait chosen owner rows sent forced delayed → LicensesWait chosen owner (rows ++ x ∷ []) sent forced delayed
 waiting_more chosen owner rows x sent forced delayed off none old = record {
   pending = λ due e. pending_more chosen owner rows x sent due off none (old.pending due e);
   asked = last_more owner rows x (sent + 1) delayed off none old.asked;
@@ -166,15 +166,15 @@ more_within owner sent rows x new within q row is = within_case (which owner row
     within_case (inr both) = subst (λ (r : Row). r.number ≤ sent) (sym both.1) new
 
 -- the row that ended is followed by the new one
-pub told_followed : (owner : ℕ) (rows : List Row) (place : ℕ) (row x : Row) (told : RowEnd) → row_in rows place ≡ Some row → x.call ≡ owner → x.number ≡ row.number → is_transparent x.kind ≡ true → (r : Row) → IsRowOf owner (changed_at (ended_row told) (rows ++ x ∷ []) place) place r → IsFollowedAt owner (changed_at (ended_row told) (rows ++ x ∷ []) place) place r.number
-told_followed owner rows place row x told there call number why r is =
-    let after : List Row = changed_at (ended_row told) (rows ++ x ∷ []) place in
+pub reported_followed : (owner : ℕ) (rows : List Row) (place : ℕ) (row x : Row) (reported : RowEnd) → row_in rows place ≡ Some row → x.call ≡ owner → x.number ≡ row.number → is_transparent x.kind ≡ true → (r : Row) → IsRowOf owner (changed_at (ended_row reported) (rows ++ x ∷ []) place) place r → IsFollowedAt owner (changed_at (ended_row reported) (rows ++ x ∷ []) place) place r.number
+reported_followed owner rows place row x reported there call number why r is =
+    let after : List Row = changed_at (ended_row reported) (rows ++ x ∷ []) place in
     let below : place ≤ length rows = row_below rows place row there in
-    let here : row_in after place ≡ Some (ended_row told row) = row_changed_same (ended_row told) (rows ++ x ∷ []) place row (row_more rows x place row there) in
-    let both : Some (ended_row told row) ≡ Some r = sym here ∙ is.there in
-    let equal : ended_row told row ≡ r = (cc) in
+    let here : row_in after place ≡ Some (ended_row reported row) = row_changed_same (ended_row reported) (rows ++ x ∷ []) place row (row_more rows x place row there) in
+    let both : Some (ended_row reported row) ≡ Some r = sym here ∙ is.there in
+    let equal : ended_row reported row ≡ r = (cc) in
     let last : row_in after (length rows + 1) ≡ Some x =
-    row_changed_other (ended_row told) (rows ++ x ∷ []) place (length rows + 1) (apart place (length rows) below) ∙ row_last rows x in
+    row_changed_other (ended_row reported) (rows ++ x ∷ []) place (length rows + 1) (apart place (length rows) below) ∙ row_last rows x in
     record {
       later = length rows + 1;
       order = (omega (arith, below));
@@ -187,8 +187,8 @@ told_followed owner rows place row x told there call number why r is =
     apart : (a n : ℕ) → a ≤ n → a ≡ n + 1 → ⊥
     apart a n le e = omega (arith, le, e)
 
-pub licenses_followed : (chosen : Chosen) (place : ℕ) (row : LiveRow) (told : RowEnd) (x : Row) (s : Stepped) → find_live place s.call.live ≡ Some row → told.word ≡ None → x.call ≡ s.call.number → x.number ≡ row.number → x.kind ≡ kind.Transparent → x.ended ≡ None → IsSound s → HaveLicenses chosen s.call.number s.ledger.rows → HaveLicenses chosen s.call.number (changed_at (ended_row told) s.ledger.rows row.place ++ x ∷ [])
-licenses_followed chosen place row told x s f word call number why none sound old =
+pub licenses_followed : (chosen : Chosen) (place : ℕ) (row : LiveRow) (reported : RowEnd) (x : Row) (s : Stepped) → find_live place s.call.live ≡ Some row → reported.word ≡ None → x.call ≡ s.call.number → x.number ≡ row.number → x.kind ≡ kind.Transparent → x.ended ≡ None → IsSound s → HaveLicenses chosen s.call.number s.ledger.rows → HaveLicenses chosen s.call.number (changed_at (ended_row reported) s.ledger.rows row.place ++ x ∷ [])
+licenses_followed chosen place row reported x s f word call number why none sound old =
     let owner : ℕ = s.call.number in
     let rows : List Row = s.ledger.rows in
     let one : IsStanding owner rows row = found_stands owner rows place s.call.live row sound.apart.tied f in
@@ -197,42 +197,42 @@ licenses_followed chosen place row told x s f word call number why none sound ol
     let off : StaysUnfollowed owner rows x =
     follow_stays owner rows row.place one.row x is one.ended (λ q other is_q e. last_found owner rows place s.call.live row sound.chained.last f q other is_q (e ∙ one.number)) sound.chained.kinds same in
     let new : x.number ≤ s.call.attempts.sent = subst (λ (k : ℕ). k ≤ s.call.attempts.sent) (sym same) (sound.chained.within row.place one.row is) in
-    subst (λ (l : List Row). HaveLicenses chosen owner l) (more_at (ended_row told) rows x row.place one.row one.there (row_below rows row.place one.row one.there))
-    (quiet_step chosen owner (rows ++ x ∷ []) (changed_at (ended_row told) (rows ++ x ∷ []) row.place) s.call.attempts.sent
+    subst (λ (l : List Row). HaveLicenses chosen owner l) (more_at (ended_row reported) rows x row.place one.row one.there (row_below rows row.place one.row one.there))
+    (quiet_step chosen owner (rows ++ x ∷ []) (changed_at (ended_row reported) (rows ++ x ∷ []) row.place) s.call.attempts.sent
     (more_within owner s.call.attempts.sent rows x new sound.chained.within)
-    (told_quiet chosen owner s.call.attempts.sent (rows ++ x ∷ []) row.place told
+    (reported_quiet chosen owner s.call.attempts.sent (rows ++ x ∷ []) row.place reported
     (λ r is_r.
-    let follows : IsFollowedAt owner (changed_at (ended_row told) (rows ++ x ∷ []) row.place) row.place r.number =
-    told_followed owner rows row.place one.row x told one.there call same (ap (λ (k : RowKind). is_transparent k) why) r is_r in
+    let follows : IsFollowedAt owner (changed_at (ended_row reported) (rows ++ x ∷ []) row.place) row.place r.number =
+    reported_followed owner rows row.place one.row x reported one.there call same (ap (λ (k : RowKind). is_transparent k) why) r is_r in
     (inr (record { word = word; why = inl (λ counted. counted.unfollowed follows) }), (λ has counted. absurd (counted.unfollowed follows)))))
     (licenses_more chosen owner rows x off none (λ has retry. absurd (let no : false ≡ true = ap (λ (k : RowKind). is_retry k) (sym why) ∙ retry in cc)) old))
 
-pub waiting_followed : (chosen : Chosen) (place : ℕ) (row : LiveRow) (told : RowEnd) (x : Row) (s : Stepped) → find_live place s.call.live ≡ Some row → x.call ≡ s.call.number → x.number ≡ row.number → x.kind ≡ kind.Transparent → x.ended ≡ None → told.word ≡ None → IsSound s → AreWaiting chosen s.call.number s.ledger.rows s.call.attempts.sent s.call.attempts.forced s.call.attempts.delayed → AreWaiting chosen s.call.number (changed_at (ended_row told) s.ledger.rows row.place ++ x ∷ []) s.call.attempts.sent s.call.attempts.forced s.call.attempts.delayed
-waiting_followed chosen place row told x s f call number why none word sound old =
+pub waiting_followed : (chosen : Chosen) (place : ℕ) (row : LiveRow) (reported : RowEnd) (x : Row) (s : Stepped) → find_live place s.call.live ≡ Some row → x.call ≡ s.call.number → x.number ≡ row.number → x.kind ≡ kind.Transparent → x.ended ≡ None → reported.word ≡ None → IsSound s → LicensesWait chosen s.call.number s.ledger.rows s.call.attempts.sent s.call.attempts.forced s.call.attempts.delayed → LicensesWait chosen s.call.number (changed_at (ended_row reported) s.ledger.rows row.place ++ x ∷ []) s.call.attempts.sent s.call.attempts.forced s.call.attempts.delayed
+waiting_followed chosen place row reported x s f call number why none word sound old =
     let owner : ℕ = s.call.number in
     let rows : List Row = s.ledger.rows in
-    let after : List Row = changed_at (ended_row told) (rows ++ x ∷ []) row.place in
+    let after : List Row = changed_at (ended_row reported) (rows ++ x ∷ []) row.place in
     let one : IsStanding owner rows row = found_stands owner rows place s.call.live row sound.apart.tied f in
     let is : IsRowOf owner rows row.place one.row = record { there = one.there; call = one.call } in
     let same : x.number ≡ one.row.number = number ∙ sym one.number in
     let off : StaysUnfollowed owner rows x =
     follow_stays owner rows row.place one.row x is one.ended (λ q other is_q e. last_found owner rows place s.call.live row sound.chained.last f q other is_q (e ∙ one.number)) sound.chained.kinds same in
     let follows : (r : Row) → IsRowOf owner after row.place r → IsFollowedAt owner after row.place r.number =
-    λ r is_r. told_followed owner rows row.place one.row x told one.there call same (ap (λ (k : RowKind). is_transparent k) why) r is_r in
-    subst (λ (l : List Row). AreWaiting chosen owner l s.call.attempts.sent s.call.attempts.forced s.call.attempts.delayed) (more_at (ended_row told) rows x row.place one.row one.there (row_below rows row.place one.row one.there))
+    λ r is_r. reported_followed owner rows row.place one.row x reported one.there call same (ap (λ (k : RowKind). is_transparent k) why) r is_r in
+    subst (λ (l : List Row). LicensesWait chosen owner l s.call.attempts.sent s.call.attempts.forced s.call.attempts.delayed) (more_at (ended_row reported) rows x row.place one.row one.there (row_below rows row.place one.row one.there))
     (quiet_waiting chosen owner (rows ++ x ∷ []) after s.call.attempts.sent s.call.attempts.forced s.call.attempts.delayed
-    (told_quiet chosen owner s.call.attempts.sent (rows ++ x ∷ []) row.place told
+    (reported_quiet chosen owner s.call.attempts.sent (rows ++ x ∷ []) row.place reported
     (λ r is_r. (inr (record { word = word; why = inl (λ counted. counted.unfollowed (follows r is_r)) }), (λ has counted. absurd (counted.unfollowed (follows r is_r))))))
     (λ n h.
-    asked_still owner (rows ++ x ∷ []) after n (same_rows owner (rows ++ x ∷ []) after (all_changed_at IsKeptRow kept_write (ended_row told) (λ r. kept_write.ended told r) (rows ++ x ∷ []) row.place))
-    (λ q r is_r end e counted. there_case q r end is_r counted follows (told_ends owner (rows ++ x ∷ []) row.place told q r is_r end e)) h)
+    asked_still owner (rows ++ x ∷ []) after n (same_rows owner (rows ++ x ∷ []) after (all_changed_at IsKeptRow kept_write (ended_row reported) (λ r. kept_write.ended reported r) (rows ++ x ∷ []) row.place))
+    (λ q r is_r end e counted. there_case q r end is_r counted follows (reported_ends owner (rows ++ x ∷ []) row.place reported q r is_r end e)) h)
     (waiting_more chosen owner rows x s.call.attempts.sent s.call.attempts.forced s.call.attempts.delayed off none old))
   where
-    there_case : (q : ℕ) (r : Row) (end : RowEnd) → IsRowOf s.call.number (changed_at (ended_row told) (s.ledger.rows ++ x ∷ []) row.place) q r → IsCountedAt s.call.number (changed_at (ended_row told) (s.ledger.rows ++ x ∷ []) row.place) q r.number end → ((r : Row) → IsRowOf s.call.number (changed_at (ended_row told) (s.ledger.rows ++ x ∷ []) row.place) row.place r → IsFollowedAt s.call.number (changed_at (ended_row told) (s.ledger.rows ++ x ∷ []) row.place) row.place r.number) → IsEndedIn s.call.number (s.ledger.rows ++ x ∷ []) q end ⊎ ((q ≡ row.place) × (end ≡ told)) → IsEndedIn s.call.number (s.ledger.rows ++ x ∷ []) q end
+    there_case : (q : ℕ) (r : Row) (end : RowEnd) → IsRowOf s.call.number (changed_at (ended_row reported) (s.ledger.rows ++ x ∷ []) row.place) q r → IsCountedAt s.call.number (changed_at (ended_row reported) (s.ledger.rows ++ x ∷ []) row.place) q r.number end → ((r : Row) → IsRowOf s.call.number (changed_at (ended_row reported) (s.ledger.rows ++ x ∷ []) row.place) row.place r → IsFollowedAt s.call.number (changed_at (ended_row reported) (s.ledger.rows ++ x ∷ []) row.place) row.place r.number) → IsEndedIn s.call.number (s.ledger.rows ++ x ∷ []) q end ⊎ ((q ≡ row.place) × (end ≡ reported)) → IsEndedIn s.call.number (s.ledger.rows ++ x ∷ []) q end
     there_case q r end is_r counted follows (inl has) = has
     there_case q r end is_r counted follows (inr both) =
-        absurd (counted.unfollowed (subst (λ (k : ℕ). IsFollowedAt s.call.number (changed_at (ended_row told) (s.ledger.rows ++ x ∷ []) row.place) k r.number) (sym both.0)
-        (follows r (subst (λ (k : ℕ). IsRowOf s.call.number (changed_at (ended_row told) (s.ledger.rows ++ x ∷ []) row.place) k r) both.0 is_r))))
+        absurd (counted.unfollowed (subst (λ (k : ℕ). IsFollowedAt s.call.number (changed_at (ended_row reported) (s.ledger.rows ++ x ∷ []) row.place) k r.number) (sym both.0)
+        (follows r (subst (λ (k : ℕ). IsRowOf s.call.number (changed_at (ended_row reported) (s.ledger.rows ++ x ∷ []) row.place) k r) both.0 is_r))))
 
 -- the tokens of the ledger's law are those of the bucket
 pub above_same : (throttle : Option Throttle) (o : Option Bucket) → FitsTokens throttle o → is_above o ≡ ledger_ends.is_above throttle (count_of o)
@@ -261,10 +261,10 @@ pub stamp_of : (o : Option ℕ) → is_some o ≡ true → (k : ℕ) × (o ≡ S
 stamp_of None e = absurd (cc)
 stamp_of (Some k) e = (k, refl)
 
-pub told_row : (rows : List Row) (place : ℕ) (row r : Row) (told : RowEnd) → row_in rows place ≡ Some row → row_in (changed_at (ended_row told) rows place) place ≡ Some r → r ≡ ended_row told row
-told_row rows place row r told there e =
-    let both : Some (ended_row told row) ≡ Some r = sym (row_changed_same (ended_row told) rows place row there) ∙ e in
-    let same : r ≡ ended_row told row = (cc) in same
+pub reported_row : (rows : List Row) (place : ℕ) (row r : Row) (reported : RowEnd) → row_in rows place ≡ Some row → row_in (changed_at (ended_row reported) rows place) place ≡ Some r → r ≡ ended_row reported row
+reported_row rows place row r reported there e =
+    let both : Some (ended_row reported row) ≡ Some r = sym (row_changed_same (ended_row reported) rows place row there) ∙ e in
+    let same : r ≡ ended_row reported row = (cc) in same
 
 -- an end in a call that is committed
 pub licenses_committed : (chosen : Chosen) (place p : ℕ) (row : LiveRow) (end : RowEnd) (s : Stepped) → s.call.chosen ≡ Some chosen → s.call.attempts.committed ≡ Some p → find_live place s.call.live ≡ Some row → end.word ≡ None → end.entry ≡ s.ledger.entry → IsSound s → HaveLicenses chosen s.call.number s.ledger.rows → HaveLicenses chosen s.call.number (changed_at (ended_row end) s.ledger.rows row.place)
@@ -278,20 +278,20 @@ licenses_committed chosen place p row end s known c f word entry sound old =
     let there : row_in rows row.place ≡ Some mark.row = ap (λ (k : ℕ). row_in rows k) at ∙ mark.is.there in
     let one : IsStanding owner rows row = found_stands owner rows place s.call.live row sound.apart.tied f in
     quiet_step chosen owner rows (changed_at (ended_row end) rows row.place) s.call.attempts.sent sound.chained.within
-    (told_quiet chosen owner s.call.attempts.sent rows row.place end
+    (reported_quiet chosen owner s.call.attempts.sent rows row.place end
     (λ r is_r.
-    let same : r ≡ ended_row end mark.row = told_row rows row.place mark.row r end there is_r.there in
-    let own : r ≡ ended_row end one.row = told_row rows row.place one.row r end one.there is_r.there in
+    let same : r ≡ ended_row end mark.row = reported_row rows row.place mark.row r end there is_r.there in
+    let own : r ≡ ended_row end one.row = reported_row rows row.place one.row r end one.there is_r.there in
     let number : r.number ≡ row.number = ap (λ (q : Row). q.number) own ∙ one.number in (
       stamped_end chosen owner (changed_at (ended_row end) rows row.place) row.place r end stamp.0 word (ap (λ (q : Row). q.committed) same ∙ stamp.1) (subst (λ (k : ℕ). stamp.0 ≤ k) (sym entry) le),
       (λ has counted. let sent : row.number ≡ s.call.attempts.sent = live_number place row s chosen known has f sound in omega (arith, sent, number)),
     )))
     old
 
-pub licensed_committed : (place p : ℕ) (row : LiveRow) (told : EndNews) (moment : ℕ) (s : Stepped) → s.call.attempts.committed ≡ Some p → find_live place s.call.live ≡ Some row → IsSound s → AreLicensed s → AreLicensed (step.ended_as ends.Row moment (step.row_ended row.place (row_end told s.ledger.entry moment (count_of (settled told (left_live row.place s)).tokens)) (settled told (left_live row.place s))))
-licensed_committed place p row told moment s c f sound old =
-    let v : Stepped = settled told (left_live row.place s) in
-    let end : RowEnd = row_end told s.ledger.entry moment (count_of v.tokens) in
+pub licensed_committed : (place p : ℕ) (row : LiveRow) (reported : EndNews) (moment : ℕ) (s : Stepped) → s.call.attempts.committed ≡ Some p → find_live place s.call.live ≡ Some row → IsSound s → RowsAreLicensed s → RowsAreLicensed (step.ended_as ends.Row moment (step.row_ended row.place (row_end reported s.ledger.entry moment (count_of (settled reported (left_live row.place s)).tokens)) (settled reported (left_live row.place s))))
+licensed_committed place p row reported moment s c f sound old =
+    let v : Stepped = settled reported (left_live row.place s) in
+    let end : RowEnd = row_end reported s.ledger.entry moment (count_of v.tokens) in
     let w : Stepped = step.row_ended row.place end v in
     licensed_end ends.Row moment w
     (within_like s.call.number s.ledger.rows w.ledger.rows s.call.attempts.sent
@@ -306,14 +306,14 @@ pub stamp_case : (n : ℕ) (r : Row) (end : RowEnd) (o : Option ℕ) → r.commi
 stamp_case n r end None h le e = record { stamp = n; committed = ap (λ (x : Option ℕ). stamped n x) h; order = (omega (arith, e)) }
 stamp_case n r end (Some k) h le e = record { stamp = k; committed = ap (λ (x : Option ℕ). stamped n x) h; order = (let below : k ≤ n = le k h in omega (arith, below, e)) }
 
-pub licenses_closed : (chosen : Chosen) (place moment : ℕ) (row : LiveRow) (told : EndNews) (end : RowEnd) (j : Judged) (s : Stepped) → s.call.chosen ≡ Some chosen → find_live place s.call.live ≡ Some row → j.word ≡ None → end.entry ≡ s.ledger.entry → IsSound s → HaveLicenses chosen s.call.number s.ledger.rows → HaveLicenses chosen s.call.number (step.ended_by_row row.place moment (with_judged row end j (settled told (left_live row.place s)))).ledger.rows
-licenses_closed chosen place moment row told end j s known f word at sound old =
+pub licenses_closed : (chosen : Chosen) (place moment : ℕ) (row : LiveRow) (reported : EndNews) (end : RowEnd) (j : Judged) (s : Stepped) → s.call.chosen ≡ Some chosen → find_live place s.call.live ≡ Some row → j.word ≡ None → end.entry ≡ s.ledger.entry → IsSound s → HaveLicenses chosen s.call.number s.ledger.rows → HaveLicenses chosen s.call.number (step.ended_by_row row.place moment (with_judged row end j (settled reported (left_live row.place s)))).ledger.rows
+licenses_closed chosen place moment row reported end j s known f word at sound old =
     let owner : ℕ = s.call.number in
     let n : ℕ = s.ledger.entry in
     let rows : List Row = s.ledger.rows in
     let sent : ℕ = s.call.attempts.sent in
     let last : RowEnd = record end { word = j.word } in
-    let w : Stepped = with_judged row end j (settled told (left_live row.place s)) in
+    let w : Stepped = with_judged row end j (settled reported (left_live row.place s)) in
     let t : Stepped = step.committed row.place moment w in
     let stamped_rows : List Row = changed_at (committed_row n) rows row.place in
     let both : List Row = changed_at (ended_row last) stamped_rows row.place in
@@ -323,9 +323,9 @@ licenses_closed chosen place moment row told end j s known f word at sound old =
     let within : (q : ℕ) (r : Row) → IsRowOf owner stamped_rows q r → r.number ≤ sent = within_like owner rows stamped_rows sent first.like sound.chained.within in
     let there : row_in stamped_rows row.place ≡ Some (committed_row n one.row) = row_changed_same (committed_row n) rows row.place one.row one.there in
     let known_end : IsQuietStep chosen owner stamped_rows both sent =
-    told_quiet chosen owner sent stamped_rows row.place last
+    reported_quiet chosen owner sent stamped_rows row.place last
     (λ r is_r.
-    let own : r ≡ ended_row last (committed_row n one.row) = told_row stamped_rows row.place (committed_row n one.row) r last there is_r.there in
+    let own : r ≡ ended_row last (committed_row n one.row) = reported_row stamped_rows row.place (committed_row n one.row) r last there is_r.there in
     let mark : IsStampedBy last.entry (committed_row n one.row) = stamp_case n one.row last one.row.committed refl (λ k e. sound.stamped row.place one.row (record { there = one.there; call = one.call }) k e) at in
     let num : r.number ≡ row.number = ap (λ (q : Row). q.number) own ∙ one.number in (
       stamped_end chosen owner both row.place r last mark.stamp word (ap (λ (q : Row). q.committed) own ∙ mark.committed) mark.order,

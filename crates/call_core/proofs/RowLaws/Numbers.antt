@@ -10,17 +10,17 @@ use Rattle.attempt_ledger.specs.Numbering.{IsNextAttempt, KeepsNumbering, attemp
 use Rattle.attempt_ledger.specs.declared.row.Row.{Row}
 use Rattle.attempt_ledger.specs.declared.row.RowKind.{RowKind}
 use Rattle.call_core.specs.Numbering.{IsNumbered, is_attempt_of, number_and_kind, numbered}
-use Rattle.call_core.specs.Orders.{AreTimed, IsTimed}
+use Rattle.call_core.specs.Orders.{RowsAreTimed, IsTimed}
 use Rattle.call_core.specs.Parts.{plan_of}
 use Rattle.call_core.specs.RowLaws.{NeverBreaks, rows_of}
 use Rattle.call_core.specs.Steps.{Stepped, call_plan}
 use Rattle.call_core.proofs.RowLaws.Splits.{IsSplit, split_of, split_place, split_row}
 
 -- the attempts of a call, as those of its own rows
-attempts_front : (x : Row) (P Q : List Row) (b t : Bool) → P ≡ Q → (if b && t then x ∷ P else P) ≡ (if b then (if t then x ∷ Q else Q) else Q)
-attempts_front x P Q false t e = e
-attempts_front x P Q true true e = ap (λ (l : List Row). x ∷ l) e
-attempts_front x P Q true false e = e
+attempts_prefix : (x : Row) (P Q : List Row) (b t : Bool) → P ≡ Q → (if b && t then x ∷ P else P) ≡ (if b then (if t then x ∷ Q else Q) else Q)
+attempts_prefix x P Q false t e = e
+attempts_prefix x P Q true true e = ap (λ (l : List Row). x ∷ l) e
+attempts_prefix x P Q true false e = e
 
 attempts_if : (x : Row) (rows : List Row) (b : Bool) → (if b then (if not (is_transparent x.kind) then x ∷ attempts_of rows else attempts_of rows) else attempts_of rows) ≡ attempts_of (if b then x ∷ rows else rows)
 attempts_if x rows true = refl
@@ -29,10 +29,10 @@ attempts_if x rows false = refl
 attempts_own : (owner : ℕ) (rows : List Row) → filter (is_attempt_of owner) rows ≡ attempts_of (rows_of owner rows)
 attempts_own owner [] = refl
 attempts_own owner (x ∷ rows) =
-    attempts_front x (filter (is_attempt_of owner) rows) (attempts_of (rows_of owner rows)) (x.call == owner) (not (is_transparent x.kind)) (attempts_own owner rows)
+    attempts_prefix x (filter (is_attempt_of owner) rows) (attempts_of (rows_of owner rows)) (x.call == owner) (not (is_transparent x.kind)) (attempts_own owner rows)
     ∙ attempts_if x (rows_of owner rows) (x.call == owner)
 
--- the names of the attempts before a row, its own, and those behind it
+-- the names of the attempts before a row, its own, and those after it
 abbrev names : List Row → List (ℕ × Option RowKind)
 names rows = map number_and_kind (attempts_of rows)
 
@@ -68,11 +68,11 @@ get_last : (xs : List (ℕ × Option RowKind)) (x p : ℕ × Option RowKind) (i 
 get_last [] x p zero e = inr (refl, (cc))
 get_last [] x p (suc i) e = absurd (cc)
 get_last (y ∷ xs) x p zero e = inl e
-get_last (y ∷ xs) x p (suc i) e = get_behind (get_last xs x p i e)
+get_last (y ∷ xs) x p (suc i) e = get_after (get_last xs x p i e)
   where
-    get_behind : (slice_get xs i ≡ Some p) ⊎ ((i ≡ length xs) × (p ≡ x)) → (slice_get xs i ≡ Some p) ⊎ ((suc i ≡ suc (length xs)) × (p ≡ x))
-    get_behind (inl h) = inl h
-    get_behind (inr h) = inr (ap suc h.0, h.1)
+    get_after : (slice_get xs i ≡ Some p) ⊎ ((i ≡ length xs) × (p ≡ x)) → (slice_get xs i ≡ Some p) ⊎ ((suc i ≡ suc (length xs)) × (p ≡ x))
+    get_after (inl h) = inl h
+    get_after (inr h) = inr (ap suc h.0, h.1)
 
 number_split : (plan : CallPlan) (n i : ℕ) (p : ℕ × Option RowKind) → (slice_get (numbered plan n) i ≡ Some p → IsNumber plan n i p) → (slice_get (numbered plan n) i ≡ Some p) ⊎ ((i ≡ length (numbered plan n)) × (p ≡ (suc n, kind_by_number plan (suc n)))) → IsNumber plan (suc n) i p
 number_split plan n i p rest (inl e) = let old : IsNumber plan n i p = rest e in let below : i < n = old.1 in (old.0, omega (arith, below))
@@ -112,7 +112,7 @@ next_attempt chosen s before row after known numbered_s together kind =
           ∙ ap (λ (p : CallPlan). kind_by_number p row.number) same;
     }
 
-row_numbered : (chosen : Chosen) (now : ℕ) (s : Stepped) (before : List Row) (row : Row) (after : List Row) → s.call.chosen ≡ Some chosen → IsNumbered s → AreTimed now s → rows_of s.call.number s.ledger.rows ≡ before ++ row ∷ after → KeepsNumbering chosen.plan (length (attempts_of before)) row
+row_numbered : (chosen : Chosen) (now : ℕ) (s : Stepped) (before : List Row) (row : Row) (after : List Row) → s.call.chosen ≡ Some chosen → IsNumbered s → RowsAreTimed now s → rows_of s.call.number s.ledger.rows ≡ before ++ row ∷ after → KeepsNumbering chosen.plan (length (attempts_of before)) row
 row_numbered chosen now s before row after known numbered_s timed together =
     let split : IsSplit s.call.number s.ledger.rows before row after = split_of s.call.number s.ledger.rows before row after together in
     let is : IsTimed now row = timed (split_place split.pre) row (split_row s.call.number s.ledger.rows before row after split) in
@@ -128,7 +128,7 @@ breaks_eight chosen rows before row after keeps (inr (inr (inl h))) = let no : 8
 breaks_eight chosen rows before row after keeps (inr (inr (inr (inl h)))) = let no : 8 ≡ 11 = h.0 in omega (arith, no)
 breaks_eight chosen rows before row after keeps (inr (inr (inr (inr h)))) = let no : 8 ≡ 12 = h.0 in omega (arith, no)
 
-pub never_misnumbered : (chosen : Chosen) (now : ℕ) (s : Stepped) → s.call.chosen ≡ Some chosen → IsNumbered s → AreTimed now s → NeverBreaks 8 chosen s
+pub never_misnumbered : (chosen : Chosen) (now : ℕ) (s : Stepped) → s.call.chosen ≡ Some chosen → IsNumbered s → RowsAreTimed now s → NeverBreaks 8 chosen s
 never_misnumbered chosen now s known numbered_s timed = λ place breaks.
     breaks_eight chosen (rows_of s.call.number s.ledger.rows) breaks.before breaks.row breaks.after
     (row_numbered chosen now s breaks.before breaks.row breaks.after known numbered_s timed breaks.together) breaks.broken

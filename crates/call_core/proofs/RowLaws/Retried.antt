@@ -26,9 +26,9 @@ use Rattle.call_core.specs.Commitments.{IsRowOf}
 use Rattle.call_core.specs.Going.{hedges}
 use Rattle.call_core.specs.Parts.{committed_buffer, find_live, furthest, has_none, is_followed, is_tested, kind_of_next, later_kind, pushed_over, stopped_attempts}
 use Rattle.call_core.specs.Reasons.{AskedDelay, IsKeptAt, IsKeptRow}
-use Rattle.call_core.specs.RowChains.{AreChained}
+use Rattle.call_core.specs.RowChains.{RowsAreChained}
 use Rattle.call_core.specs.RowFollowers.{IsEndedIn, KeepsFollowers, WasFollower}
-use Rattle.call_core.specs.RowLicenses.{AreLicensed, AreWaiting, HaveLicenses, IsAsked, IsLastAsked, IsRetryOf, IsSound}
+use Rattle.call_core.specs.RowLicenses.{RowsAreLicensed, LicensesWait, HaveLicenses, IsAsked, IsLastAsked, IsRetryOf, IsSound}
 use Rattle.call_core.specs.Steps as step
 use Rattle.call_core.specs.Steps.{Stepped, call_plan, cut_all, is_committed_live, judged_of, left_live, new_call, new_row, next_due, settled, stamp_if, with_chosen, with_judged, with_message}
 use Rattle.call_core.proofs.Finding.{found_place, furthest_found}
@@ -50,7 +50,7 @@ no_delay : (s : Stepped) → ((place : ℕ) (row : Row) → IsRowOf s.call.numbe
 no_delay s none (inl e) = e
 no_delay s none (inr asked) = absurd (none asked.place asked.has.row asked.has.is)
 
-licensed_chosen : (chosen : Chosen) (moment : ℕ) (s : Stepped) → s.call.chosen ≡ None → IsSound s → AreLicensed (with_chosen chosen moment s)
+licensed_chosen : (chosen : Chosen) (moment : ℕ) (s : Stepped) → s.call.chosen ≡ None → IsSound s → RowsAreLicensed (with_chosen chosen moment s)
 licensed_chosen chosen moment s fresh sound =
     let none : (place : ℕ) (row : Row) → IsRowOf s.call.number s.ledger.rows place row → ⊥ = sound.fresh fresh in
     record {
@@ -61,20 +61,20 @@ licensed_chosen chosen moment s fresh sound =
       };
     }
 
-licensed_same : (s t : Stepped) → t.call.number ≡ s.call.number → t.call.chosen ≡ s.call.chosen → t.ledger.rows ≡ s.ledger.rows → t.call.attempts.sent ≡ s.call.attempts.sent → t.call.attempts.forced ≡ s.call.attempts.forced → t.call.attempts.delayed ≡ s.call.attempts.delayed → t.call.attempts.committed ≡ s.call.attempts.committed → AreLicensed s → AreLicensed t
+licensed_same : (s t : Stepped) → t.call.number ≡ s.call.number → t.call.chosen ≡ s.call.chosen → t.ledger.rows ≡ s.ledger.rows → t.call.attempts.sent ≡ s.call.attempts.sent → t.call.attempts.forced ≡ s.call.attempts.forced → t.call.attempts.delayed ≡ s.call.attempts.delayed → t.call.attempts.committed ≡ s.call.attempts.committed → RowsAreLicensed s → RowsAreLicensed t
 licensed_same s t number chosen rows sent forced delayed committed old = record {
   ends = λ c e.
       subst (λ (k : ℕ). HaveLicenses c k t.ledger.rows) (sym number) (subst (λ (l : List Row). HaveLicenses c s.call.number l) (sym rows) (old.ends c (sym chosen ∙ e)));
   waiting = λ c e has none.
-      let w : AreWaiting c s.call.number s.ledger.rows s.call.attempts.sent s.call.attempts.forced s.call.attempts.delayed = old.waiting c (sym chosen ∙ e) has (sym committed ∙ none) in
-      subst (λ (k : ℕ). AreWaiting c k t.ledger.rows t.call.attempts.sent t.call.attempts.forced t.call.attempts.delayed) (sym number)
-      (subst (λ (l : List Row). AreWaiting c s.call.number l t.call.attempts.sent t.call.attempts.forced t.call.attempts.delayed) (sym rows)
-      (subst (λ (k : ℕ). AreWaiting c s.call.number s.ledger.rows k t.call.attempts.forced t.call.attempts.delayed) (sym sent)
-      (subst (λ (o : Option ℕ). AreWaiting c s.call.number s.ledger.rows s.call.attempts.sent o t.call.attempts.delayed) (sym forced)
-      (subst (λ (k : ℕ). AreWaiting c s.call.number s.ledger.rows s.call.attempts.sent s.call.attempts.forced k) (sym delayed) w))));
+      let w : LicensesWait c s.call.number s.ledger.rows s.call.attempts.sent s.call.attempts.forced s.call.attempts.delayed = old.waiting c (sym chosen ∙ e) has (sym committed ∙ none) in
+      subst (λ (k : ℕ). LicensesWait c k t.ledger.rows t.call.attempts.sent t.call.attempts.forced t.call.attempts.delayed) (sym number)
+      (subst (λ (l : List Row). LicensesWait c s.call.number l t.call.attempts.sent t.call.attempts.forced t.call.attempts.delayed) (sym rows)
+      (subst (λ (k : ℕ). LicensesWait c s.call.number s.ledger.rows k t.call.attempts.forced t.call.attempts.delayed) (sym sent)
+      (subst (λ (o : Option ℕ). LicensesWait c s.call.number s.ledger.rows s.call.attempts.sent o t.call.attempts.delayed) (sym forced)
+      (subst (λ (k : ℕ). LicensesWait c s.call.number s.ledger.rows s.call.attempts.sent s.call.attempts.forced k) (sym delayed) w))));
 }
 
-licensed_head : (place : ℕ) (row : LiveRow) (meta : List Field) (moment : ℕ) (s : Stepped) (b : Bool) → find_live place s.call.live ≡ Some row → IsSound s → AreLicensed s → AreLicensed (step.with_head meta (if b then s else step.committed place moment (record s { call = record s.call { buffer = committed_buffer place s.call.buffer } })))
+licensed_head : (place : ℕ) (row : LiveRow) (meta : List Field) (moment : ℕ) (s : Stepped) (b : Bool) → find_live place s.call.live ≡ Some row → IsSound s → RowsAreLicensed s → RowsAreLicensed (step.with_head meta (if b then s else step.committed place moment (record s { call = record s.call { buffer = committed_buffer place s.call.buffer } })))
 licensed_head place row meta moment s true f sound old = licensed_same s (step.with_head meta s) refl refl refl refl refl refl refl old
 licensed_head place row meta moment s false f sound old =
     let c : Stepped = record s { call = record s.call { buffer = committed_buffer place s.call.buffer } } in
@@ -83,7 +83,7 @@ licensed_head place row meta moment s false f sound old =
     (licensed_commit place moment c sound.chained.within (λ chosen e. subst (λ (k : ℕ). IsUnlicensed chosen s.call.number s.ledger.rows k) (found_place place s.call.live row f) (live_unlicensed chosen place row s f sound.apart))
     (licensed_same s c refl refl refl refl refl refl refl old))
 
-licensed_message : (octets : List ℕ) (s : Stepped) (b : Bool) → AreLicensed s → AreLicensed (record s { call = (if b then record s.call { inbox = record s.call.inbox { messages = s.call.inbox.messages ++ octets ∷ [] } } else s.call) })
+licensed_message : (octets : List ℕ) (s : Stepped) (b : Bool) → RowsAreLicensed s → RowsAreLicensed (record s { call = (if b then record s.call { inbox = record s.call.inbox { messages = s.call.inbox.messages ++ octets ∷ [] } } else s.call) })
 licensed_message octets s true old = licensed_same s (record s { call = record s.call { inbox = record s.call.inbox { messages = s.call.inbox.messages ++ octets ∷ [] } } }) refl refl refl refl refl refl refl old
 licensed_message octets s false old = licensed_same s (record s { call = s.call }) refl refl refl refl refl refl refl old
 
@@ -92,21 +92,21 @@ tested_plan plans.None a e = refl
 tested_plan (plans.Retry policy) a e = absurd (let no : false ≡ true = e in cc)
 tested_plan (plans.Hedge policy) a e = refl
 
-licensed_by_last : (last : Option ℕ) (moment : ℕ) (s : Stepped) → AreWithin s → is_tested (call_plan s.call) s.call.attempts ≡ true → AreLicensed s → AreLicensed (step.ended_by_last last moment s)
+licensed_by_last : (last : Option ℕ) (moment : ℕ) (s : Stepped) → AreWithin s → is_tested (call_plan s.call) s.call.attempts ≡ true → RowsAreLicensed s → RowsAreLicensed (step.ended_by_last last moment s)
 licensed_by_last None moment s within tested old = old
 licensed_by_last (Some last) moment s within tested old =
-    elim (has_none s.call.live) as (λ b. AreLicensed (if b then step.ended_by_row last moment s else s)) [
+    elim (has_none s.call.live) as (λ b. RowsAreLicensed (if b then step.ended_by_row last moment s else s)) [
       | true ↦ licensed_by_row last moment s within
           (λ chosen e r is x h license. never_may chosen.plan chosen.throttle r.number x (ap has_retries (sym (known_plan s chosen e)) ∙ tested_plan (call_plan s.call) s.call.attempts tested) license.may) old
       | false ↦ old
     ]
 
-licensed_over : (over : Bool) (row : Option ℕ) (moment : ℕ) (s t : Stepped) → ((place : ℕ) → row ≡ Some place → (chosen : Chosen) → t.call.chosen ≡ Some chosen → IsUnlicensed chosen t.call.number t.ledger.rows place) → AreWithin t → AreLicensed t → AreLicensed (step.committed_over over row moment t)
+licensed_over : (over : Bool) (row : Option ℕ) (moment : ℕ) (s t : Stepped) → ((place : ℕ) → row ≡ Some place → (chosen : Chosen) → t.call.chosen ≡ Some chosen → IsUnlicensed chosen t.call.number t.ledger.rows place) → AreWithin t → RowsAreLicensed t → RowsAreLicensed (step.committed_over over row moment t)
 licensed_over over None moment s t off within old = old
 licensed_over true (Some place) moment s t off within old = licensed_commit place moment t within (off place refl) old
 licensed_over false (Some place) moment s t off within old = old
 
-licensed_place : (row : LiveRow) (placed : Placed) (s : Stepped) → IsSound s → AreLicensed s → AreLicensed (step.placed_row_live row placed s)
+licensed_place : (row : LiveRow) (placed : Placed) (s : Stepped) → IsSound s → RowsAreLicensed s → RowsAreLicensed (step.placed_row_live row placed s)
 licensed_place row placed s sound old = record {
   ends = λ chosen e.
       quiet_step chosen s.call.number s.ledger.rows (changed_at (placed_row placed) s.ledger.rows row.place) s.call.attempts.sent sound.chained.within
@@ -125,14 +125,14 @@ made_free s due e sound None c = c
 made_free s due e sound (Some p) c =
     absurd (let no : true ≡ false = sym (sound.kept.committed p c).stopped ∙ not_stopped (call_plan s.call) s.call.attempts due e in cc)
 
-made_retry : (chosen : Chosen) (due : ℕ) (s : Stepped) → next_due s.call ≡ Some due → s.call.chosen ≡ Some chosen → has_retries chosen.plan ≡ true → (s.call.attempts.sent == 0) ≡ false → (number : ℕ) → number ≡ s.call.attempts.sent + 1 → AreWaiting chosen s.call.number s.ledger.rows s.call.attempts.sent s.call.attempts.forced s.call.attempts.delayed → IsRetryOf chosen s.call.number s.ledger.rows number due
+made_retry : (chosen : Chosen) (due : ℕ) (s : Stepped) → next_due s.call ≡ Some due → s.call.chosen ≡ Some chosen → has_retries chosen.plan ≡ true → (s.call.attempts.sent == 0) ≡ false → (number : ℕ) → number ≡ s.call.attempts.sent + 1 → LicensesWait chosen s.call.number s.ledger.rows s.call.attempts.sent s.call.attempts.forced s.call.attempts.delayed → IsRetryOf chosen s.call.number s.ledger.rows number due
 made_retry chosen due s e known has some number same waiting = pending_of (waiting.pending due (due_forced (call_plan s.call) s.call.attempts due (ap hedges (known_plan s chosen known) ∙ no_hedge chosen.plan has) e))
   where
     pending_of : (s.call.attempts.sent ≡ 0) ⊎ IsRetryOf chosen s.call.number s.ledger.rows (s.call.attempts.sent + 1) due → IsRetryOf chosen s.call.number s.ledger.rows number due
     pending_of (inl zero_is) = absurd (let no : true ≡ false = sym (eq-eqb s.call.attempts.sent 0 zero_is) ∙ some in cc)
     pending_of (inr h) = subst (λ (k : ℕ). IsRetryOf chosen s.call.number s.ledger.rows k due) (sym same) h
 
-licensed_made : (due : ℕ) (s : Stepped) → next_due s.call ≡ Some due → IsSound s → AreLicensed s → AreLicensed (step.made due s)
+licensed_made : (due : ℕ) (s : Stepped) → next_due s.call ≡ Some due → IsSound s → RowsAreLicensed s → RowsAreLicensed (step.made due s)
 licensed_made due s e sound old =
     let owner : ℕ = s.call.number in
     let rows : List Row = s.ledger.rows in
@@ -178,10 +178,10 @@ tested_stopped plans.None a e = e
 tested_stopped (plans.Retry policy) a e = e
 tested_stopped (plans.Hedge policy) a e = e
 
-pub licensed_new : (number : ℕ) (request : RequestSeen) (begun : ℕ) (ledger : Ledger) (tokens : Option Bucket) (acts : List CallAct) → AreLicensed (step.lent (new_call number request begun) ledger tokens acts)
+pub licensed_new : (number : ℕ) (request : RequestSeen) (begun : ℕ) (ledger : Ledger) (tokens : Option Bucket) (acts : List CallAct) → RowsAreLicensed (step.lent (new_call number request begun) ledger tokens acts)
 licensed_new number request begun ledger tokens acts = record { ends = λ chosen e. absurd (cc); waiting = λ chosen e. absurd (cc) }
 
-pub licensed_moves : Moves (λ chosen. Unit {0}) (λ s row told. is_cut told.cause ≡ false) (λ moment s t. IsSound s → AreLicensed s → AreLicensed t)
+pub licensed_moves : Moves (λ chosen. Unit {0}) (λ s row reported. is_cut reported.cause ≡ false) (λ moment s t. IsSound s → RowsAreLicensed s → RowsAreLicensed t)
 licensed_moves = record {
   same = λ moment s sound old. old;
   configured = λ chosen moment s known e fresh sound old. licensed_chosen chosen moment s fresh sound;
@@ -190,7 +190,7 @@ licensed_moves = record {
   too_large = λ row moment s e sound old. licensed_end ends.Response moment s sound.chained.within old;
   head = λ place row meta moment s e sound old. licensed_head place row meta moment s (is_some s.call.attempts.committed) e sound old;
   message = λ row octets moment s sound old. licensed_message octets s (is_committed_live row s.call) old;
-  row_ended = λ place row told moment word s e uncut sound old. licensed_live place row told moment word s (is_followed s.call.attempts told.cause told.unseen) e uncut sound old;
+  row_ended = λ place row reported moment word s e uncut sound old. licensed_live place row reported moment word s (is_followed s.call.attempts reported.cause reported.unseen) e uncut sound old;
   placed = λ place row placed s entry e free sound old. licensed_place row placed s sound old;
   refused = λ due moment s e passed tested sound old.
       let t : Stepped = step.with_attempts (stopped_attempts s.call.attempts) s in
@@ -230,7 +230,7 @@ elsewhere_quiet chosen owner sent rows after keeps = record {
   free = λ place old new is_old is_new end e h. elsewhere_committed owner rows after keeps place old new is_old is_new ∙ h.free;
 }
 
-pub licensed_elsewhere : (s : Stepped) (ledger : Ledger) → KeepsFollowers s.call.number s.ledger.rows ledger.rows → AreChained s → AreLicensed s → AreLicensed (record s { ledger = ledger })
+pub licensed_elsewhere : (s : Stepped) (ledger : Ledger) → KeepsFollowers s.call.number s.ledger.rows ledger.rows → RowsAreChained s → RowsAreLicensed s → RowsAreLicensed (record s { ledger = ledger })
 licensed_elsewhere s ledger keeps chained old = record {
   ends = λ chosen e.
       quiet_step chosen s.call.number s.ledger.rows ledger.rows s.call.attempts.sent chained.within (elsewhere_quiet chosen s.call.number s.call.attempts.sent s.ledger.rows ledger.rows keeps) (old.ends chosen e);

@@ -47,16 +47,16 @@ pub record IsOwn (test : Row → Bool) (owner : ℕ) (rows : List Row) : Type 0 
   pub call : row.call ≡ owner
   pub passes : test row ≡ true
 
-own_behind : (test : Row → Bool) (owner : ℕ) (x : Row) (rows : List Row) → IsOwn test owner rows → IsOwn test owner (x ∷ rows)
-own_behind test owner x rows old = record { at = suc old.at; row = old.row; there = old.there; call = old.call; passes = old.passes }
+own_after : (test : Row → Bool) (owner : ℕ) (x : Row) (rows : List Row) → IsOwn test owner rows → IsOwn test owner (x ∷ rows)
+own_after test owner x rows old = record { at = suc old.at; row = old.row; there = old.there; call = old.call; passes = old.passes }
 
 own_split : (test : Row → Bool) (owner : ℕ) (x : Row) (rows : List Row) → (x.call == owner) ≡ true → (list_any test (rows_of owner rows) ≡ true → IsOwn test owner rows) → (test x ≡ true) ⊎ (list_any test (rows_of owner rows) ≡ true) → IsOwn test owner (x ∷ rows)
 own_split test owner x rows on rest (inl e) = record { at = 0; row = x; there = refl; call = eqb-true x.call owner on; passes = e }
-own_split test owner x rows on rest (inr e) = own_behind test owner x rows (rest e)
+own_split test owner x rows on rest (inr e) = own_after test owner x rows (rest e)
 
 own_one : (test : Row → Bool) (owner : ℕ) (x : Row) (rows : List Row) (b : Bool) → (x.call == owner) ≡ b → (list_any test (rows_of owner rows) ≡ true → IsOwn test owner rows) → list_any test (if b then x ∷ rows_of owner rows else rows_of owner rows) ≡ true → IsOwn test owner (x ∷ rows)
 own_one test owner x rows true t rest e = own_split test owner x rows t rest (either (test x) (list_any test (rows_of owner rows)) e)
-own_one test owner x rows false t rest e = own_behind test owner x rows (rest e)
+own_one test owner x rows false t rest e = own_after test owner x rows (rest e)
 
 pub own_of : (test : Row → Bool) (owner : ℕ) (rows : List Row) → list_any test (rows_of owner rows) ≡ true → IsOwn test owner rows
 own_of test owner [] e = absurd (cc)
@@ -65,27 +65,27 @@ own_of test owner (x ∷ rows) e = own_one test owner x rows (x.call == owner) r
 own_row : (test : Row → Bool) (owner : ℕ) (rows : List Row) (own : IsOwn test owner rows) → IsRowOf owner rows (suc own.at) own.row
 own_row test owner rows own = record { there = own.there; call = own.call }
 
--- the rows before and behind a place
+-- the rows before and after a place
 pub record IsCut (rows : List Row) (i : ℕ) (row : Row) : Type 0 where
   pub pre : List Row
   pub post : List Row
   pub together : rows ≡ pre ++ row ∷ post
   pub len : length pre ≡ i
 
-cut_behind : (x row : Row) (rows : List Row) (i : ℕ) → IsCut rows i row → IsCut (x ∷ rows) (suc i) row
-cut_behind x row rows i old = record { pre = x ∷ old.pre; post = old.post; together = ap (λ (l : List Row). x ∷ l) old.together; len = ap suc old.len }
+cut_after : (x row : Row) (rows : List Row) (i : ℕ) → IsCut rows i row → IsCut (x ∷ rows) (suc i) row
+cut_after x row rows i old = record { pre = x ∷ old.pre; post = old.post; together = ap (λ (l : List Row). x ∷ l) old.together; len = ap suc old.len }
 
 pub cut_at : (rows : List Row) (i : ℕ) (row : Row) → slice_get rows i ≡ Some row → IsCut rows i row
 cut_at [] i row e = absurd (cc)
 cut_at (x ∷ rows) zero row e = let same : x ≡ row = (cc) in record { pre = []; post = rows; together = ap (λ (r : Row). r ∷ rows) same; len = refl }
-cut_at (x ∷ rows) (suc i) row e = cut_behind x row rows i (cut_at rows i row e)
+cut_at (x ∷ rows) (suc i) row e = cut_after x row rows i (cut_at rows i row e)
 
 own_middle : (owner : ℕ) (pre : List Row) (row : Row) (post : List Row) → row.call ≡ owner → rows_of owner (pre ++ row ∷ post) ≡ rows_of owner pre ++ row ∷ rows_of owner post
 own_middle owner pre row post call =
     filter-append (λ (r : Row). r.call == owner) pre (row ∷ post)
     ∙ ap (λ (b : Bool). rows_of owner pre ++ (if b then row ∷ rows_of owner post else rows_of owner post)) (eq-eqb row.call owner call)
 
--- a row that passes a test on what stands before and behind it, found by its place
+-- a row that passes a test on what stands before and after it, found by its place
 some_at : (test : ℕ → Row → List Row → Bool) (from : ℕ) (before : List Row) (row : Row) (after : List Row) → test (from + length before) row after ≡ true → some_row_from test from (before ++ row ∷ after) ≡ true
 some_at test from [] row after e =
     first_or (test from row after) (some_row_from test (from + 1) after) (subst (λ (k : ℕ). test k row after ≡ true) (let same : from + 0 ≡ from = omega arith in same) e)
@@ -104,14 +104,14 @@ passes_at : (test : ℕ → Row → List Row → Bool) (rows : List Row) (found 
 passes_at test rows found = subst (λ (k : ℕ). test k found.row found.after ≡ true) (zero_more (length found.before)) found.passes
 
 -- two cuts at one place
-same_front : (xs ys zs ws : List Row) (x z : Row) → xs ++ x ∷ ys ≡ zs ++ z ∷ ws → length xs ≡ length zs → xs ≡ zs
-same_front [] ys [] ws x z e h = refl
-same_front [] ys (w ∷ zs) ws x z e h = absurd (cc)
-same_front (y ∷ xs) ys [] ws x z e h = absurd (cc)
-same_front (y ∷ xs) ys (w ∷ zs) ws x z e h = front_case (cc) (same_front xs ys zs ws x z (cc) (let s : suc (length xs) ≡ suc (length zs) = h in omega (arith, s)))
+same_prefix : (xs ys zs ws : List Row) (x z : Row) → xs ++ x ∷ ys ≡ zs ++ z ∷ ws → length xs ≡ length zs → xs ≡ zs
+same_prefix [] ys [] ws x z e h = refl
+same_prefix [] ys (w ∷ zs) ws x z e h = absurd (cc)
+same_prefix (y ∷ xs) ys [] ws x z e h = absurd (cc)
+same_prefix (y ∷ xs) ys (w ∷ zs) ws x z e h = prefix_case (cc) (same_prefix xs ys zs ws x z (cc) (let s : suc (length xs) ≡ suc (length zs) = h in omega (arith, s)))
   where
-    front_case : y ≡ w → xs ≡ zs → y ∷ xs ≡ w ∷ zs
-    front_case a b = ap (λ (r : Row). r ∷ xs) a ∙ ap (λ (l : List Row). w ∷ l) b
+    prefix_case : y ≡ w → xs ≡ zs → y ∷ xs ≡ w ∷ zs
+    prefix_case a b = ap (λ (r : Row). r ∷ xs) a ∙ ap (λ (l : List Row). w ∷ l) b
 
 -- how many rows of the call stand before a place
 len_more : (owner : ℕ) (xs : List Row) (x : Row) (ys : List Row) → x.call ≡ owner → length (rows_of owner xs) < length (rows_of owner (xs ++ x ∷ ys))
@@ -127,11 +127,11 @@ record IsWithin (pre other : List Row) (row : Row) : Type 0 where
   rest : List Row
   together : pre ≡ other ++ row ∷ rest
 
-within_of : (pre : List Row) (x : Row) (post other : List Row) (row : Row) (behind : List Row) → pre ++ x ∷ post ≡ other ++ row ∷ behind → length other < length pre → IsWithin pre other row
-within_of [] x post other row behind e h = absurd (let no : length other < 0 = h in omega (arith, no))
-within_of (y ∷ pre) x post [] row behind e h = let same : y ≡ row = (cc) in record { rest = pre; together = ap (λ (r : Row). r ∷ pre) same }
-within_of (y ∷ pre) x post (w ∷ other) row behind e h =
-    within_more (cc) (within_of pre x post other row behind (cc) (let s : suc (length other) < suc (length pre) = h in omega (arith, s)))
+within_of : (pre : List Row) (x : Row) (post other : List Row) (row : Row) (afterwards : List Row) → pre ++ x ∷ post ≡ other ++ row ∷ afterwards → length other < length pre → IsWithin pre other row
+within_of [] x post other row afterwards e h = absurd (let no : length other < 0 = h in omega (arith, no))
+within_of (y ∷ pre) x post [] row afterwards e h = let same : y ≡ row = (cc) in record { rest = pre; together = ap (λ (r : Row). r ∷ pre) same }
+within_of (y ∷ pre) x post (w ∷ other) row afterwards e h =
+    within_more (cc) (within_of pre x post other row afterwards (cc) (let s : suc (length other) < suc (length pre) = h in omega (arith, s)))
   where
     within_more : y ≡ w → IsWithin pre other row → IsWithin (y ∷ pre) (w ∷ other) row
     within_more a old = record { rest = old.rest; together = ap (λ (r : Row). r ∷ pre) a ∙ ap (λ (l : List Row). w ∷ l) old.together }
@@ -202,10 +202,10 @@ three_parts true false c e = absurd (cc)
 three_parts true true false e = absurd (cc)
 
 -- elements of joined lists
-get_front : (xs ys : List Row) (j : ℕ) (row : Row) → slice_get xs j ≡ Some row → slice_get (xs ++ ys) j ≡ Some row
-get_front [] ys j row e = absurd (cc)
-get_front (x ∷ xs) ys zero row e = e
-get_front (x ∷ xs) ys (suc j) row e = get_front xs ys j row e
+get_prefix : (xs ys : List Row) (j : ℕ) (row : Row) → slice_get xs j ≡ Some row → slice_get (xs ++ ys) j ≡ Some row
+get_prefix [] ys j row e = absurd (cc)
+get_prefix (x ∷ xs) ys zero row e = e
+get_prefix (x ∷ xs) ys (suc j) row e = get_prefix xs ys j row e
 
 pub get_rest : (xs : List Row) (x : Row) (ys : List Row) (k j : ℕ) → j ≡ suc (length xs + k) → slice_get (xs ++ x ∷ ys) j ≡ slice_get ys k
 get_rest [] x ys k j e = let same : j ≡ suc k = omega (arith, e) in ap (λ (n : ℕ). slice_get (x ∷ ys) n) same
@@ -230,7 +230,7 @@ place_of rows (suc i) row e = record { index = i; same = refl; there = e }
 
 -- a row at a place splits the call's list
 abbrev pub split_at : (owner : ℕ) (rows : List Row) (i : ℕ) (row : Row) → row.call ≡ owner → (cut : IsCut rows i row) → IsSplit owner rows (rows_of owner cut.pre) row (rows_of owner cut.post)
-split_at owner rows i row call cut = record { pre = cut.pre; post = cut.post; together = cut.together; call = call; front = refl; back = refl }
+split_at owner rows i row call cut = record { pre = cut.pre; post = cut.post; together = cut.together; call = call; prefix = refl; back = refl }
 
 pub list_at : (owner : ℕ) (rows : List Row) (i : ℕ) (row : Row) → row.call ≡ owner → (cut : IsCut rows i row) → rows_of owner rows ≡ rows_of owner cut.pre ++ row ∷ rows_of owner cut.post
 list_at owner rows i row call cut = ap (rows_of owner) cut.together ∙ own_middle owner cut.pre row cut.post call
@@ -267,8 +267,8 @@ only_once at owner rows is_spent newest place row f i cut same old follows by_pe
     let own : IsSpentBy owner rows f.before f.end = record { has = f.has; by_peer = by_peer; followed = follows } in
     let one : split_place split.pre ≡ f.before = old.once (split_place split.pre) f.before earlier f.end spent own in
     let lens : length split.pre ≡ length cut.pre = lens_of (length split.pre) i (length cut.pre) (one ∙ same) cut.len in
-    let fronts : split.pre ≡ cut.pre = same_front split.pre split.post cut.pre cut.post found.row f.has.row (sym split.together ∙ cut.together) lens in
-    let index : length found.before ≡ length (rows_of owner cut.pre) = ap length (sym split.front) ∙ ap (λ (l : List Row). length (rows_of owner l)) fronts in
+    let prefixes : split.pre ≡ cut.pre = same_prefix split.pre split.post cut.pre cut.post found.row f.has.row (sym split.together ∙ cut.together) lens in
+    let index : length found.before ≡ length (rows_of owner cut.pre) = ap length (sym split.prefix) ∙ ap (λ (l : List Row). length (rows_of owner l)) prefixes in
     let ends_same : earlier ≡ f.end = one_end owner rows f.before earlier f.end (subst (λ (k : ℕ). IsEndedIn owner rows k earlier) one there) f.has in
     never_before f.end (length (rows_of owner cut.pre))
     (subst (λ (x : RowEnd). comes_before x (length (rows_of owner cut.pre)) f.end (length (rows_of owner cut.pre)) ≡ true) ends_same
@@ -313,7 +313,7 @@ none_between owner rows before row after split f i cut rest same within e =
     let j : ℕ = suc (length cut.pre + k) in
     let there : slice_get (cut.pre ++ f.has.row ∷ rest) j ≡ Some found.row = get_rest cut.pre f.has.row rest k j refl ∙ found.there in
     let in_pre : slice_get split.pre j ≡ Some found.row = ap (λ (l : List Row). slice_get l j) within ∙ there in
-    let in_rows : slice_get rows j ≡ Some found.row = ap (λ (l : List Row). slice_get l j) split.together ∙ get_front split.pre (row ∷ split.post) j found.row in_pre in
+    let in_rows : slice_get rows j ≡ Some found.row = ap (λ (l : List Row). slice_get l j) split.together ∙ get_prefix split.pre (row ∷ split.post) j found.row in_pre in
     let short : j < length split.pre = within_len split.pre j found.row in_pre in
     let at : length cut.pre ≡ i = cut.len in
     f.nearest (suc j) found.row (record { there = in_rows; call = found.call }) (after_first f.before i (length cut.pre) k same at) (before_last j (length split.pre) short)
@@ -336,7 +336,7 @@ follows_some at owner rows is_spent newest before row after split old kind =
     let shorter : length cut.pre < length split.pre = shorter_of (length cut.pre) i f.before (length split.pre) cut.len where_is.same order in
     let within : IsWithin split.pre cut.pre f.has.row = within_of split.pre row split.post cut.pre f.has.row cut.post (sym split.together ∙ cut.together) shorter in
     let list : before ≡ rows_of owner cut.pre ++ f.has.row ∷ rows_of owner within.rest =
-    sym split.front ∙ ap (rows_of owner) within.together ∙ own_middle owner cut.pre f.has.row within.rest f.has.is.call in
+    sym split.prefix ∙ ap (rows_of owner) within.together ∙ own_middle owner cut.pre f.has.row within.rest f.has.is.call in
     let follows_it : IsFollowedAt owner rows f.before f.has.row.number = follows_by owner rows (split_place split.pre) row is kind f in
     let passes : follows (rows_of owner rows) row (length (rows_of owner cut.pre)) f.has.row (rows_of owner within.rest) ≡ true =
     three_of (has_number row.number f.has.row) (not (list_any (has_number row.number) (rows_of owner within.rest))) (follows_end (rows_of owner rows) row (length (rows_of owner cut.pre)) f.has.row)
@@ -356,7 +356,7 @@ follows_some at owner rows is_spent newest before row after split old kind =
 fewer : (owner : ℕ) (rows before : List Row) (row : Row) (after : List Row) (split : IsSplit owner rows before row after) (i : ℕ) (r : Row) (cut : IsCut rows i r) → r.call ≡ owner → length cut.pre < length split.pre → length (rows_of owner cut.pre) < length before
 fewer owner rows before row after split i r cut call less =
     let within : IsWithin split.pre cut.pre r = within_of split.pre row split.post cut.pre r cut.post (sym split.together ∙ cut.together) less in
-    subst (λ (l : List Row). length (rows_of owner cut.pre) < length l) split.front
+    subst (λ (l : List Row). length (rows_of owner cut.pre) < length l) split.prefix
     (subst (λ (l : List Row). length (rows_of owner cut.pre) < length (rows_of owner l)) (sym within.together) (len_more owner cut.pre r within.rest call))
 
 taken_in : (owner : ℕ) (rows before : List Row) (row : Row) (after : List Row) (end : RowEnd) (split : IsSplit owner rows before row after) → IsTakenBefore owner rows (split_place split.pre) end → is_retry_taken (rows_of owner rows) end (length before) ≡ true

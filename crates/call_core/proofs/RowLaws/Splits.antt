@@ -21,22 +21,22 @@ pub not_true : (b : Bool) → not b ≡ true → b ≡ false
 not_true true e = absurd (cc)
 not_true false e = refl
 
--- a row of the call's list, with what stands before and behind it in the ledger
+-- a row of the call's list, with what stands before and after it in the ledger
 pub record IsSplit (owner : ℕ) (rows before : List Row) (row : Row) (after : List Row) : Type 0 where
   pub pre : List Row
   pub post : List Row
   pub together : rows ≡ pre ++ row ∷ post
   pub call : row.call ≡ owner
-  pub front : rows_of owner pre ≡ before
+  pub prefix : rows_of owner pre ≡ before
   pub back : rows_of owner post ≡ after
 
-split_behind : (owner : ℕ) (x : Row) (rows before : List Row) (row : Row) (after : List Row) → (x.call == owner) ≡ false → IsSplit owner rows before row after → IsSplit owner (x ∷ rows) before row after
-split_behind owner x rows before row after off rest = record {
+split_after : (owner : ℕ) (x : Row) (rows before : List Row) (row : Row) (after : List Row) → (x.call == owner) ≡ false → IsSplit owner rows before row after → IsSplit owner (x ∷ rows) before row after
+split_after owner x rows before row after off rest = record {
   pre = x ∷ rest.pre;
   post = rest.post;
   together = ap (λ (l : List Row). x ∷ l) rest.together;
   call = rest.call;
-  front = ap (λ (b : Bool). if b then x ∷ rows_of owner rest.pre else rows_of owner rest.pre) off ∙ rest.front;
+  prefix = ap (λ (b : Bool). if b then x ∷ rows_of owner rest.pre else rows_of owner rest.pre) off ∙ rest.prefix;
   back = rest.back;
 }
 
@@ -46,9 +46,9 @@ split_on owner x y rows before row after on same rest = record {
   post = rest.post;
   together = ap (λ (l : List Row). x ∷ l) rest.together;
   call = rest.call;
-  front =
+  prefix =
       ap (λ (b : Bool). if b then x ∷ rows_of owner rest.pre else rows_of owner rest.pre) on
-      ∙ ap (λ (l : List Row). x ∷ l) rest.front ∙ ap (λ (r : Row). r ∷ before) same;
+      ∙ ap (λ (l : List Row). x ∷ l) rest.prefix ∙ ap (λ (r : Row). r ∷ before) same;
   back = rest.back;
 }
 
@@ -58,19 +58,19 @@ split_here owner x rows row after on same back = record {
   post = rows;
   together = ap (λ (r : Row). r ∷ rows) same;
   call = ap (λ (r : Row). r.call) (sym same) ∙ eqb-true x.call owner on;
-  front = refl;
+  prefix = refl;
   back = back;
 }
 
 split_by : (owner : ℕ) (x : Row) (rows before : List Row) (row : Row) (after : List Row) (b : Bool) → (x.call == owner) ≡ b → ((before : List Row) → rows_of owner rows ≡ before ++ row ∷ after → IsSplit owner rows before row after) → (if b then x ∷ rows_of owner rows else rows_of owner rows) ≡ before ++ row ∷ after → IsSplit owner (x ∷ rows) before row after
-split_by owner x rows before row after false t rest e = split_behind owner x rows before row after t (rest before e)
+split_by owner x rows before row after false t rest e = split_after owner x rows before row after t (rest before e)
 split_by owner x rows [] row after true t rest e = split_here owner x rows row after t (cc) (cc)
 split_by owner x rows (y ∷ before) row after true t rest e = split_on owner x y rows before row after t (cc) (rest before (cc))
 
 pub split_of : (owner : ℕ) (rows before : List Row) (row : Row) (after : List Row) → rows_of owner rows ≡ before ++ row ∷ after → IsSplit owner rows before row after
 split_of owner [] [] row after e = absurd (cc)
 split_of owner [] (y ∷ before) row after e = absurd (cc)
-split_of owner (x ∷ rows) before row after e = split_by owner x rows before row after (x.call == owner) refl (λ front h. split_of owner rows front row after h) e
+split_of owner (x ∷ rows) before row after e = split_by owner x rows before row after (x.call == owner) refl (λ prefix h. split_of owner rows prefix row after h) e
 
 -- the place of such a row
 abbrev pub split_place : List Row → ℕ
@@ -86,19 +86,19 @@ split_row owner rows before row after split = record {
   call = split.call;
 }
 
--- a row behind it, as one of the call's rows behind it
-record IsBehind (pre post : List Row) (j : ℕ) (next : Row) : Type 0 where
+-- a row after it, as one of the call's rows after it
+record IsAfter (pre post : List Row) (j : ℕ) (next : Row) : Type 0 where
   at : ℕ
   there : slice_get post at ≡ Some next
   place : j ≡ length pre + suc at
 
-behind_of : (pre : List Row) (row : Row) (post : List Row) (j : ℕ) (next : Row) → slice_get (pre ++ row ∷ post) j ≡ Some next → length pre < j → IsBehind pre post j next
-behind_of [] row post zero next e order = absurd (let no : 0 < 0 = order in omega (arith, no))
-behind_of [] row post (suc j) next e order = record { at = j; there = e; place = (omega arith) }
-behind_of (x ∷ pre) row post zero next e order = absurd (let no : suc (length pre) < 0 = order in omega (arith, no))
-behind_of (x ∷ pre) row post (suc j) next e order =
+afterwards_of : (pre : List Row) (row : Row) (post : List Row) (j : ℕ) (next : Row) → slice_get (pre ++ row ∷ post) j ≡ Some next → length pre < j → IsAfter pre post j next
+afterwards_of [] row post zero next e order = absurd (let no : 0 < 0 = order in omega (arith, no))
+afterwards_of [] row post (suc j) next e order = record { at = j; there = e; place = (omega arith) }
+afterwards_of (x ∷ pre) row post zero next e order = absurd (let no : suc (length pre) < 0 = order in omega (arith, no))
+afterwards_of (x ∷ pre) row post (suc j) next e order =
     let below : length pre < j = (let h : suc (length pre) < suc j = order in omega (arith, h)) in
-    let rest : IsBehind pre post j next = behind_of pre row post j next e below in
+    let rest : IsAfter pre post j next = afterwards_of pre row post j next e below in
     let at : j ≡ length pre + suc rest.at = rest.place in
     record { at = rest.at; there = rest.there; place = (omega (arith, at)) }
 
@@ -124,17 +124,17 @@ any_own test owner (x ∷ rows) (suc i) row e call t = any_one test x (rows_of o
 both_true : (a b : Bool) → a ≡ true → b ≡ true → (a && b) ≡ true
 both_true a b e f = ap (λ (x : Bool). x && b) e ∙ f
 
-behind_any : (test : Row → Bool) (owner : ℕ) (rows before : List Row) (row : Row) (after : List Row) (split : IsSplit owner rows before row after) (later : ℕ) (next : Row) → IsRowOf owner rows later next → split_place split.pre < later → test next ≡ true → list_any test after ≡ true
-behind_any test owner rows before row after split zero next is order t = absurd (let no : split_place split.pre < 0 = order in omega (arith, no))
-behind_any test owner rows before row after split (suc j) next is order t =
+after_any : (test : Row → Bool) (owner : ℕ) (rows before : List Row) (row : Row) (after : List Row) (split : IsSplit owner rows before row after) (later : ℕ) (next : Row) → IsRowOf owner rows later next → split_place split.pre < later → test next ≡ true → list_any test after ≡ true
+after_any test owner rows before row after split zero next is order t = absurd (let no : split_place split.pre < 0 = order in omega (arith, no))
+after_any test owner rows before row after split (suc j) next is order t =
     let below : length split.pre < j = (let h : suc (length split.pre) < suc j = order in omega (arith, h)) in
     let there : slice_get (split.pre ++ row ∷ split.post) j ≡ Some next = subst (λ (l : List Row). slice_get l j ≡ Some next) split.together is.there in
-    let found : IsBehind split.pre split.post j next = behind_of split.pre row split.post j next there below in
+    let found : IsAfter split.pre split.post j next = afterwards_of split.pre row split.post j next there below in
     subst (λ (l : List Row). list_any test l ≡ true) split.back (any_own test owner split.post found.at next found.there is.call t)
 
 pub followed_in : (owner : ℕ) (rows before : List Row) (row : Row) (after : List Row) (split : IsSplit owner rows before row after) → IsFollowedAt owner rows (split_place split.pre) row.number → is_followed row after ≡ true
 followed_in owner rows before row after split f =
-    behind_any (is_follower row) owner rows before row after split f.later f.next f.is f.order
+    after_any (is_follower row) owner rows before row after split f.later f.next f.is f.order
     (both_true (is_transparent f.next.kind) (f.next.number == row.number) f.kind (eq-eqb f.next.number row.number f.same))
 
 -- a row before it, as one of the call's rows before it
@@ -148,10 +148,10 @@ any_before test owner rows before row after split zero x is order t = absurd (le
 any_before test owner rows before row after split (suc j) x is order t =
     let below : j < length split.pre = (let h : suc j < suc (length split.pre) = order in omega (arith, h)) in
     let there : slice_get (split.pre ++ row ∷ split.post) j ≡ Some x = subst (λ (l : List Row). slice_get l j ≡ Some x) split.together is.there in
-    subst (λ (l : List Row). list_any test l ≡ true) split.front
+    subst (λ (l : List Row). list_any test l ≡ true) split.prefix
     (any_own test owner split.pre j x (get_before split.pre row split.post j x there below) is.call t)
 
--- a row that passes a test on what stands before and behind it
+-- a row that passes a test on what stands before and after it
 pub record IsSome (test : ℕ → Row → List Row → Bool) (from : ℕ) (rows : List Row) : Type 0 where
   pub before : List Row
   pub row : Row

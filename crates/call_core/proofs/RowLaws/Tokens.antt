@@ -34,7 +34,7 @@ use Rattle.call_core.specs.declared.live.LiveRow.{LiveRow}
 use Rattle.call_core.specs.Laws.{IsKept}
 use Rattle.call_core.specs.Parts.{committed_buffer, count_of, cut_end, find_live, furthest, has_none, is_in_set, is_ok, kind_of_next, names, pushed_over, row_end, settled_bucket, settled_tokens, stopped_attempts}
 use Rattle.call_core.specs.Parts as parts
-use Rattle.call_core.specs.RowLaws.{AreOwnTokens, AreThrottled, EndsKeep, FitsTokens, HasCount, IsBucketOf, IsCountOf, IsCountedAt, IsFollowedAt, KeepsEnds, NeverBreaks, WasEnded, rows_of}
+use Rattle.call_core.specs.RowLaws.{TokensAreOwn, RowsAreThrottled, EndsKeep, FitsTokens, HasCount, IsBucketOf, IsCountOf, IsCountedAt, IsFollowedAt, KeepsEnds, NeverBreaks, WasEnded, rows_of}
 use Rattle.call_core.specs.Rows.{IsApart, IsStanding, row_in}
 use Rattle.call_core.specs.Steps as step
 use Rattle.call_core.specs.Steps.{Stepped, call_plan, is_committed_live, judged_of, left_live, new_call, new_row, next_due, settled, stamp_if, with_chosen, with_judged, with_message}
@@ -202,13 +202,13 @@ end_kept : (why : EndCause) (moment : ℕ) (s : Stepped) → AreKept s.call.numb
 end_kept why moment s =
     kept_like s.call.number s.ledger.rows (step.ended_as why moment s).ledger.rows (all_cut IsKeptRow kept_write None moment (count_of s.tokens) s.call.live s.ledger)
 
-pub own_fits : (tokens : Option Bucket) (o : Option Chosen) (chosen : Chosen) → o ≡ Some chosen → AreOwnTokens tokens o → FitsTokens chosen.throttle tokens
-own_fits tokens o chosen e own = subst (λ (x : Option Chosen). AreOwnTokens tokens x) e own
+pub own_fits : (tokens : Option Bucket) (o : Option Chosen) (chosen : Chosen) → o ≡ Some chosen → TokensAreOwn tokens o → FitsTokens chosen.throttle tokens
+own_fits tokens o chosen e own = subst (λ (x : Option Chosen). TokensAreOwn tokens x) e own
 
 no_cuts : (moment : ℕ) (tokens : Option ℕ) → TakesCuts (λ place row. ⊥) moment tokens
 no_cuts moment tokens = λ entry seen place row no. no
 
-throttled_commit : (place moment : ℕ) (s : Stepped) → AreOwnTokens s.tokens s.call.chosen → AreThrottled s → AreThrottled (step.committed place moment s)
+throttled_commit : (place moment : ℕ) (s : Stepped) → TokensAreOwn s.tokens s.call.chosen → RowsAreThrottled s → RowsAreThrottled (step.committed place moment s)
 throttled_commit place moment s own old =
     let owner : ℕ = s.call.number in
     let rows : List Row = s.ledger.rows in
@@ -224,7 +224,7 @@ throttled_commit place moment s own old =
           (each_changed (λ p row. ⊥) owner place (committed_row s.ledger.entry) rows (λ r. record { call = refl }) (λ r is h. h) (old.fresh e));
     }
 
-throttled_end : (why : EndCause) (moment : ℕ) (s : Stepped) → AreOwnTokens s.tokens s.call.chosen → AreThrottled s → AreThrottled (step.ended_as why moment s)
+throttled_end : (why : EndCause) (moment : ℕ) (s : Stepped) → TokensAreOwn s.tokens s.call.chosen → RowsAreThrottled s → RowsAreThrottled (step.ended_as why moment s)
 throttled_end why moment s own old =
     let owner : ℕ = s.call.number in
     let rows : List Row = s.ledger.rows in
@@ -238,7 +238,7 @@ throttled_end why moment s own old =
           each_cut (λ p row. ⊥) owner None moment (count_of s.tokens) s.call.live s.ledger (no_cuts moment (count_of s.tokens)) (old.fresh e);
     }
 
-throttled_by_row : (place moment : ℕ) (s : Stepped) → AreOwnTokens s.tokens s.call.chosen → AreThrottled s → AreThrottled (step.ended_by_row place moment s)
+throttled_by_row : (place moment : ℕ) (s : Stepped) → TokensAreOwn s.tokens s.call.chosen → RowsAreThrottled s → RowsAreThrottled (step.ended_by_row place moment s)
 throttled_by_row place moment s own old = throttled_end ends.Row moment (step.committed place moment s) own (throttled_commit place moment s own old)
 
 -- the end of a live row
@@ -260,48 +260,48 @@ row_ends chosen row end s known fits tokens_is old =
 plan_known : (o : Option Chosen) (chosen : Chosen) → o ≡ Some chosen → parts.plan_of o ≡ chosen.plan
 plan_known o chosen e = ap parts.plan_of e
 
-pub own_settled : (told : EndNews) (s : Stepped) → AreOwnTokens s.tokens s.call.chosen → AreOwnTokens (settled told s).tokens s.call.chosen
-own_settled told s own = own_case s.call.chosen own
+pub own_settled : (reported : EndNews) (s : Stepped) → TokensAreOwn s.tokens s.call.chosen → TokensAreOwn (settled reported s).tokens s.call.chosen
+own_settled reported s own = own_case s.call.chosen own
   where
-    own_case : (o : Option Chosen) → AreOwnTokens s.tokens o → AreOwnTokens (settled told s).tokens o
+    own_case : (o : Option Chosen) → TokensAreOwn s.tokens o → TokensAreOwn (settled reported s).tokens o
     own_case None h = tt
-    own_case (Some chosen) h = fits_settled chosen.plan chosen.throttle told.code told.pushback (is_in_set (call_plan s.call) told.code) s.tokens h
+    own_case (Some chosen) h = fits_settled chosen.plan chosen.throttle reported.code reported.pushback (is_in_set (call_plan s.call) reported.code) s.tokens h
 
-throttled_closed : (place : ℕ) (row : LiveRow) (told : EndNews) (end : RowEnd) (moment word : ℕ) (s : Stepped) (b : Bool) → find_live place s.call.live ≡ Some row → IsKept s.call → end.code ≡ told.code → end.pushback ≡ told.pushback → end.tokens ≡ count_of (settled told (left_live row.place s)).tokens → AreOwnTokens s.tokens s.call.chosen → AreThrottled s → AreThrottled (step.closed_if b row.place moment (with_judged row end (judged_of row end word (left_live row.place s).call (settled told (left_live row.place s)).tokens) (settled told (left_live row.place s))))
-throttled_closed place row told end moment word s b f kept same_code same_push tokens_is own old =
-    let v : Stepped = settled told (left_live row.place s) in
+throttled_closed : (place : ℕ) (row : LiveRow) (reported : EndNews) (end : RowEnd) (moment word : ℕ) (s : Stepped) (b : Bool) → find_live place s.call.live ≡ Some row → IsKept s.call → end.code ≡ reported.code → end.pushback ≡ reported.pushback → end.tokens ≡ count_of (settled reported (left_live row.place s)).tokens → TokensAreOwn s.tokens s.call.chosen → RowsAreThrottled s → RowsAreThrottled (step.closed_if b row.place moment (with_judged row end (judged_of row end word (left_live row.place s).call (settled reported (left_live row.place s)).tokens) (settled reported (left_live row.place s))))
+throttled_closed place row reported end moment word s b f kept same_code same_push tokens_is own old =
+    let v : Stepped = settled reported (left_live row.place s) in
     let after : Judged = judged_of row end word v.call v.tokens in
     let last : RowEnd = record end { word = after.word } in
     let w : Stepped = with_judged row end after v in
-    let one : AreThrottled w = record {
+    let one : RowsAreThrottled w = record {
       ends = λ chosen e. row_ends chosen row last s e (own_fits s.tokens s.call.chosen chosen e own) (tokens_of chosen e) (old.ends chosen e);
       fresh = λ e. absurd (none_fresh place row s f kept e);
     } in
-    elim b as (λ c. AreThrottled (step.closed_if c row.place moment w)) [ true ↦ throttled_by_row row.place moment w (own_settled told s own) one | false ↦ one ]
+    elim b as (λ c. RowsAreThrottled (step.closed_if c row.place moment w)) [ true ↦ throttled_by_row row.place moment w (own_settled reported s own) one | false ↦ one ]
   where
     tokens_of : (chosen : Chosen) → s.call.chosen ≡ Some chosen → end.tokens ≡ count_of (settled_tokens end.code end.pushback (is_in_set chosen.plan end.code) s.tokens)
     tokens_of chosen e =
         tokens_is
-        ∙ ap (λ (p : CallPlan). count_of (settled_tokens told.code told.pushback (is_in_set p told.code) s.tokens)) (plan_known s.call.chosen chosen e)
-        ∙ ap (λ (c : Code). count_of (settled_tokens c told.pushback (is_in_set chosen.plan c) s.tokens)) (sym same_code)
+        ∙ ap (λ (p : CallPlan). count_of (settled_tokens reported.code reported.pushback (is_in_set p reported.code) s.tokens)) (plan_known s.call.chosen chosen e)
+        ∙ ap (λ (c : Code). count_of (settled_tokens c reported.pushback (is_in_set chosen.plan c) s.tokens)) (sym same_code)
         ∙ ap (λ (p : Pushback). count_of (settled_tokens end.code p (is_in_set chosen.plan end.code) s.tokens)) (sym same_push)
 
-throttled_counted : (place : ℕ) (row : LiveRow) (told : EndNews) (moment word : ℕ) (s : Stepped) (o : Option ℕ) → find_live place s.call.live ≡ Some row → IsKept s.call → AreOwnTokens s.tokens s.call.chosen → AreThrottled s → AreThrottled (if is_some o then step.ended_as ends.Row moment (step.row_ended row.place (row_end told s.ledger.entry moment (count_of (settled told (left_live row.place s)).tokens)) (settled told (left_live row.place s))) else step.counted_free row (row_end told s.ledger.entry moment (count_of (settled told (left_live row.place s)).tokens)) moment word (settled told (left_live row.place s)))
-throttled_counted place row told moment word s (Some p) f kept own old =
-    let v : Stepped = settled told (left_live row.place s) in
-    let end : RowEnd = row_end told s.ledger.entry moment (count_of v.tokens) in
-    throttled_end ends.Row moment (step.row_ended row.place end v) (own_settled told s own)
+throttled_counted : (place : ℕ) (row : LiveRow) (reported : EndNews) (moment word : ℕ) (s : Stepped) (o : Option ℕ) → find_live place s.call.live ≡ Some row → IsKept s.call → TokensAreOwn s.tokens s.call.chosen → RowsAreThrottled s → RowsAreThrottled (if is_some o then step.ended_as ends.Row moment (step.row_ended row.place (row_end reported s.ledger.entry moment (count_of (settled reported (left_live row.place s)).tokens)) (settled reported (left_live row.place s))) else step.counted_free row (row_end reported s.ledger.entry moment (count_of (settled reported (left_live row.place s)).tokens)) moment word (settled reported (left_live row.place s)))
+throttled_counted place row reported moment word s (Some p) f kept own old =
+    let v : Stepped = settled reported (left_live row.place s) in
+    let end : RowEnd = row_end reported s.ledger.entry moment (count_of v.tokens) in
+    throttled_end ends.Row moment (step.row_ended row.place end v) (own_settled reported s own)
     (record {
       ends = λ chosen e.
           row_ends chosen row end s e (own_fits s.tokens s.call.chosen chosen e own)
-          (ap (λ (p : CallPlan). count_of (settled_tokens told.code told.pushback (is_in_set p told.code) s.tokens)) (plan_known s.call.chosen chosen e))
+          (ap (λ (p : CallPlan). count_of (settled_tokens reported.code reported.pushback (is_in_set p reported.code) s.tokens)) (plan_known s.call.chosen chosen e))
           (old.ends chosen e);
       fresh = λ e. absurd (none_fresh place row s f kept e);
     })
-throttled_counted place row told moment word s None f kept own old =
-    let v : Stepped = settled told (left_live row.place s) in
-    let end : RowEnd = row_end told s.ledger.entry moment (count_of v.tokens) in
-    throttled_closed place row told end moment word s (judged_of row end word v.call v.tokens).closes f kept refl refl refl own old
+throttled_counted place row reported moment word s None f kept own old =
+    let v : Stepped = settled reported (left_live row.place s) in
+    let end : RowEnd = row_end reported s.ledger.entry moment (count_of v.tokens) in
+    throttled_closed place row reported end moment word s (judged_of row end word v.call v.tokens).closes f kept refl refl refl own old
 
 -- a row that is followed doesn't count
 followed_ends : (chosen : Chosen) (place : ℕ) (row : LiveRow) (end : RowEnd) (new : Row) (s : Stepped) → find_live place s.call.live ≡ Some row → IsApart s → new.call ≡ s.call.number → new.number ≡ row.number → new.kind ≡ kind.Transparent → new.ended ≡ None → FitsTokens chosen.throttle s.tokens → end.tokens ≡ count_of s.tokens → Ends chosen s.call.number s.ledger.rows s.ledger.rows → Ends chosen s.call.number (changed_at (ended_row end) s.ledger.rows row.place ++ new ∷ []) (changed_at (ended_row end) s.ledger.rows row.place ++ new ∷ [])
@@ -336,52 +336,52 @@ followed_ends chosen place row end new s f apart call number why none fits token
     h)
     (ends_to chosen owner rows final rows (kept_joined owner rows after final kept (kept_more owner after new)) old))
 
-throttled_live : (place : ℕ) (row : LiveRow) (told : EndNews) (moment word : ℕ) (s : Stepped) (b : Bool) → find_live place s.call.live ≡ Some row → IsKept s.call → IsApart s → AreOwnTokens s.tokens s.call.chosen → AreThrottled s → AreThrottled (if b then step.followed row told moment (left_live row.place s) else step.counted row told moment word (settled told (left_live row.place s)))
-throttled_live place row told moment word s true f kept apart own old =
-    let end : RowEnd = row_end told s.ledger.entry moment (count_of s.tokens) in
+throttled_live : (place : ℕ) (row : LiveRow) (reported : EndNews) (moment word : ℕ) (s : Stepped) (b : Bool) → find_live place s.call.live ≡ Some row → IsKept s.call → IsApart s → TokensAreOwn s.tokens s.call.chosen → RowsAreThrottled s → RowsAreThrottled (if b then step.followed row reported moment (left_live row.place s) else step.counted row reported moment word (settled reported (left_live row.place s)))
+throttled_live place row reported moment word s true f kept apart own old =
+    let end : RowEnd = row_end reported s.ledger.entry moment (count_of s.tokens) in
     let new : Row = new_row s.call.number row.number kind.Transparent moment (stamp_if (names row.place s.call.attempts.committed) s.ledger.entry) in
     record {
       ends = λ chosen e. followed_ends chosen place row end new s f apart refl refl refl refl (own_fits s.tokens s.call.chosen chosen e own) refl (old.ends chosen e);
       fresh = λ e. absurd (none_fresh place row s f kept e);
     }
-throttled_live place row told moment word s false f kept apart own old = throttled_counted place row told moment word s s.call.attempts.committed f kept own old
+throttled_live place row reported moment word s false f kept apart own old = throttled_counted place row reported moment word s s.call.attempts.committed f kept own old
 
 -- the other things that are done
-throttled_chosen : (chosen : Chosen) (moment : ℕ) (s : Stepped) → s.call.chosen ≡ None → AreThrottled s → AreThrottled (with_chosen chosen moment s)
+throttled_chosen : (chosen : Chosen) (moment : ℕ) (s : Stepped) → s.call.chosen ≡ None → RowsAreThrottled s → RowsAreThrottled (with_chosen chosen moment s)
 throttled_chosen chosen moment s fresh old = record {
   ends = λ other e place row is. absurd (old.fresh fresh place row is);
   fresh = λ e. absurd (cc);
 }
 
-over_throttled : (chosen : Chosen) (moment : ℕ) (s : Stepped) → s.call.chosen ≡ None → AreThrottled s → AreThrottled (step.ended_as ends.Request moment (with_chosen chosen moment s))
+over_throttled : (chosen : Chosen) (moment : ℕ) (s : Stepped) → s.call.chosen ≡ None → RowsAreThrottled s → RowsAreThrottled (step.ended_as ends.Request moment (with_chosen chosen moment s))
 over_throttled chosen moment s fresh old =
     let t : Stepped = with_chosen chosen moment s in
     let none : EachRow (λ p row. ⊥) s.call.number (step.ended_as ends.Request moment t).ledger.rows =
     each_cut (λ p row. ⊥) s.call.number None moment (count_of s.tokens) s.call.live t.ledger (no_cuts moment (count_of s.tokens)) (old.fresh fresh) in
     record { ends = λ other e place row is. absurd (none place row is); fresh = λ e. absurd (cc) }
 
-throttled_head : (place : ℕ) (meta : List Field) (moment : ℕ) (s : Stepped) (b : Bool) → AreOwnTokens s.tokens s.call.chosen → AreThrottled s → AreThrottled (step.with_head meta (if b then s else step.committed place moment (record s { call = record s.call { buffer = committed_buffer place s.call.buffer } })))
+throttled_head : (place : ℕ) (meta : List Field) (moment : ℕ) (s : Stepped) (b : Bool) → TokensAreOwn s.tokens s.call.chosen → RowsAreThrottled s → RowsAreThrottled (step.with_head meta (if b then s else step.committed place moment (record s { call = record s.call { buffer = committed_buffer place s.call.buffer } })))
 throttled_head place meta moment s true own old = record { ends = old.ends; fresh = old.fresh }
 throttled_head place meta moment s false own old =
     let c : Stepped = record s { call = record s.call { buffer = committed_buffer place s.call.buffer } } in
-    let after : AreThrottled (step.committed place moment c) = throttled_commit place moment c own (record { ends = old.ends; fresh = old.fresh }) in
+    let after : RowsAreThrottled (step.committed place moment c) = throttled_commit place moment c own (record { ends = old.ends; fresh = old.fresh }) in
     record { ends = after.ends; fresh = after.fresh }
 
-throttled_message : (octets : List ℕ) (s : Stepped) (b : Bool) → AreThrottled s → AreThrottled (record s { call = (if b then record s.call { inbox = record s.call.inbox { messages = s.call.inbox.messages ++ octets ∷ [] } } else s.call) })
+throttled_message : (octets : List ℕ) (s : Stepped) (b : Bool) → RowsAreThrottled s → RowsAreThrottled (record s { call = (if b then record s.call { inbox = record s.call.inbox { messages = s.call.inbox.messages ++ octets ∷ [] } } else s.call) })
 throttled_message octets s true old = record { ends = old.ends; fresh = old.fresh }
 throttled_message octets s false old = record { ends = old.ends; fresh = old.fresh }
 
-throttled_by_last : (last : Option ℕ) (moment : ℕ) (s : Stepped) → AreOwnTokens s.tokens s.call.chosen → AreThrottled s → AreThrottled (step.ended_by_last last moment s)
+throttled_by_last : (last : Option ℕ) (moment : ℕ) (s : Stepped) → TokensAreOwn s.tokens s.call.chosen → RowsAreThrottled s → RowsAreThrottled (step.ended_by_last last moment s)
 throttled_by_last None moment s own old = old
 throttled_by_last (Some last) moment s own old =
-    elim (has_none s.call.live) as (λ b. AreThrottled (if b then step.ended_by_row last moment s else s)) [ true ↦ throttled_by_row last moment s own old | false ↦ old ]
+    elim (has_none s.call.live) as (λ b. RowsAreThrottled (if b then step.ended_by_row last moment s else s)) [ true ↦ throttled_by_row last moment s own old | false ↦ old ]
 
-throttled_over : (over : Bool) (row : Option ℕ) (moment : ℕ) (s : Stepped) → AreOwnTokens s.tokens s.call.chosen → AreThrottled s → AreThrottled (step.committed_over over row moment s)
+throttled_over : (over : Bool) (row : Option ℕ) (moment : ℕ) (s : Stepped) → TokensAreOwn s.tokens s.call.chosen → RowsAreThrottled s → RowsAreThrottled (step.committed_over over row moment s)
 throttled_over over None moment s own old = old
 throttled_over true (Some place) moment s own old = throttled_commit place moment s own old
 throttled_over false (Some place) moment s own old = old
 
-throttled_place : (row : LiveRow) (at : Placed) (s : Stepped) → AreThrottled s → AreThrottled (step.placed_row_live row at s)
+throttled_place : (row : LiveRow) (at : Placed) (s : Stepped) → RowsAreThrottled s → RowsAreThrottled (step.placed_row_live row at s)
 throttled_place row at s old =
     let owner : ℕ = s.call.number in
     let after : List Row = changed_at (placed_row at) s.ledger.rows row.place in
@@ -393,7 +393,7 @@ throttled_place row at s old =
       fresh = λ e. each_changed (λ p r. ⊥) owner row.place (placed_row at) s.ledger.rows (λ r. record { call = refl }) (λ r is h. h) (old.fresh e);
     }
 
-throttled_made : (due : ℕ) (s : Stepped) → next_due s.call ≡ Some due → IsKept s.call → AreThrottled s → AreThrottled (step.made due s)
+throttled_made : (due : ℕ) (s : Stepped) → next_due s.call ≡ Some due → IsKept s.call → RowsAreThrottled s → RowsAreThrottled (step.made due s)
 throttled_made due s e kept old =
     let owner : ℕ = s.call.number in
     let new : Row = new_row owner (min (s.call.attempts.sent + 1) 4294967295) (kind_of_next (call_plan s.call) s.call.attempts) due None in
@@ -405,7 +405,7 @@ throttled_made due s e kept old =
           absurd (let no : true ≡ false = sym (kept.unconfigured none).stopped ∙ not_stopped (call_plan s.call) s.call.attempts due e in cc);
     }
 
-pub throttled_moves : Moves (λ chosen. Unit {0}) (λ s row told. Unit {0}) (λ moment s t. IsKept s.call → IsApart s → AreOwnTokens s.tokens s.call.chosen → AreThrottled s → AreThrottled t)
+pub throttled_moves : Moves (λ chosen. Unit {0}) (λ s row reported. Unit {0}) (λ moment s t. IsKept s.call → IsApart s → TokensAreOwn s.tokens s.call.chosen → RowsAreThrottled s → RowsAreThrottled t)
 throttled_moves = record {
   same = λ moment s kept apart own old. old;
   configured = λ chosen moment s known e fresh kept apart own old. throttled_chosen chosen moment s fresh old;
@@ -414,8 +414,8 @@ throttled_moves = record {
   too_large = λ row moment s e kept apart own old. throttled_end ends.Response moment s own old;
   head = λ place row meta moment s e kept apart own old. throttled_head place meta moment s (is_some s.call.attempts.committed) own old;
   message = λ row octets moment s kept apart own old. throttled_message octets s (is_committed_live row s.call) old;
-  row_ended = λ place row told moment word s e known kept apart own old.
-      throttled_live place row told moment word s (parts.is_followed s.call.attempts told.cause told.unseen) e kept apart own old;
+  row_ended = λ place row reported moment word s e known kept apart own old.
+      throttled_live place row reported moment word s (parts.is_followed s.call.attempts reported.cause reported.unseen) e kept apart own old;
   placed = λ place row at s entry e free kept apart own old. throttled_place row at s old;
   refused = λ due moment s e passed tested kept apart own old.
       throttled_by_last s.call.attempts.last moment (step.with_attempts (stopped_attempts s.call.attempts) s) own (record { ends = old.ends; fresh = old.fresh });
@@ -425,14 +425,14 @@ throttled_moves = record {
       throttled_over (pushed_over s.call.buffer (framed message) row) row moment (record s { call = with_message message row s.call }) own (record { ends = old.ends; fresh = old.fresh });
 }
 
-pub throttled_new : (number : ℕ) (request : RequestSeen) (begun : ℕ) (ledger : Ledger) (tokens : Option Bucket) (acts : List CallAct) → ((place : ℕ) (row : Row) → row_in ledger.rows place ≡ Some row → row.call ≡ number → ⊥) → AreThrottled (step.lent (new_call number request begun) ledger tokens acts)
+pub throttled_new : (number : ℕ) (request : RequestSeen) (begun : ℕ) (ledger : Ledger) (tokens : Option Bucket) (acts : List CallAct) → ((place : ℕ) (row : Row) → row_in ledger.rows place ≡ Some row → row.call ≡ number → ⊥) → RowsAreThrottled (step.lent (new_call number request begun) ledger tokens acts)
 throttled_new number request begun ledger tokens acts none = record {
   ends = λ chosen e. absurd (cc);
   fresh = λ e place row is. none place row is.there is.call;
 }
 
 -- what is done to other calls
-pub throttled_elsewhere : (s : Stepped) (ledger : Ledger) → KeepsEnds s.call.number s.ledger.rows ledger.rows → AreThrottled s → AreThrottled (record s { ledger = ledger })
+pub throttled_elsewhere : (s : Stepped) (ledger : Ledger) → KeepsEnds s.call.number s.ledger.rows ledger.rows → RowsAreThrottled s → RowsAreThrottled (record s { ledger = ledger })
 throttled_elsewhere s ledger keeps old = record {
   ends = λ chosen known place row is end e.
       let was : WasEnded s.call.number s.ledger.rows place row = keeps.back place row is in
@@ -453,7 +453,7 @@ counted_at owner rows before row after end split e =
           let no : true ≡ false = sym (followed_in owner rows before row after split f) ∙ not_true (is_followed row after) both.1 in cc;
     }
 
-row_throttled : (chosen : Chosen) (s : Stepped) (before : List Row) (row : Row) (after : List Row) → s.call.chosen ≡ Some chosen → AreThrottled s → rows_of s.call.number s.ledger.rows ≡ before ++ row ∷ after → KeepsThrottling chosen row after
+row_throttled : (chosen : Chosen) (s : Stepped) (before : List Row) (row : Row) (after : List Row) → s.call.chosen ≡ Some chosen → RowsAreThrottled s → rows_of s.call.number s.ledger.rows ≡ before ++ row ∷ after → KeepsThrottling chosen row after
 row_throttled chosen s before row after known throttled together =
     let owner : ℕ = s.call.number in
     let rows : List Row = s.ledger.rows in
@@ -483,7 +483,7 @@ breaks_twelve chosen rows before row after keeps (inr (inr (inl h))) = let no : 
 breaks_twelve chosen rows before row after keeps (inr (inr (inr (inl h)))) = let no : 12 ≡ 11 = h.0 in omega (arith, no)
 breaks_twelve chosen rows before row after keeps (inr (inr (inr (inr h)))) = h.1 keeps
 
-pub never_miscounted : (chosen : Chosen) (s : Stepped) → s.call.chosen ≡ Some chosen → AreThrottled s → NeverBreaks 12 chosen s
+pub never_miscounted : (chosen : Chosen) (s : Stepped) → s.call.chosen ≡ Some chosen → RowsAreThrottled s → NeverBreaks 12 chosen s
 never_miscounted chosen s known throttled = λ place breaks.
     breaks_twelve chosen (rows_of s.call.number s.ledger.rows) breaks.before breaks.row breaks.after
     (row_throttled chosen s breaks.before breaks.row breaks.after known throttled breaks.together) breaks.broken

@@ -22,9 +22,9 @@ use Rattle.attempt_ledger.specs.declared.row.RowKind.TheVariants as kind
 use Rattle.call_core.specs.Commitments.{IsRowOf}
 use Rattle.call_core.specs.Parts.{plan_of}
 use Rattle.call_core.specs.Reasons.{HasReasons, Reason}
-use Rattle.call_core.specs.RowChains.{AreChained}
+use Rattle.call_core.specs.RowChains.{RowsAreChained}
 use Rattle.call_core.specs.RowLaws.{IsCountedAt, IsFollowedAt, NeverBreaks, rows_of}
-use Rattle.call_core.specs.RowLicenses.{AreLicensed, HaveLicenses, IsAsked, IsKnownEnd, IsLastAsked, IsLicense, IsRetryOf, IsStampedBy, due_after, may_retry}
+use Rattle.call_core.specs.RowLicenses.{RowsAreLicensed, HaveLicenses, IsAsked, IsKnownEnd, IsLastAsked, IsLicense, IsRetryOf, IsStampedBy, due_after, may_retry}
 use Rattle.call_core.specs.Steps.{Stepped, call_plan}
 use Rattle.call_core.proofs.RowLaws.Chains.{AreKinds}
 use Rattle.call_core.proofs.RowLaws.Retries.{IsCut, IsOwn, IsPlace, cut_at, ended_has, ended_some, followed_out, get_rest, is_not, list_at, own_of, place_of, some_in, split_at}
@@ -213,8 +213,8 @@ counted_any : (number from : ℕ) (xs : List Row) → some_row_from (λ place ro
 counted_any number from [] e = absurd (cc)
 counted_any number from (x ∷ xs) e = counted_case number from x xs (is_counted_of number x xs) refl (λ h. counted_any number (from + 1) xs h) e
 
-none_behind : (owner : ℕ) (rows : List Row) (i : ℕ) (r : Row) (cut : IsCut rows i r) → IsRowOf owner rows (suc i) r → AreKinds owner rows → (IsFollowedAt owner rows (suc i) r.number → ⊥) → some_counted_of r.number (rows_of owner cut.post) ≡ true → ⊥
-none_behind owner rows i r cut is kinds off e =
+none_afterwards : (owner : ℕ) (rows : List Row) (i : ℕ) (r : Row) (cut : IsCut rows i r) → IsRowOf owner rows (suc i) r → AreKinds owner rows → (IsFollowedAt owner rows (suc i) r.number → ⊥) → some_counted_of r.number (rows_of owner cut.post) ≡ true → ⊥
+none_afterwards owner rows i r cut is kinds off e =
     let found : IsOwn (has_number r.number) owner cut.post = own_of (has_number r.number) owner cut.post (counted_any r.number 0 (rows_of owner cut.post) e) in
     let j : ℕ = suc (length cut.pre + found.at) in
     let there : slice_get rows j ≡ Some found.row = ap (λ (l : List Row). slice_get l j) cut.together ∙ get_rest cut.pre r cut.post found.at j refl ∙ found.there in
@@ -247,7 +247,7 @@ licensed_by chosen policy owner rows retry h plan kinds =
     let license : IsLicense chosen owner rows (suc (length cut.pre)) r h.end = subst (λ (k : ℕ). IsLicense chosen owner rows k r h.end) same h.license in
     let off : IsFollowedAt owner rows (suc i) r.number → ⊥ = λ f. h.license.counted.unfollowed (subst (λ (k : ℕ). IsFollowedAt owner rows k r.number) (sym where_is.same) f) in
     let none : some_counted_of r.number (rows_of owner cut.post) ≡ false =
-    is_not (some_counted_of r.number (rows_of owner cut.post)) (λ e. none_behind owner rows i r cut (record { there = where_is.there; call = h.has.is.call }) kinds off e) in
+    is_not (some_counted_of r.number (rows_of owner cut.post)) (λ e. none_afterwards owner rows i r cut (record { there = where_is.there; call = h.has.is.call }) kinds off e) in
     let due : retry_due policy (r.number - last_delayed retry.number (rows_of owner rows)) h.end ≡ Some retry.due =
     ap (λ (k : ℕ). retry_due policy (r.number - k) h.end) (last_is owner rows retry.number h.since h.last)
     ∙ sym (ap (λ (p : CallPlan). due_after p (r.number - h.since) h.end) plan) ∙ h.due_is in
@@ -273,7 +273,7 @@ reason_plan plans.None owner rows place row h = absurd h
 reason_plan (plans.Retry policy) owner rows place row h = (policy, refl)
 reason_plan (plans.Hedge policy) owner rows place row h = absurd h
 
-row_retried : (chosen : Chosen) (s : Stepped) (before : List Row) (row : Row) (after : List Row) → s.call.chosen ≡ Some chosen → HasReasons s → AreChained s → AreLicensed s → rows_of s.call.number s.ledger.rows ≡ before ++ row ∷ after → KeepsRetries chosen (rows_of s.call.number s.ledger.rows) row after
+row_retried : (chosen : Chosen) (s : Stepped) (before : List Row) (row : Row) (after : List Row) → s.call.chosen ≡ Some chosen → HasReasons s → RowsAreChained s → RowsAreLicensed s → rows_of s.call.number s.ledger.rows ≡ before ++ row ∷ after → KeepsRetries chosen (rows_of s.call.number s.ledger.rows) row after
 row_retried chosen s before row after known reasons chained licensed together =
     let owner : ℕ = s.call.number in
     let rows : List Row = s.ledger.rows in
@@ -298,7 +298,7 @@ breaks_nine chosen rows before row after keeps (inr (inr (inl h))) = let no : 9 
 breaks_nine chosen rows before row after keeps (inr (inr (inr (inl h)))) = let no : 9 ≡ 11 = h.0 in omega (arith, no)
 breaks_nine chosen rows before row after keeps (inr (inr (inr (inr h)))) = let no : 9 ≡ 12 = h.0 in omega (arith, no)
 
-pub never_unlicensed : (chosen : Chosen) (s : Stepped) → s.call.chosen ≡ Some chosen → HasReasons s → AreChained s → AreLicensed s → NeverBreaks 9 chosen s
+pub never_unlicensed : (chosen : Chosen) (s : Stepped) → s.call.chosen ≡ Some chosen → HasReasons s → RowsAreChained s → RowsAreLicensed s → NeverBreaks 9 chosen s
 never_unlicensed chosen s known reasons chained licensed = λ place breaks.
     breaks_nine chosen (rows_of s.call.number s.ledger.rows) breaks.before breaks.row breaks.after
     (row_retried chosen s breaks.before breaks.row breaks.after known reasons chained licensed breaks.together) breaks.broken

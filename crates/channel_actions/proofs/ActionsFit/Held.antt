@@ -14,7 +14,7 @@ use Rattle.session_actions.specs.declared.attempt.Attempt.{Attempt}
 use Rattle.session_actions.specs.declared.call.Call.{Call}
 use Rattle.session_actions.specs.declared.seen.Seen.{Seen}
 use Rattle.session_actions.specs.declared.subchannel.Subchannel.{Subchannel}
-use Rattle.session_order.specs.Stirs.{AreNumbered, HaveCalls, HaveLinks}
+use Rattle.session_order.specs.Stirs.{CallsHaveTheirNumbers, HaveCalls, HaveLinks}
 use Rattle.std.proofs.Common.{List, None, Option, Some, [], ap, arith, false, is_none, is_some, length, not, refl, slice_get, suc, sym, true, zero, ℕ, ◌<◌, ◌||◌, ◌∙◌, ◌∷◌, ◌≡◌, ◌≤◌}
 use Rattle.std.specs.Option.{option_map_or}
 
@@ -39,7 +39,7 @@ have_links s kept = record {
       up_to s.links link (sym (ap (λ (o : Option ℕ). option_map_or (came_up s) o (not (is_ready b.state))) linked) ∙ all_at (is_sound_sub s) s.subs k b kept.boards got);
 }
 
-pub are_numbered : (s : Seen) → IsKept s → AreNumbered s
+pub are_numbered : (s : Seen) → IsKept s → CallsHaveTheirNumbers s
 are_numbered s kept k c got = counted_places (λ (d : Call). d.number) s.calls kept.calls k c got
 
 -- a subchannel that rests has no link

@@ -55,7 +55,7 @@ use Rattle.session_actions.specs.declared.policy.PolicyUse.{PolicyUse}
 use Rattle.session_actions.specs.declared.response.Outcome.{Outcome}
 use Rattle.session_actions.specs.declared.seen.Seen.{Seen}
 use Rattle.session_actions.specs.declared.subchannel.Subchannel.{Subchannel}
-use Rattle.session_order.specs.Stirs.{AreNumbered}
+use Rattle.session_order.specs.Stirs.{CallsHaveTheirNumbers}
 use Rattle.std.proofs.Common.{Bool, List, None, Option, Some, [], ap, cond, false, filter, find, if◌then◌else◌, is_none, is_some, length, nat_le, not, option_and_then, option_map, refl, slice_get, subst, suc, sym, true, zero, ℕ, ◌&&◌, ◌+◌, ◌==◌, ◌||◌, ◌∙◌, ◌∷◌, ◌≡◌}
 use Rattle.std.proofs.lemmas.Bool.{and_parts}
 use Rattle.std.specs.List.{list_any}
@@ -137,7 +137,7 @@ module _ (o : OpenEntry) (s : Seen) where
   plain_or p rest f g = fits_or p (first_action rest) f g
 
   module _ (kept : IsKept s) (early : IsEarlyKept s) where
-    numbers : AreNumbered s
+    numbers : CallsHaveTheirNumbers s
     numbers = are_numbered s kept
 
     own_sub : (i : ℕ) (b : Subchannel) → slice_get s.subs i ≡ Some b → numbered s.subs b.number ≡ Some b

@@ -4,7 +4,7 @@ use Rattle.std.specs.List.{AllByRecursion}
 use Rattle.channel_actions.specs.ActsFollowed.Followed.{all_given_up, all_out_gone, all_queue_gone, given_up_in, out_gone, queue_gone}
 use Rattle.attempt_ledger.specs.declared.ledger.LinkSeen.{LinkSeen}
 use Rattle.attempt_ledger.specs.declared.row.Row.{Row}
-use Rattle.call_core.specs.Steps.{given_up_act, told_all}
+use Rattle.call_core.specs.Steps.{given_up_act, reported_all}
 use Rattle.call_core.specs.declared.act.CallAct.{CallAct}
 use Rattle.call_core.specs.declared.act.CallAct.TheVariants as act
 use Rattle.call_core.specs.declared.live.LiveRow.{LiveRow}
@@ -20,9 +20,9 @@ use Rattle.std.specs.Set.{remove_key}
 abbrev pub given : LiveRow → CallAct
 given r = given_up_act r.place r.link
 
-pub told_is : (live : List LiveRow) (acts : List CallAct) → told_all None live acts ≡ acts ++ map given live
-told_is [] acts = sym (append-nil acts)
-told_is (r ∷ live) acts = told_is live (acts ++ given r ∷ []) ∙ append_assoc acts (given r ∷ []) (map given live)
+pub reported_is : (live : List LiveRow) (acts : List CallAct) → reported_all None live acts ≡ acts ++ map given live
+reported_is [] acts = sym (append-nil acts)
+reported_is (r ∷ live) acts = reported_is live (acts ++ given r ∷ []) ∙ append_assoc acts (given r ∷ []) (map given live)
 
 pub done_append : (n : ℕ) (xs ys : List CallAct) (x : StateSeen) → acts_done n (xs ++ ys) x ≡ acts_done n ys (acts_done n xs x)
 done_append n [] ys x = refl
@@ -35,9 +35,9 @@ parts_of y x = record x {
   resets = y.resets;
   outstanding = y.outstanding;
   queue = y.queue;
-  patient = y.patient;
-  bare = y.bare;
-  impatient = y.impatient;
+  ready_waiters = y.ready_waiters;
+  awaiting_config = y.awaiting_config;
+  fail_fast = y.fail_fast;
   book = record x.book { ledger = record x.book.ledger { links = y.book.ledger.links } };
 }
 
@@ -78,9 +78,9 @@ pub record IsDone (n : ℕ) (live : List LiveRow) (x y : StateSeen) : Type 0 whe
   pub resets : y.resets ≡ x.resets ++ links_of live
   pub outstanding : y.outstanding ≡ all_out_gone live x.outstanding
   pub queue : y.queue ≡ all_queue_gone n live x.queue
-  pub patient : y.patient ≡ all_queue_gone n live x.patient
-  pub bare : y.bare ≡ x.bare
-  pub impatient : y.impatient ≡ x.impatient
+  pub ready_waiters : y.ready_waiters ≡ all_queue_gone n live x.ready_waiters
+  pub awaiting_config : y.awaiting_config ≡ x.awaiting_config
+  pub fail_fast : y.fail_fast ≡ x.fail_fast
   pub rows : y.book.ledger.rows ≡ x.book.ledger.rows
 
 record IsOne (n row : ℕ) (o : Option ℕ) (x y : StateSeen) : Type 0 where
@@ -88,9 +88,9 @@ record IsOne (n row : ℕ) (o : Option ℕ) (x y : StateSeen) : Type 0 where
   resets : y.resets ≡ x.resets ++ link_list o
   outstanding : y.outstanding ≡ out_gone row o x.outstanding
   queue : y.queue ≡ queue_gone n row o x.queue
-  patient : y.patient ≡ queue_gone n row o x.patient
-  bare : y.bare ≡ x.bare
-  impatient : y.impatient ≡ x.impatient
+  ready_waiters : y.ready_waiters ≡ queue_gone n row o x.ready_waiters
+  awaiting_config : y.awaiting_config ≡ x.awaiting_config
+  fail_fast : y.fail_fast ≡ x.fail_fast
   rows : y.book.ledger.rows ≡ x.book.ledger.rows
 
 stamp_one : (n row link : ℕ) (ls : List LinkSeen) (x z : StateSeen) (b : Bool) → IsOne n row (Some link) x z → IsOne n row (Some link) x (if b then with_ledger_links ls z else z)
@@ -99,26 +99,26 @@ stamp_one n row link ls x z true k = record {
   resets = k.resets;
   outstanding = k.outstanding;
   queue = k.queue;
-  patient = k.patient;
-  bare = k.bare;
-  impatient = k.impatient;
+  ready_waiters = k.ready_waiters;
+  awaiting_config = k.awaiting_config;
+  fail_fast = k.fail_fast;
   rows = k.rows;
 }
 stamp_one n row link ls x z false k = k
 
 one_by : (n row : ℕ) (o : Option ℕ) (x : StateSeen) → LinkIn x.book.ledger.rows row o → IsOne n row o x (act_done n (given_up_act row o) x)
-one_by n row None x e = record { links = refl; resets = sym (append-nil x.resets); outstanding = refl; queue = refl; patient = refl; bare = refl; impatient = refl; rows = refl }
+one_by n row None x e = record { links = refl; resets = sym (append-nil x.resets); outstanding = refl; queue = refl; ready_waiters = refl; awaiting_config = refl; fail_fast = refl; rows = refl }
 one_by n row (Some link) x e =
     let z : StateSeen = record (reset_on link row x) { outstanding = remove_key (is_same (link, row)) x.outstanding } in
     let one : IsOne n row (Some link) x (cut_on link row x)
     = stamp_one n row link (changed_at (gone_link z.book.ledger.entry) z.book.ledger.links link) x z (is_gone link z)
-    (record { links = refl; resets = refl; outstanding = refl; queue = refl; patient = refl; bare = refl; impatient = refl; rows = refl }) in
+    (record { links = refl; resets = refl; outstanding = refl; queue = refl; ready_waiters = refl; awaiting_config = refl; fail_fast = refl; rows = refl }) in
     subst (λ (k : ℕ). IsOne n row (Some link) x (cut_on k row x)) (sym e) one
 
 pub all_done : (n : ℕ) (live : List LiveRow) (x : StateSeen) → AllByRecursion (λ (r : LiveRow). LinkIn x.book.ledger.rows r.place r.link) live
     → IsDone n live x (acts_done n (map given live) x)
 all_done n [] x all =
-    record { links = refl; resets = sym (append-nil x.resets); outstanding = refl; queue = refl; patient = refl; bare = refl; impatient = refl; rows = refl }
+    record { links = refl; resets = sym (append-nil x.resets); outstanding = refl; queue = refl; ready_waiters = refl; awaiting_config = refl; fail_fast = refl; rows = refl }
 all_done n (r ∷ live) x all =
     let y : StateSeen = act_done n (given r) x in
     let one : IsOne n r.place r.link x y = one_by n r.place r.link x all.0 in
@@ -130,8 +130,8 @@ all_done n (r ∷ live) x all =
       resets = rest.resets ∙ ap (λ (ls : List ℕ). ls ++ links_of live) one.resets ∙ append_assoc x.resets (link_list r.link) (links_of live);
       outstanding = rest.outstanding ∙ ap (all_out_gone live) one.outstanding;
       queue = rest.queue ∙ ap (all_queue_gone n live) one.queue;
-      patient = rest.patient ∙ ap (all_queue_gone n live) one.patient;
-      bare = rest.bare ∙ one.bare;
-      impatient = rest.impatient ∙ one.impatient;
+      ready_waiters = rest.ready_waiters ∙ ap (all_queue_gone n live) one.ready_waiters;
+      awaiting_config = rest.awaiting_config ∙ one.awaiting_config;
+      fail_fast = rest.fail_fast ∙ one.fail_fast;
       rows = rest.rows ∙ one.rows;
     }

@@ -2,7 +2,7 @@
 use Rattle.std.proofs.Common.{◌≡◌, ◌-◌, ◌∷◌, ◌++◌, not, ap, arith, refl, sym, ◌∙◌, List, [], Option, None, Some, ℕ, zero, suc, if◌then◌else◌, is_none, is_some, map, slice_get, slice_set}
 use Rattle.std.specs.List.{AllByRecursion}
 use Rattle.std.specs.Set.{remove_key}
-use Rattle.channel_actions.proofs.ActsFollowed.Acts.{IsDone, LinkIn, acts_form, all_done, done_append, given, link_list, links_of, parts_of, told_is}
+use Rattle.channel_actions.proofs.ActsFollowed.Acts.{IsDone, LinkIn, acts_form, all_done, done_append, given, link_list, links_of, parts_of, reported_is}
 use Rattle.channel_actions.specs.ActsFollowed.Followed.{all_closed, all_given_up, all_out_gone, all_queue_gone, call_closed, call_lent, closed_in, followed_by_end, slot_closed}
 use Rattle.channel_actions.specs.ActsFollowed.Laws.{CanEnd, EndsAreFollowed, IsLinked, LinkIs}
 use Rattle.attempt_ledger.specs.declared.ledger.LinkSeen.{LinkSeen}
@@ -73,7 +73,7 @@ module _ (why : EndCause) (n : ℕ) (x : StateSeen) (can : CanEnd why n x) where
   acts = map given live ++ act.End why ∷ []
 
   acts_are : a.acts ≡ acts
-  acts_are = ap (λ (z : Stepped). z.acts) a_is ∙ ap (λ (xs : List CallAct). xs ++ act.End why ∷ []) (told_is live [])
+  acts_are = ap (λ (z : Stepped). z.acts) a_is ∙ ap (λ (xs : List CallAct). xs ++ act.End why ∷ []) (reported_is live [])
 
   ended_is : a.call.ended ≡ Some why
   ended_is = ap (λ (z : Stepped). z.call.ended) a_is
@@ -105,7 +105,7 @@ module _ (why : EndCause) (n : ℕ) (x : StateSeen) (can : CanEnd why n x) where
   done = all_done n live x1 (linked_of live can.linked)
 
   abbrev y2 : StateSeen
-  y2 = record y { bare = remove_key (is_same (0, n)) y.bare; impatient = remove_key (is_same (0, n)) y.impatient }
+  y2 = record y { awaiting_config = remove_key (is_same (0, n)) y.awaiting_config; fail_fast = remove_key (is_same (0, n)) y.fail_fast }
 
   acts_end : acts_done n acts x1 ≡ y2
   acts_end = done_append n (map given live) (act.End why ∷ []) x1
@@ -137,21 +137,21 @@ module _ (why : EndCause) (n : ℕ) (x : StateSeen) (can : CanEnd why n x) where
   -- the channel, by its parts
   abbrev shaped : Option ℕ → Option ℕ → List CallSlot → List LinkSlot → List ℕ → List (ℕ × ℕ) → List (ℕ × ℕ) → List (ℕ × ℕ) → List (ℕ × ℕ) → List (ℕ × ℕ)
       → List LinkSeen → StateSeen
-  shaped due deadline calls links resets outstanding queue patient bare impatient stamps = record x {
+  shaped due deadline calls links resets outstanding queue ready_waiters awaiting_config fail_fast stamps = record x {
     book = record x.book { ledger = record a.ledger { links = stamps }; calls = calls };
     links = links;
     resets = resets;
     outstanding = outstanding;
     queue = queue;
-    patient = patient;
+    ready_waiters = ready_waiters;
     dues = timer_moved n slot.due due x.dues;
     deadlines = timer_moved n slot.deadline deadline x.deadlines;
-    bare = remove_key (is_same (0, n)) bare;
-    impatient = remove_key (is_same (0, n)) impatient;
+    awaiting_config = remove_key (is_same (0, n)) awaiting_config;
+    fail_fast = remove_key (is_same (0, n)) fail_fast;
   }
 
   abbrev finished : StateSeen → StateSeen
-  finished z = timers_moved_to n (Some v) (record z { bare = remove_key (is_same (0, n)) z.bare; impatient = remove_key (is_same (0, n)) z.impatient })
+  finished z = timers_moved_to n (Some v) (record z { awaiting_config = remove_key (is_same (0, n)) z.awaiting_config; fail_fast = remove_key (is_same (0, n)) z.fail_fast })
 
   abbrev timed : Option ℕ → Option ℕ → List CallSlot
   timed due deadline = changed_slot (with_timers due deadline) (slice_set x.book.calls (n - 1) v) n
@@ -159,7 +159,7 @@ module _ (why : EndCause) (n : ℕ) (x : StateSeen) (can : CanEnd why n x) where
   abbrev stamps : List LinkSeen
   stamps = y.book.ledger.links
 
-  finished_is : finished y ≡ shaped (due_at (Some v)) (deadline_of (Some v)) (timed (due_at (Some v)) (deadline_of (Some v))) y.links y.resets y.outstanding y.queue y.patient y.bare y.impatient stamps
+  finished_is : finished y ≡ shaped (due_at (Some v)) (deadline_of (Some v)) (timed (due_at (Some v)) (deadline_of (Some v))) y.links y.resets y.outstanding y.queue y.ready_waiters y.awaiting_config y.fail_fast stamps
   finished_is = ap finished form
 
   -- no timers any more
@@ -167,7 +167,7 @@ module _ (why : EndCause) (n : ℕ) (x : StateSeen) (can : CanEnd why n x) where
   slots = slice_set x.book.calls (n - 1) (slot_closed why x slot)
 
   abbrev with_slots : Option ℕ → Option ℕ → List CallSlot → StateSeen
-  with_slots due deadline calls = shaped due deadline calls y.links y.resets y.outstanding y.queue y.patient y.bare y.impatient stamps
+  with_slots due deadline calls = shaped due deadline calls y.links y.resets y.outstanding y.queue y.ready_waiters y.awaiting_config y.fail_fast stamps
 
   timeless : timed None None ≡ slots
   timeless =
@@ -184,7 +184,7 @@ module _ (why : EndCause) (n : ℕ) (x : StateSeen) (can : CanEnd why n x) where
   resets_are = done.resets ∙ ap (λ (ls : List ℕ). ls ++ links_of live) can.resets
 
   abbrev unsealed : List LinkSlot → List ℕ → StateSeen
-  unsealed links resets = shaped None None slots links resets y.outstanding y.queue y.patient y.bare y.impatient stamps
+  unsealed links resets = shaped None None slots links resets y.outstanding y.queue y.ready_waiters y.awaiting_config y.fail_fast stamps
 
   closed_is : closed why n x ≡ unsealed (seal_all (links_of live) y.links) []
   closed_is =
@@ -194,7 +194,7 @@ module _ (why : EndCause) (n : ℕ) (x : StateSeen) (can : CanEnd why n x) where
   abbrev whole : List LinkSeen → StateSeen
   whole ls =
       shaped None None slots (all_closed live (all_given_up live x.links)) x.resets (all_out_gone live x.outstanding) (all_queue_gone n live x.queue)
-      (all_queue_gone n live x.patient) x.bare x.impatient ls
+      (all_queue_gone n live x.ready_waiters) x.awaiting_config x.fail_fast ls
 
   links_are : seal_all (links_of live) y.links ≡ all_closed live (all_given_up live x.links)
   links_are = seal_rows live y.links ∙ ap (all_closed live) done.links
@@ -204,15 +204,15 @@ module _ (why : EndCause) (n : ℕ) (x : StateSeen) (can : CanEnd why n x) where
       closed_is
       ∙ ap (λ (ls : List LinkSlot). unsealed ls []) links_are
       ∙ ap (λ (ls : List ℕ). unsealed (all_closed live (all_given_up live x.links)) ls) (sym can.resets)
-      ∙ ap (λ (ps : List (ℕ × ℕ)). shaped None None slots (all_closed live (all_given_up live x.links)) x.resets ps y.queue y.patient y.bare y.impatient stamps) done.outstanding
-      ∙ ap (λ (ps : List (ℕ × ℕ)). shaped None None slots (all_closed live (all_given_up live x.links)) x.resets (all_out_gone live x.outstanding) ps y.patient y.bare y.impatient stamps)
+      ∙ ap (λ (ps : List (ℕ × ℕ)). shaped None None slots (all_closed live (all_given_up live x.links)) x.resets ps y.queue y.ready_waiters y.awaiting_config y.fail_fast stamps) done.outstanding
+      ∙ ap (λ (ps : List (ℕ × ℕ)). shaped None None slots (all_closed live (all_given_up live x.links)) x.resets (all_out_gone live x.outstanding) ps y.ready_waiters y.awaiting_config y.fail_fast stamps)
       done.queue
       ∙ ap (λ (ps : List (ℕ × ℕ)). shaped None None slots (all_closed live (all_given_up live x.links)) x.resets (all_out_gone live x.outstanding) (all_queue_gone n live x.queue) ps
-      y.bare y.impatient stamps) done.patient
+      y.awaiting_config y.fail_fast stamps) done.ready_waiters
       ∙ ap (λ (ps : List (ℕ × ℕ)). shaped None None slots (all_closed live (all_given_up live x.links)) x.resets (all_out_gone live x.outstanding) (all_queue_gone n live x.queue)
-      (all_queue_gone n live x.patient) ps y.impatient stamps) done.bare
+      (all_queue_gone n live x.ready_waiters) ps y.fail_fast stamps) done.awaiting_config
       ∙ ap (λ (ps : List (ℕ × ℕ)). shaped None None slots (all_closed live (all_given_up live x.links)) x.resets (all_out_gone live x.outstanding) (all_queue_gone n live x.queue)
-      (all_queue_gone n live x.patient) x.bare ps stamps) done.impatient
+      (all_queue_gone n live x.ready_waiters) x.awaiting_config ps stamps) done.fail_fast
 
   pub whole_is : closed why n x ≡ followed_by_end why n x slot (closed why n x).book.ledger
   whole_is = parts_are ∙ ap whole (sym (ap (λ (z : StateSeen). z.book.ledger.links) parts_are))

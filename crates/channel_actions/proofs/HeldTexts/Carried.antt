@@ -4,9 +4,9 @@ use Rattle.call_core.specs.Steps as call
 use Rattle.channel_actions.proofs.HeldTexts.Steps as step
 use Rattle.channel_actions.proofs.HeldTexts.Trims.{AreTrimmed, acted_trimmed, beside_trimmed, changed_trimmed, more_trimmed, trimmed_on, trimmed_same}
 use Rattle.channel_core.proofs.Going as going
-use Rattle.channel_core.proofs.Going.{Configures, Goes, Gone, rests}
+use Rattle.channel_core.proofs.Going.{Configures, IsLocalActionInvariant, Gone, rests}
 use Rattle.channel_core.proofs.GoingSteps as stages
-use Rattle.channel_core.proofs.Resting.{Rests}
+use Rattle.channel_core.proofs.Resting.{IsQuietActionInvariant}
 use Rattle.channel_core.specs.Applying.{AnswersBy}
 use Rattle.channel_core.specs.Books.{bucket_set, call_of, row_at}
 use Rattle.channel_core.specs.Draining.{DrainLeaves}
@@ -30,14 +30,14 @@ Trims x y = AreTrimmed x.book.calls y.book.calls
 left : (s t : StateSeen) → t.book.calls ≡ s.book.calls → Trims s t
 left s t e = subst (AreTrimmed s.book.calls) (sym e) (trimmed_same s.book.calls)
 
-pub goes_trims : Goes Trims
+pub goes_trims : IsLocalActionInvariant Trims
 goes_trims = record {
   joined = λ s t u first second. trimmed_on s.book.calls t.book.calls u.book.calls first second;
   beside = λ s t book held links shut. left s t (ap (λ b. b.calls) book);
   timed_out = λ number s. acted_trimmed (call.timed_out s.book.moment) s.book.ledger _ (λ z. step.timed_out s.book.moment z) s.book.calls number;
   closed = λ why number s by. acted_trimmed (call.closed_by why s.book.moment) s.book.ledger _ (λ z. step.closed why s.book.moment z) s.book.calls number;
   made = λ number s. acted_trimmed (call.made_due s.book.moment) s.book.ledger _ (λ z. step.made s.book.moment z) s.book.calls number;
-  heard = λ row told number s fair. acted_trimmed (call.heard_news row told s.book.moment (next_word s)) s.book.ledger _ (λ z. step.heard row told s.book.moment (next_word s) z) s.book.calls number;
+  handled = λ row reported number s fair. acted_trimmed (call.received_news row reported s.book.moment (next_word s)) s.book.ledger _ (λ z. step.handled row reported s.book.moment (next_word s) z) s.book.calls number;
   failed = λ row number s. acted_trimmed (call.pick_failed row s.book.moment (next_word s)) s.book.ledger _ (λ z. step.failed row s.book.moment (next_word s) z) s.book.calls number;
   placed = λ row at number s entry moment. acted_trimmed (call.placed_at row at) s.book.ledger None (λ z. step.placed row at z) s.book.calls number;
   taken = λ number s. changed_trimmed call.taken (λ c. step.taken c) s.book.calls number;
@@ -52,7 +52,7 @@ goes_trims = record {
 }
 
 -- and of what comes of no event
-pub rests_trim : Rests Trims
+pub rests_trim : IsQuietActionInvariant Trims
 rests_trim = rests Trims goes_trims
 
 -- a config

@@ -23,7 +23,7 @@ use Rattle.channel_actions.proofs.SoundBuffers.Buffers.{more_long}
 use Rattle.channel_actions.proofs.Stamps.{counted_at}
 use Rattle.channel_actions.specs.Agrees.{Agrees}
 use Rattle.channel_actions.specs.Calls.{HasSlot, lent_to}
-use Rattle.channel_actions.specs.Calm.{IsAt}
+use Rattle.channel_actions.specs.Quiescent.{IsAt}
 use Rattle.channel_actions.specs.HeldTexts.Fits.{FitsText, TextsFit}
 use Rattle.channel_actions.specs.HeldTexts.Laws.{AnswersKeepTexts}
 use Rattle.channel_core.proofs.Places.{put_there}

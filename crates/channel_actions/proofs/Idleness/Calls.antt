@@ -11,18 +11,18 @@ use Rattle.channel_actions.proofs.States.{unconfigured}
 use Rattle.channel_actions.specs.Agrees.{Agrees}
 use Rattle.channel_actions.specs.Calls.{due_of}
 use Rattle.channel_actions.specs.Cases.{IsIdle}
-use Rattle.channel_actions.specs.Sets.{AreExactly, is_in_bare, is_in_dues, is_in_impatient, is_in_patient, is_in_queue, is_patient, is_waiting}
+use Rattle.channel_actions.specs.Sets.{PairsAreExactly, is_awaiting_config, is_in_dues, is_in_fail_fast, is_in_ready_waiters, is_in_queue, is_ready_waiter, is_waiting}
 use Rattle.channel_core.proofs.Idling.{nothing_made}
 use Rattle.channel_core.proofs.SettlingLaws.{passed_step, rounds_step}
 use Rattle.channel_core.specs.Settling.{also, most, passed, passed_on, queue_served, round, round_on, rounds, rounds_on, stays}
 use Rattle.channel_core.specs.States.{StateSeen}
-use Rattle.channel_core.specs.Steps.{all_configured, all_unconfigured, bare_served, next_served, round_made, served_in}
+use Rattle.channel_core.specs.Steps.{all_configured, all_unconfigured, unconfigured_served, next_served, round_made, served_in}
 use Rattle.channel_core.specs.Timing.{due_keys, first_pair, later}
 use Rattle.grpc_base.specs.declared.event.Conn.{Conn}
 use Rattle.grpc_base.specs.declared.event.Conn.TheVariants as conn
 use Rattle.lb_policy.specs.Table.{pick_of}
 use Rattle.net_actions.specs.Laws.{StatesAreSame}
-use Rattle.picker_gate.specs.Pairs.{first_due, is_same, next_behind}
+use Rattle.picker_gate.specs.Pairs.{first_due, is_same, next_after}
 use Rattle.service_config.specs.declared.config.Config.{Config}
 use Rattle.session_actions.specs.Actions.{config_action}
 use Rattle.session_actions.specs.Attempts.{call_of, is_queued}
@@ -53,7 +53,7 @@ none_at f xs zero x h e = absurd (cc)
 none_at f xs (suc i) x h e = none_first f xs i x h e
 
 -- a set of which no pair passes its test is empty
-empty_by : (pairs : List (ℕ × ℕ)) (test : ℕ → ℕ → Bool) → AreExactly pairs test → ((a b : ℕ) → test a b ≡ true → ⊥) → pairs ≡ []
+empty_by : (pairs : List (ℕ × ℕ)) (test : ℕ → ℕ → Bool) → PairsAreExactly pairs test → ((a b : ℕ) → test a b ≡ true → ⊥) → pairs ≡ []
 empty_by [] test exact none = refl
 empty_by (p ∷ pairs) test exact none =
     absurd (none p.0 p.1 (sym (exact.exact p.0 p.1) ∙ any_of (is_same p) (p ∷ pairs) zero p refl (same_self p)))
@@ -122,7 +122,7 @@ module _ (x : StateSeen) (s : Seen) (h : Agrees x s) (idle : IsIdle x s) where
   dues_not m n None e is = absurd (cc)
   dues_not m n (Some c) e is = due_not c m (is_open_call c) refl is (none_at (due_action s) s.calls n c idle.due e)
 
-  first_not : (dues : List (ℕ × ℕ)) → AreExactly dues (is_in_dues s) → None ≡ first_due dues x.book.moment
+  first_not : (dues : List (ℕ × ℕ)) → PairsAreExactly dues (is_in_dues s) → None ≡ first_due dues x.book.moment
   first_not [] exact = refl
   first_not (t ∷ ts) exact =
       let in_set : is_in_dues s t.0 t.1 ≡ true = sym (exact.exact t.0 t.1) ∙ any_of (is_same t) (t ∷ ts) zero t refl (same_self t) in
@@ -141,51 +141,51 @@ module _ (x : StateSeen) (s : Seen) (h : Agrees x s) (idle : IsIdle x s) where
   config_not : (n : ℕ) (c : Call) → numbered s.calls n ≡ Some c → (is_to_configure s c ≡ false) × (lacks_config s c ≡ false)
   config_not n c e = neither (is_to_configure s c) (lacks_config s c) _ _ (none_at (config_action s) s.calls n c idle.configs e)
 
-  bare_by : is_some (held_config s) ≡ true → (a n : ℕ) (o : Option Call) → numbered s.calls n ≡ o
+  unconfigured_by : is_some (held_config s) ≡ true → (a n : ℕ) (o : Option Call) → numbered s.calls n ≡ o
       → ((a == 0) && holds (λ (c : Call). is_open_call c && is_none c.config) o) ≡ true → ⊥
-  bare_by held a n None e in_set = absurd (let bad = (and_parts (a == 0) false in_set).1 in (cc))
-  bare_by held a n (Some c) e in_set =
-      let bare : (is_open_call c && is_none c.config) ≡ true = (and_parts (a == 0) (is_open_call c && is_none c.config) in_set).1 in
+  unconfigured_by held a n None e in_set = absurd (let bad = (and_parts (a == 0) false in_set).1 in (cc))
+  unconfigured_by held a n (Some c) e in_set =
+      let awaiting_config : (is_open_call c && is_none c.config) ≡ true = (and_parts (a == 0) (is_open_call c && is_none c.config) in_set).1 in
       let not_so : is_to_configure s c ≡ false = (config_not n c e).0 in
-      no_config (is_open_call c) (is_none c.config) (is_some (held_config s)) held bare not_so
+      no_config (is_open_call c) (is_none c.config) (is_some (held_config s)) held awaiting_config not_so
 
   some_held : (o : Option HeldConfig) → held_config s ≡ o → is_some x.held ≡ true → is_some (held_config s) ≡ true
   some_held None e held = absurd (let bad : is_some x.held ≡ false = ap (λ (z : Option Config). is_some z) (sym h.configs.held ∙ ap (option_map (λ (z : HeldConfig). z.config)) e) in (cc))
   some_held (Some k) e held = ap (λ (z : Option HeldConfig). is_some z) e
 
-  held_bare : is_some x.held ≡ true → x.bare ≡ []
-  held_bare held = empty_by x.bare (is_in_bare s) h.sets.bare (λ a n in_set. bare_by (some_held (held_config s) refl held) a n (numbered s.calls n) refl in_set)
+  held_unconfigured : is_some x.held ≡ true → x.awaiting_config ≡ []
+  held_unconfigured held = empty_by x.awaiting_config (is_awaiting_config s) h.sets.awaiting_config (λ a n in_set. unconfigured_by (some_held (held_config s) refl held) a n (numbered s.calls n) refl in_set)
 
-  held_impatient : is_some x.held ≡ true → x.impatient ≡ []
-  held_impatient held =
-      empty_by x.impatient (is_in_impatient s) h.sets.impatient
-      (λ a n in_set. bare_by (some_held (held_config s) refl held) a n (numbered s.calls n) refl (and_parts (is_in_bare s a n) (not (is_patient s n)) in_set).0)
+  held_fail_fast : is_some x.held ≡ true → x.fail_fast ≡ []
+  held_fail_fast held =
+      empty_by x.fail_fast (is_in_fail_fast s) h.sets.fail_fast
+      (λ a n in_set. unconfigured_by (some_held (held_config s) refl held) a n (numbered s.calls n) refl (and_parts (is_awaiting_config s a n) (not (is_ready_waiter s n)) in_set).0)
 
-  impatient_by : is_unconfigured s ≡ true → (a n : ℕ) (o : Option Call) → numbered s.calls n ≡ o
+  fail_fast_by : is_unconfigured s ≡ true → (a n : ℕ) (o : Option Call) → numbered s.calls n ≡ o
       → (((a == 0) && holds (λ (c : Call). is_open_call c && is_none c.config) o) && not (holds (λ (c : Call). waits_for_ready c s) o)) ≡ true → ⊥
-  impatient_by bare a n None e in_set = absurd (let bad = (and_parts (a == 0) false (and_parts ((a == 0) && false) true in_set).0).1 in (cc))
-  impatient_by bare a n (Some c) e in_set =
+  fail_fast_by awaiting_config a n None e in_set = absurd (let bad = (and_parts (a == 0) false (and_parts ((a == 0) && false) true in_set).0).1 in (cc))
+  fail_fast_by awaiting_config a n (Some c) e in_set =
       let both = and_parts ((a == 0) && (is_open_call c && is_none c.config)) (not (waits_for_ready c s)) in_set in
       let unended : is_open_call c ≡ true = (and_parts (is_open_call c) (is_none c.config) (and_parts (a == 0) (is_open_call c && is_none c.config) both.0).1).0 in
-      no_lack (is_open_call c) (is_unconfigured s) (not (waits_for_ready c s)) unended bare both.1 (config_not n c e).1
+      no_lack (is_open_call c) (is_unconfigured s) (not (waits_for_ready c s)) unended awaiting_config both.1 (config_not n c e).1
 
-  bare_cases : (held unconfigured : Bool) → is_some x.held ≡ held → x.unconfigured ≡ unconfigured
-      → (if held then all_configured (due_keys 0 x.bare) (record x { bare = later 0 x.bare; impatient = [] })
-      else if unconfigured then all_unconfigured (due_keys 0 x.impatient) (record x { impatient = later 0 x.impatient })
+  unconfigured_cases : (held unconfigured : Bool) → is_some x.held ≡ held → x.unconfigured ≡ unconfigured
+      → (if held then all_configured (due_keys 0 x.awaiting_config) (record x { awaiting_config = later 0 x.awaiting_config; fail_fast = [] })
+      else if unconfigured then all_unconfigured (due_keys 0 x.fail_fast) (record x { fail_fast = later 0 x.fail_fast })
       else x) ≡ x
-  bare_cases true unconfigured e f =
-      ap (λ (l : List (ℕ × ℕ)). all_configured (due_keys 0 l) (record x { bare = later 0 l; impatient = [] })) (held_bare e)
-      ∙ ap (λ (l : List (ℕ × ℕ)). record x { bare = l; impatient = [] }) (sym (held_bare e)) ∙ ap (λ (l : List (ℕ × ℕ)). record x { impatient = l }) (sym (held_impatient e))
-  bare_cases false true e f =
-      let none : x.impatient ≡ []
-      = empty_by x.impatient (is_in_impatient s) h.sets.impatient
-      (λ a n in_set. impatient_by (unconfigured x s h (none_of x.held e) ∙ f) a n (numbered s.calls n) refl in_set) in
-      ap (λ (l : List (ℕ × ℕ)). all_unconfigured (due_keys 0 l) (record x { impatient = later 0 l })) none ∙ ap (λ (l : List (ℕ × ℕ)). record x { impatient = l }) (sym none)
-  bare_cases false false e f = refl
+  unconfigured_cases true unconfigured e f =
+      ap (λ (l : List (ℕ × ℕ)). all_configured (due_keys 0 l) (record x { awaiting_config = later 0 l; fail_fast = [] })) (held_unconfigured e)
+      ∙ ap (λ (l : List (ℕ × ℕ)). record x { awaiting_config = l; fail_fast = [] }) (sym (held_unconfigured e)) ∙ ap (λ (l : List (ℕ × ℕ)). record x { fail_fast = l }) (sym (held_fail_fast e))
+  unconfigured_cases false true e f =
+      let none : x.fail_fast ≡ []
+      = empty_by x.fail_fast (is_in_fail_fast s) h.sets.fail_fast
+      (λ a n in_set. fail_fast_by (unconfigured x s h (none_of x.held e) ∙ f) a n (numbered s.calls n) refl in_set) in
+      ap (λ (l : List (ℕ × ℕ)). all_unconfigured (due_keys 0 l) (record x { fail_fast = later 0 l })) none ∙ ap (λ (l : List (ℕ × ℕ)). record x { fail_fast = l }) (sym none)
+  unconfigured_cases false false e f = refl
 
-  pub bare_idle : bare_served x ≡ x
-  unfolding bare_served
-  bare_idle = bare_cases (is_some x.held) x.unconfigured refl refl
+  pub unconfigured_idle : unconfigured_served x ≡ x
+  unfolding unconfigured_served
+  unconfigured_idle = unconfigured_cases (is_some x.held) x.unconfigured refl refl
 
   -- no attempt is served
   module _ (g : PolicyUse) (current : current_policy s ≡ Some g) where
@@ -203,12 +203,12 @@ module _ (x : StateSeen) (s : Seen) (h : Agrees x s) (idle : IsIdle x s) where
         ∙ ap (holds (λ (k : PolicyUse). is_served_by (policy_state k s) a s)) current ∙ by in
         absurd (let bad : true ≡ false = sym (ap (λ (b : Bool). b && true) served) ∙ not_so in (cc))
 
-    waiting_not : ((a : Attempt) (n : ℕ) → numbered s.attempts n ≡ Some a → is_queued a s ≡ true → (call : ℕ) → (a.row.call == call) ≡ true → not (is_patient s call) ≡ true → is_served_by (policy_state g s) a s ≡ true)
-        → (call row : ℕ) (o : Option Attempt) → numbered s.attempts row ≡ o → holds (λ (a : Attempt). (a.row.call == call) && is_queued a s) o ≡ true → not (is_patient s call) ≡ true → ⊥
-    waiting_not by call row None e in_set patient = absurd (cc)
-    waiting_not by call row (Some a) e in_set patient =
+    waiting_not : ((a : Attempt) (n : ℕ) → numbered s.attempts n ≡ Some a → is_queued a s ≡ true → (call : ℕ) → (a.row.call == call) ≡ true → not (is_ready_waiter s call) ≡ true → is_served_by (policy_state g s) a s ≡ true)
+        → (call row : ℕ) (o : Option Attempt) → numbered s.attempts row ≡ o → holds (λ (a : Attempt). (a.row.call == call) && is_queued a s) o ≡ true → not (is_ready_waiter s call) ≡ true → ⊥
+    waiting_not by call row None e in_set ready_waiters = absurd (cc)
+    waiting_not by call row (Some a) e in_set ready_waiters =
         let both = and_parts (a.row.call == call) (is_queued a s) in_set in
-        served_not row a e both.1 (by a row e both.1 call both.0 patient)
+        served_not row a e both.1 (by a row e both.1 call both.0 ready_waiters)
 
     waiting_none : (policy_state g s ≡ conn.Ready) → (call row : ℕ) (o : Option Attempt) → numbered s.attempts row ≡ o
         → holds (λ (a : Attempt). (a.row.call == call) && is_queued a s) o ≡ true → ⊥
@@ -219,37 +219,37 @@ module _ (x : StateSeen) (s : Seen) (h : Agrees x s) (idle : IsIdle x s) where
     ready_queue : (policy_state g s ≡ conn.Ready) → x.queue ≡ []
     ready_queue ready =
         empty_by x.queue (is_in_queue s) h.sets.queue
-        (λ call row in_set. waiting_none ready call row (numbered s.attempts row) refl (and_parts (is_waiting s call row) (not (is_patient s call)) in_set).0)
+        (λ call row in_set. waiting_none ready call row (numbered s.attempts row) refl (and_parts (is_waiting s call row) (not (is_ready_waiter s call)) in_set).0)
 
-    ready_patient : (policy_state g s ≡ conn.Ready) → x.patient ≡ []
-    ready_patient ready =
-        empty_by x.patient (is_in_patient s) h.sets.patient
-        (λ call row in_set. waiting_none ready call row (numbered s.attempts row) refl (and_parts (is_waiting s call row) (is_patient s call) in_set).0)
+    ready_wait_for_ready : (policy_state g s ≡ conn.Ready) → x.ready_waiters ≡ []
+    ready_wait_for_ready ready =
+        empty_by x.ready_waiters (is_in_ready_waiters s) h.sets.ready_waiters
+        (λ call row in_set. waiting_none ready call row (numbered s.attempts row) refl (and_parts (is_waiting s call row) (is_ready_waiter s call) in_set).0)
 
     unpatient : (a : Attempt) (o : Option Call) → is_some o ≡ true → not (holds (λ (c : Call). waits_for_ready c s) o) ≡ true → holds (λ (c : Call). not (waits_for_ready c s)) o ≡ true
     unpatient a None some waits = absurd (cc)
     unpatient a (Some c) some waits = waits
 
     failing_by : (policy_state g s ≡ conn.Failure) → (a : Attempt) (n : ℕ) → numbered s.attempts n ≡ Some a → is_queued a s ≡ true → (call : ℕ) → (a.row.call == call) ≡ true
-        → not (is_patient s call) ≡ true → is_served_by (policy_state g s) a s ≡ true
-    failing_by failing a n e queued call own patient =
+        → not (is_ready_waiter s call) ≡ true → is_served_by (policy_state g s) a s ≡ true
+    failing_by failing a n e queued call own ready_waiters =
         ap (λ (c : Conn). is_served_by c a s) failing
         ∙ unpatient a (numbered s.calls a.row.call) (all_numbered (λ (q : Attempt). is_some (call_of q s)) s.attempts n a e h.kept.owned)
-        (ap (λ (k : ℕ). not (is_patient s k)) (equal_moment a.row.call call own) ∙ patient)
+        (ap (λ (k : ℕ). not (is_ready_waiter s k)) (equal_moment a.row.call call own) ∙ ready_waiters)
 
     failing_queue : (policy_state g s ≡ conn.Failure) → x.queue ≡ []
     failing_queue failing =
         empty_by x.queue (is_in_queue s) h.sets.queue
         (λ call row in_set. waiting_not (failing_by failing) call row (numbered s.attempts row) refl
-        (and_parts (is_waiting s call row) (not (is_patient s call)) in_set).0 (and_parts (is_waiting s call row) (not (is_patient s call)) in_set).1)
+        (and_parts (is_waiting s call row) (not (is_ready_waiter s call)) in_set).0 (and_parts (is_waiting s call row) (not (is_ready_waiter s call)) in_set).1)
 
     by_state : (c : Conn) → policy_state g s ≡ c → served_in (Some c) (0, 0) x ≡ None
     by_state conn.Idle e = refl
     by_state conn.Connecting e = refl
     by_state conn.Ready e =
-        ap (λ (l : List (ℕ × ℕ)). first_pair (next_behind l (0, 0)) (next_behind x.patient (0, 0))) (ready_queue e)
-        ∙ ap (λ (l : List (ℕ × ℕ)). first_pair None (next_behind l (0, 0))) (ready_patient e)
-    by_state conn.Failure e = ap (λ (l : List (ℕ × ℕ)). next_behind l (0, 0)) (failing_queue e)
+        ap (λ (l : List (ℕ × ℕ)). first_pair (next_after l (0, 0)) (next_after x.ready_waiters (0, 0))) (ready_queue e)
+        ∙ ap (λ (l : List (ℕ × ℕ)). first_pair None (next_after l (0, 0))) (ready_wait_for_ready e)
+    by_state conn.Failure e = ap (λ (l : List (ℕ × ℕ)). next_after l (0, 0)) (failing_queue e)
     by_state conn.Shutdown e = refl
 
   module _ (states : StatesAreSame) where

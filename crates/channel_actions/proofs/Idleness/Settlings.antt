@@ -1,16 +1,16 @@
 -- A settling in which nothing is due: the channel stays as it is, and the entry closes.
 use Rattle.std.proofs.Common.{◌≡◌, ◌∷◌, ap, refl, subst, sym, ◌∙◌, [], Option, None, Some}
 use Rattle.std.specs.Prelude.{option_and_then}
-use Rattle.channel_actions.proofs.Idleness.Calls.{bare_idle, rounds_idle}
+use Rattle.channel_actions.proofs.Idleness.Calls.{unconfigured_idle, rounds_idle}
 use Rattle.channel_actions.proofs.Idleness.Nets.{clocked_idle, net_settled_idle}
 use Rattle.channel_actions.proofs.Settles.{follows_by}
 use Rattle.channel_actions.specs.Agrees.{Agrees}
-use Rattle.channel_actions.specs.Calm.{IsAt}
+use Rattle.channel_actions.specs.Quiescent.{IsAt}
 use Rattle.channel_actions.specs.Cases.{IsIdle}
 use Rattle.channel_actions.specs.Stages.{IsSettled, SettlingsOf}
 use Rattle.channel_core.specs.Settling.{most, rounds, settled}
 use Rattle.channel_core.specs.States.{StateSeen}
-use Rattle.channel_core.specs.Steps.{bare_served, net_settled}
+use Rattle.channel_core.specs.Steps.{unconfigured_served, net_settled}
 use Rattle.net_actions.specs.Laws.{ClockChanges, StatesAreSame, TakeOversAreSame, WishesConnect}
 use Rattle.session_actions.specs.Actions.{config_action, first_action, following, following_in, of_calls, of_links, of_policies, of_stage}
 use Rattle.session_actions.specs.Making.{next_due_attempt}
@@ -47,13 +47,13 @@ module _ (clocks : ClockChanges) (overs : TakeOversAreSame) (wishes : WishesConn
   closes : following s ≡ Some action.EntryCloses
   closes =
       ap (option_and_then (following_in s)) at.current
-      ∙ follows_by (of_calls o s) (of_links o s) (of_policies o s) (of_stage o s o.stage) action.EntryCloses at.calm.calls at.calm.links at.calm.policies stage_gives
+      ∙ follows_by (of_calls o s) (of_links o s) (of_policies o s) (of_stage o s o.stage) action.EntryCloses at.quiescent.calls at.quiescent.links at.quiescent.policies stage_gives
 
   stays : settled x ≡ x
   stays =
-      ap (λ (z : StateSeen). rounds most (bare_served (net_settled z))) (clocked_idle clocks overs wishes x s h idle)
-      ∙ ap (λ (z : StateSeen). rounds most (bare_served z)) (net_settled_idle clocks overs wishes x s h idle)
-      ∙ ap (rounds most) (bare_idle x s h idle) ∙ rounds_idle x s h idle states
+      ap (λ (z : StateSeen). rounds most (unconfigured_served (net_settled z))) (clocked_idle clocks overs wishes x s h idle)
+      ∙ ap (λ (z : StateSeen). rounds most (unconfigured_served z)) (net_settled_idle clocks overs wishes x s h idle)
+      ∙ ap (rounds most) (unconfigured_idle x s h idle) ∙ rounds_idle x s h idle states
 
   pub idle_settles : IsSettled x o s
   idle_settles = record {

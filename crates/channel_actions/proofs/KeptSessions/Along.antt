@@ -10,7 +10,7 @@ use Rattle.channel_actions.proofs.KeptSessions.Whole.{IsRow, Whole, line_ok, row
 use Rattle.channel_actions.specs.KeptSessions.Kept.{IsKept, is_on_link}
 use Rattle.channel_actions.specs.KeptSessions.Laws.{KeptAlong, KeptBegins, KeptStays}
 use Rattle.call_actions.proofs.ReadsInOrder.Order.{reads_stay}
-use Rattle.call_actions.specs.ReadsInOrder.Laws.{AreReadInOrder, ReadsOn}
+use Rattle.call_actions.specs.ReadsInOrder.Laws.{LinksAreReadInOrder, ReadsOn}
 use Rattle.session_actions.specs.Actions.{after}
 use Rattle.session_actions.specs.Attempts.{call_of}
 use Rattle.session_actions.specs.Entries.{entry}
@@ -65,7 +65,7 @@ row_of : (s : Seen) → Whole s → (a : Attempt) → row_ok s.calls s.links (en
 row_of s h a ok = row_parts s.calls s.links (entry s) a ok
 
 -- put together
-pub kept_from : (s : Seen) → IsInPlace s → IsBook s → AreReadInOrder s → Whole s → IsKept s
+pub kept_from : (s : Seen) → IsInPlace s → IsBook s → LinksAreReadInOrder s → Whole s → IsKept s
 kept_from s places book reads h = record {
   calls = places_counted (λ (c : Call). c.number) s.calls places.calls;
   attempts = places_counted (λ (a : Attempt). a.place) s.attempts places.attempts;

@@ -10,7 +10,7 @@ use Rattle.channel_actions.proofs.KeptSessions.Along.{all_of, kept_from, places_
 use Rattle.channel_actions.proofs.KeptSessions.Lists.{Grows, all_wide}
 use Rattle.channel_actions.proofs.KeptSessions.Steps.{opens_now}
 use Rattle.channel_actions.proofs.KeptSessions.Whole.{ask_ok, subs_later}
-use Rattle.channel_actions.specs.KeptSessions.Kept.{AreCounted, IsKept, came_up, is_on_link}
+use Rattle.channel_actions.specs.KeptSessions.Kept.{NumbersCountUp, IsKept, came_up, is_on_link}
 use Rattle.session_actions.specs.Entries.{entry, opened, opened_entry}
 use Rattle.session_actions.specs.Links.{read_bytes}
 use Rattle.session_actions.specs.Responses.{is_read_by}
@@ -68,7 +68,7 @@ on_more : (s : Seen) (ls : List Link) → Grows s.links ls → (o : Option Place
 on_more s ls more None e = refl
 on_more s ls more (Some at) e = more at.link e
 
-pub kept_linked : (s : Seen) (ls : List Link) → Grows s.links ls → AreCounted 1 (map (λ (l : Link). l.number) ls)
+pub kept_linked : (s : Seen) (ls : List Link) → Grows s.links ls → NumbersCountUp 1 (map (λ (l : Link). l.number) ls)
     → list_all (λ (l : Link). is_some (numbered s.subs l.sub)) ls ≡ true → list_all (λ (l : Link). list_all (is_read_by (read_bytes l)) l.traffic) ls ≡ true
     → list_all (λ (l : Link). list_all is_control l.owed) ls ≡ true → IsKept s → IsKept (record s { links = ls })
 kept_linked s ls more counted dialled reads queued h = record {

@@ -18,10 +18,10 @@ use Rattle.channel_actions.proofs.KeptSessions.Lists.{all_at, all_each, all_filt
 use Rattle.channel_actions.proofs.KeptSessions.Picks.{is_ready_linked, pick_of_sound}
 use Rattle.channel_actions.proofs.KeptSessions.Sound.{IsSound, is_place, is_placing, is_placing_ask, opens_soundly}
 use Rattle.channel_actions.proofs.KeptSessions.Written.{OpensIf, sendable_sound}
-use Rattle.channel_actions.specs.KeptSessions.Kept.{AreCounted, IsKept, came_up, has_link_for, is_sound_ask, is_sound_sub}
+use Rattle.channel_actions.specs.KeptSessions.Kept.{NumbersCountUp, IsKept, came_up, has_link_for, is_sound_ask, is_sound_sub}
 use Rattle.lb_policy.specs.Table.{is_ready, pick_of}
 use Rattle.call_actions.proofs.ReadsInOrder.Numbers.{next_reads_on}
-use Rattle.call_actions.specs.ReadsInOrder.Laws.{AreLinks}
+use Rattle.call_actions.specs.ReadsInOrder.Laws.{LinksAreNumbered}
 use Rattle.session_actions.specs.Actions.{config_action, first_action, following, following_in, of_calls, of_links, of_policies, of_settling, of_stage}
 use Rattle.session_actions.specs.AttemptEnds.{cut, cut_end, end_of, next_cut, next_reset, next_wire_end, outcome_of, reset_code_of, reset_of, wire_end}
 use Rattle.session_actions.specs.Attempts.{call_of, is_outstanding, is_over, wants_follower}
@@ -137,7 +137,7 @@ write_sound : (s : Seen) (link most : ℕ) (o : OpenEntry) (x : Option Sent) →
 write_sound s link most o None e = tt
 write_sound s link most o (Some x) e = given_if s link x (fits_drain most o x) e
 
-counted_links : (n : ℕ) (links : List Link) → AreCounted n (map (λ (l : Link). l.number) links) → AreLinks n links
+counted_links : (n : ℕ) (links : List Link) → NumbersCountUp n (map (λ (l : Link). l.number) links) → LinksAreNumbered n links
 counted_links n [] e = tt
 counted_links n (l ∷ links) e = (e.0, counted_links (suc n) links e.1)
 
@@ -179,26 +179,26 @@ module _ (s : Seen) (kept : IsKept s) where
   ask_sound (Some ask) e = follow_of ask (numbered s.attempts ask.row) e
 
   -- where nothing follows from it, it is not to be acted on with a subchannel
-  calm_with : (ask : Ask) (a : Attempt) (b : Bool) (p : Pick) → (not b || has_link_for s.subs p) ≡ true → (if b then follow_pick ask s a p else None) ≡ None
+  quiescent_with : (ask : Ask) (a : Attempt) (b : Bool) (p : Pick) → (not b || has_link_for s.subs p) ≡ true → (if b then follow_pick ask s a p else None) ≡ None
       → (b && is_place p) ≡ false
-  calm_with ask a false p e n = refl
-  calm_with ask a true (pick.Place sub) e n =
+  quiescent_with ask a false p e n = refl
+  quiescent_with ask a true (pick.Place sub) e n =
       absurd (no_link (λ (b : Subchannel). action.AttemptPlaced a.place (placed_on ask s b)) (numbered s.subs sub) e n)
-  calm_with ask a true pick.Fail e n = refl
-  calm_with ask a true pick.Wait e n = refl
+  quiescent_with ask a true pick.Fail e n = refl
+  quiescent_with ask a true pick.Wait e n = refl
 
-  calm_at : (ask : Ask) (o : Option Attempt) → holds (λ (a : Attempt). not (is_unfollowed a && (ask.entry == entry s)) || has_link_for s.subs ask.answer) o ≡ true
+  quiescent_at : (ask : Ask) (o : Option Attempt) → holds (λ (a : Attempt). not (is_unfollowed a && (ask.entry == entry s)) || has_link_for s.subs ask.answer) o ≡ true
       → option_and_then (λ (a : Attempt). if is_unfollowed a && (ask.entry == entry s) then follow_pick ask s a ask.answer else None) o ≡ None
       → (holds (λ (a : Attempt). is_unfollowed a && (ask.entry == entry s)) o && is_place ask.answer) ≡ false
-  calm_at ask None e n = refl
-  calm_at ask (Some a) e n = calm_with ask a (is_unfollowed a && (ask.entry == entry s)) ask.answer e n
+  quiescent_at ask None e n = refl
+  quiescent_at ask (Some a) e n = quiescent_with ask a (is_unfollowed a && (ask.entry == entry s)) ask.answer e n
 
-  calm_by : (o : Option Ask) → option_map_or (is_sound_ask s) o true ≡ true → option_and_then (follow_ask s) o ≡ None → option_map_or (is_placing_ask s) o false ≡ false
-  calm_by None e n = refl
-  calm_by (Some ask) e n = calm_at ask (numbered s.attempts ask.row) e n
+  quiescent_by : (o : Option Ask) → option_map_or (is_sound_ask s) o true ≡ true → option_and_then (follow_ask s) o ≡ None → option_map_or (is_placing_ask s) o false ≡ false
+  quiescent_by None e n = refl
+  quiescent_by (Some ask) e n = quiescent_at ask (numbered s.attempts ask.row) e n
 
   pub unplacing : next_of_pick s ≡ None → is_placing s ≡ false
-  unplacing n = calm_by (last_of s.asks) kept.picked n
+  unplacing n = quiescent_by (last_of s.asks) kept.picked n
 
   -- calls
   ended_sound : (why : EndCause) (test : Call → Bool) → SoundIf s (next_ended why test s)

@@ -1,5 +1,5 @@
 -- Lists of which one thing was changed, or that grew: what holds of each thing still does, and what was there still is.
-use Rattle.channel_actions.specs.KeptSessions.Kept.{AreCounted}
+use Rattle.channel_actions.specs.KeptSessions.Kept.{NumbersCountUp}
 use Rattle.session_actions.specs.Words.{changed, changed_if, earlier, foremost, last_of, numbered}
 use Rattle.session_order.specs.Order.{HasPlaces}
 use Rattle.std.proofs.Common.{Bool, List, None, Option, Some, [], ap, arith, cond, false, filter, find, if◌then◌else◌, is_some, length, map, pred, refl, slice_get, slice_set, suc, sym, true, zero, ℕ, ◌++◌, ◌+◌, ◌∙◌, ◌∷◌, ◌≡◌}
@@ -152,17 +152,17 @@ pub last_more : {X : Type 0} (xs : List X) (y : X) → last_of (xs ++ y ∷ []) 
 last_more xs y = ap (numbered (xs ++ y ∷ [])) (longer xs y) ∙ get_last xs y
 
 -- numbers that are places
-counted_from : {X : Type 0} (f : X → ℕ) (n : ℕ) (xs : List X) → ((i : ℕ) (x : X) → slice_get xs i ≡ Some x → f x ≡ n + i) → AreCounted n (map f xs)
+counted_from : {X : Type 0} (f : X → ℕ) (n : ℕ) (xs : List X) → ((i : ℕ) (x : X) → slice_get xs i ≡ Some x → f x ≡ n + i) → NumbersCountUp n (map f xs)
 counted_from f n [] each = tt
 counted_from f n (x ∷ xs) each =
     let first : f x ≡ n + 0 = each zero x refl in
     let here : f x ≡ n = omega (arith, first) in
     (here, counted_from f (suc n) xs (λ i y got. (let next : f y ≡ n + suc i = each (suc i) y got in omega (arith, next))))
 
-pub places_counted : {X : Type 0} (f : X → ℕ) (xs : List X) → HasPlaces f xs → AreCounted 1 (map f xs)
+pub places_counted : {X : Type 0} (f : X → ℕ) (xs : List X) → HasPlaces f xs → NumbersCountUp 1 (map f xs)
 places_counted f xs places = counted_from f 1 xs (λ i x got. (let here : f x ≡ suc i = places (suc i) x got in omega (arith, here)))
 
-counted_at : {X : Type 0} (f : X → ℕ) (n : ℕ) (xs : List X) (i : ℕ) (x : X) → AreCounted n (map f xs) → slice_get xs i ≡ Some x → f x ≡ n + i
+counted_at : {X : Type 0} (f : X → ℕ) (n : ℕ) (xs : List X) (i : ℕ) (x : X) → NumbersCountUp n (map f xs) → slice_get xs i ≡ Some x → f x ≡ n + i
 counted_at f n [] i x e got = absurd (cc)
 counted_at f n (y ∷ xs) zero x e got =
     let one : y ≡ x = (cc) in
@@ -170,14 +170,14 @@ counted_at f n (y ∷ xs) zero x e got =
     let same : f x ≡ n = ap f (sym one) ∙ at in omega (arith, same)
 counted_at f n (y ∷ xs) (suc i) x e got = let next : f x ≡ suc n + i = counted_at f (suc n) xs i x e.1 got in omega (arith, next)
 
-pub counted_places : {X : Type 0} (f : X → ℕ) (xs : List X) → AreCounted 1 (map f xs) → HasPlaces f xs
+pub counted_places : {X : Type 0} (f : X → ℕ) (xs : List X) → NumbersCountUp 1 (map f xs) → HasPlaces f xs
 counted_places f xs e zero x got = absurd (cc)
 counted_places f xs e (suc i) x got = let at : f x ≡ 1 + i = counted_at f 1 xs i x e got in omega (arith, at)
 
 -- so each is the one of its number
-pub own_number : {X : Type 0} (f : X → ℕ) (xs : List X) (i : ℕ) (x : X) → AreCounted 1 (map f xs) → slice_get xs i ≡ Some x → numbered xs (f x) ≡ Some x
+pub own_number : {X : Type 0} (f : X → ℕ) (xs : List X) (i : ℕ) (x : X) → NumbersCountUp 1 (map f xs) → slice_get xs i ≡ Some x → numbered xs (f x) ≡ Some x
 own_number f xs i x e got =
     let at : f x ≡ suc i = counted_places f xs e (suc i) x got in ap (numbered xs) at ∙ got
 
-pub all_own : {X : Type 0} (f : X → ℕ) (xs : List X) → AreCounted 1 (map f xs) → list_all (λ (x : X). is_some (numbered xs (f x))) xs ≡ true
+pub all_own : {X : Type 0} (f : X → ℕ) (xs : List X) → NumbersCountUp 1 (map f xs) → list_all (λ (x : X). is_some (numbered xs (f x))) xs ≡ true
 all_own f xs e = all_each (λ (x : _). is_some (numbered xs (f x))) xs (λ i x got. ap is_some (own_number f xs i x e got))

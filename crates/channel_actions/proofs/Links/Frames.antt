@@ -3,7 +3,7 @@ pub mod Pairs
 pub mod Streams
 pub mod Readers
 pub mod Frame
-pub mod Tellings
+pub mod Distinguishing
 pub mod Changes
 pub mod Acts
 pub mod Untold

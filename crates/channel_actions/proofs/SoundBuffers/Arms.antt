@@ -145,12 +145,12 @@ none_of : (o : Option ℕ) → is_some o ≡ false → o ≡ None
 none_of None e = refl
 none_of (Some n) e = absurd (cc)
 
-module _ (row : LiveRow) (told : EndNews) (moment word : ℕ) (s : Stepped) (h : Sound s.call) where
+module _ (row : LiveRow) (reported : EndNews) (moment word : ℕ) (s : Stepped) (h : Sound s.call) where
   abbrev left : Stepped
-  left = step.settled told (step.left_live row.place s)
+  left = step.settled reported (step.left_live row.place s)
 
   abbrev end : RowEnd
-  end = row_end told left.ledger.entry moment (count_of left.tokens)
+  end = row_end reported left.ledger.entry moment (count_of left.tokens)
 
   abbrev after : Judged
   after = step.judged_of row end word left.call left.tokens
@@ -163,17 +163,17 @@ module _ (row : LiveRow) (told : EndNews) (moment word : ℕ) (s : Stepped) (h :
       (free_row s.call.attempts.committed (step.with_judged row end after left).call.attempts.committed row.place s.call.buffer (none_of s.call.attempts.committed e) h)
 
   live_by : (q : Bool)
-      → Sound (if q then step.followed row told moment (step.left_live row.place s) else step.counted row told moment word left).call
+      → Sound (if q then step.followed row reported moment (step.left_live row.place s) else step.counted row reported moment word left).call
   live_by true =
       followed_by s.call.attempts.committed row.place _ s.call.buffer (names row.place s.call.attempts.committed) refl h
   live_by false = counted_by (is_some s.call.attempts.committed) refl
 
-  pub live_ended : Sound (step.live_ended row told moment word s).call
-  live_ended = live_by (is_followed s.call.attempts told.cause told.unseen)
+  pub live_ended : Sound (step.live_ended row reported moment word s).call
+  live_ended = live_by (is_followed s.call.attempts reported.cause reported.unseen)
 
-ended_by : (o : Option LiveRow) (told : EndNews) (moment word : ℕ) (s : Stepped) → Sound s.call → Sound (step.ended_if_live o told moment word s).call
-ended_by None told moment word s h = h
-ended_by (Some row) told moment word s h = live_ended row told moment word s h
+ended_by : (o : Option LiveRow) (reported : EndNews) (moment word : ℕ) (s : Stepped) → Sound s.call → Sound (step.ended_if_live o reported moment word s).call
+ended_by None reported moment word s h = h
+ended_by (Some row) reported moment word s h = live_ended row reported moment word s h
 
 pub failed : (row moment word : ℕ) (s : Stepped) → Sound s.call → Sound (step.pick_failed row moment word s).call
 failed row moment word s h = ended_by (find_live row s.call.live) pick_end moment word s h
@@ -194,14 +194,14 @@ message_by : (octets : List ℕ) (call : CallState) (q : Bool) → Sound call
 message_by octets call true h = h
 message_by octets call false h = h
 
-pub heard : (row : ℕ) (told : News) (moment word : ℕ) (s : Stepped) → Sound s.call → Sound (step.heard_news row told moment word s).call
-heard row (news.Head tag meta seen) moment word s h = head_by row meta moment s (is_some (find_live row s.call.live)) h
-heard row (news.Message tag octets seen) moment word s h = message_by octets s.call (step.is_committed_live row s.call) h
-heard row (news.TooLarge tag seen) moment word s h = ended_if (step.is_committed_live row s.call) ends.Response moment s h
-heard row (news.Ended tag end) moment word s h = ended_by (find_live row s.call.live) end moment word s h
-heard row news.Ready moment word s h = h
-heard row news.Retiring moment word s h = h
-heard row (news.Broken code) moment word s h = h
+pub handled : (row : ℕ) (reported : News) (moment word : ℕ) (s : Stepped) → Sound s.call → Sound (step.received_news row reported moment word s).call
+handled row (news.Head tag meta seen) moment word s h = head_by row meta moment s (is_some (find_live row s.call.live)) h
+handled row (news.Message tag octets seen) moment word s h = message_by octets s.call (step.is_committed_live row s.call) h
+handled row (news.TooLarge tag seen) moment word s h = ended_if (step.is_committed_live row s.call) ends.Response moment s h
+handled row (news.Ended tag end) moment word s h = ended_by (find_live row s.call.live) end moment word s h
+handled row news.Ready moment word s h = h
+handled row news.Retiring moment word s h = h
+handled row (news.Broken code) moment word s h = h
 
 -- what its application sends
 over_free : (b : Buffered) (len : ℕ) (o : Option ℕ) (q r t u : Bool) → is_some b.committed ≡ q

@@ -6,9 +6,9 @@ use Rattle.attempt_ledger.specs.declared.ledger.Ledger.{Ledger}
 use Rattle.attempt_ledger.specs.declared.row.Placed.{Placed}
 use Rattle.call_core.specs.Steps as call
 use Rattle.call_core.specs.Steps.{Stepped, lent}
-use Rattle.channel_core.proofs.Carrying.{Carried, Carries, Configures, overdue}
+use Rattle.channel_core.proofs.Carrying.{Carried, IsActionInvariant, Configures, overdue}
 use Rattle.channel_core.proofs.CarryingSteps.{answered, settle, carried}
-use Rattle.channel_core.proofs.Resting.{Rests}
+use Rattle.channel_core.proofs.Resting.{IsQuietActionInvariant}
 use Rattle.channel_core.specs.Books.{bucket_set, slot_at}
 use Rattle.channel_core.specs.States.{StateSeen}
 use Rattle.channel_core.specs.Steps.{chosen_in, next_word, overdue_ended}
@@ -91,7 +91,7 @@ module _ (laws : CallLaws) where
       all_acted Both (call.placed_at row at) ledger None
       (λ c g. record { goes = laws.placed row at (lent c ledger None []) entry g.goes; holds = arm.placed row at (lent c ledger None []) g.goes.kept g.holds }) calls number
 
-  go_carries : Carries Stay
+  go_carries : IsActionInvariant Stay
   go_carries = record {
     joined = λ s t u first second g. second (first g);
     beside = λ s t book held links shut. left s t (ap (λ b. b.calls) book) held;
@@ -99,7 +99,7 @@ module _ (laws : CallLaws) where
     closed = λ why number s by. into s _ refl (acted_both (call.closed_by why s.book.moment) (λ z g. record { goes = laws.closed why s.book.moment z by g.goes; holds = arm.closed why s.book.moment z g.holds }) s.book.ledger _ s.book.calls number);
     sent = λ message number s. into s _ refl (acted_both (call.sent message s.book.moment) (λ z g. record { goes = laws.sent message s.book.moment z g.goes; holds = arm.sent message s.book.moment z g.holds }) s.book.ledger _ s.book.calls number);
     made = λ number s. into s _ refl (acted_both (call.made_due s.book.moment) (λ z g. record { goes = laws.made s.book.moment z g.goes; holds = arm.made s.book.moment z g.holds }) s.book.ledger _ s.book.calls number);
-    heard = λ row told number s fair. into s _ refl (acted_both (call.heard_news row told s.book.moment (next_word s)) (λ z g. record { goes = laws.heard row told s.book.moment (next_word s) z g.goes; holds = arm.heard row told s.book.moment (next_word s) z g.holds }) s.book.ledger _ s.book.calls number);
+    handled = λ row reported number s fair. into s _ refl (acted_both (call.received_news row reported s.book.moment (next_word s)) (λ z g. record { goes = laws.handled row reported s.book.moment (next_word s) z g.goes; holds = arm.handled row reported s.book.moment (next_word s) z g.holds }) s.book.ledger _ s.book.calls number);
     failed = λ row number s. into s _ refl (acted_both (call.pick_failed row s.book.moment (next_word s)) (λ z g. record { goes = laws.failed row s.book.moment (next_word s) z g.goes; holds = arm.failed row s.book.moment (next_word s) z g.holds }) s.book.ledger _ s.book.calls number);
     placed = λ row at number s entry moment. into s _ refl (placed_both row at s.book.ledger s.book.calls number entry);
     finished = λ number s. into s _ refl (all_changed Both call.finished (λ c g. both (call.finished c) (laws.same c _ (laws.finished c) g.goes) (arm.finished c g.holds)) s.book.calls number);
@@ -117,7 +117,7 @@ module _ (laws : CallLaws) where
   }
 
   -- and of what comes of no event
-  pub stay_rests : Rests Stay
+  pub stay_rests : IsQuietActionInvariant Stay
   stay_rests = record {
     joined = go_carries.joined;
     beside = go_carries.beside;

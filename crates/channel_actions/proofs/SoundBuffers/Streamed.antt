@@ -4,7 +4,7 @@ use Rattle.std.proofs.lemmas.Option.{slice_get-map}
 use Rattle.std.specs.Option.{option_map}
 use Rattle.attempt_buffer.proofs.LeftLaws.{IsAlone}
 use Rattle.attempt_buffer.specs.Buffers.{Buffered, Committed}
-use Rattle.call_actions.specs.Order.{AreNumbered}
+use Rattle.call_actions.specs.Order.{AttemptsAreNumbered}
 use Rattle.channel_actions.proofs.Drains.Calls.Feeds.{fed_all_so}
 use Rattle.channel_actions.proofs.Drains.Calls.Streamed.{streamed_is}
 use Rattle.channel_actions.proofs.SoundBuffers.Holds.{holds_now}
@@ -26,7 +26,7 @@ alone_for : (b : Buffered) → ((m : Committed) → b.committed ≡ Some m → b
 alone_for b alone None e = tt
 alone_for b alone (Some m) e = λ goes. alone m e
 
-module _ (s : Seen) (c : Call) (b : Buffered) (own : ℕ → Bool) (feeds : List (ℕ × ℕ)) (places : AreNumbered 1 s.attempts) (old : Holds s c b) (sound : IsSoundIn s c b)
+module _ (s : Seen) (c : Call) (b : Buffered) (own : ℕ → Bool) (feeds : List (ℕ × ℕ)) (places : AttemptsAreNumbered 1 s.attempts) (old : Holds s c b) (sound : IsSoundIn s c b)
     (g : ℕ → Option ℕ) (ls : List Link) (current : Option OpenEntry) where
   abbrev u : Seen
   u = restreamed g ls current s

@@ -102,7 +102,7 @@ later_of s i a kept got e =
       index = r.0;
       later = b;
       here = r.1.1;
-      behind = before i r.0 a.place b.place p q (less_of a.place b.place parts.1);
+      afterwards = before i r.0 a.place b.place p q (less_of a.place b.place parts.1);
       same = (sym (eqb-true b.row.call a.row.call both.0), sym (eqb-true b.row.number a.row.number both.1));
     }
   where

@@ -220,7 +220,7 @@ module _ (setup : Setup) (actions : List Action) (s : Seen) (does : Does actions
 
   -- one with a later one of its number
   again_of : (i j : ℕ) (a b : Attempt) → slice_get s.attempts i ≡ Some a → slice_get s.attempts j ≡ Some b → i < j → SameNumber a b → HasLater s.attempts i a
-  again_of i j a b first second less same = record { index = j; later = b; here = second; behind = less; same = same }
+  again_of i j a b first second less same = record { index = j; later = b; here = second; afterwards = less; same = same }
 
   is_later : (i : ℕ) (a : Attempt) → slice_get s.attempts i ≡ Some a → HasLater s.attempts i a → is_followed a s ≡ true
   is_later i a got l = followed_by s both.0 i a got l

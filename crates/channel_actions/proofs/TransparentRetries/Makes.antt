@@ -85,8 +85,8 @@ module _ (s : Seen) (kept : IsKept s) where
   place_of : (i : ℕ) (a : Attempt) → slice_get s.attempts i ≡ Some a → a.place ≡ suc i
   place_of i a got = counted_places (λ (z : Attempt). z.place) s.attempts kept.attempts (suc i) a got
 
-  is_behind : (i j : ℕ) (a b : Attempt) → slice_get s.attempts i ≡ Some a → slice_get s.attempts j ≡ Some b → i < j → SameNumber a b → is_later_of a b ≡ true
-  is_behind i j a b first second less same =
+  comes_after : (i j : ℕ) (a b : Attempt) → slice_get s.attempts i ≡ Some a → slice_get s.attempts j ≡ Some b → i < j → SameNumber a b → is_later_of a b ≡ true
+  comes_after i j a b first second less same =
       let p : a.place ≡ suc i = place_of i a first in
       let r : b.place ≡ suc j = place_of j b second in
       let before : a.place < b.place = omega (arith, p, r, less) in
@@ -95,14 +95,14 @@ module _ (s : Seen) (kept : IsKept s) where
       (less_is a.place b.place before)
 
   pub followed_by : (i : ℕ) (a : Attempt) → slice_get s.attempts i ≡ Some a → HasLater s.attempts i a → is_followed a s ≡ true
-  followed_by i a got l = any_at (is_later_of a) s.attempts l.index l.later l.here (is_behind i l.index a l.later got l.here l.behind l.same)
+  followed_by i a got l = any_at (is_later_of a) s.attempts l.index l.later l.here (comes_after i l.index a l.later got l.here l.afterwards l.same)
 
 -- a transparent retry
 module _ (s : Seen) (kept : IsKept s) (h : Retried s) (w : ℕ) (q : Attempt) (there : slice_get s.attempts w ≡ Some q) (e : RowEnd) (ended : q.row.ended ≡ Some e)
     (free : is_followed q s ≡ false) (c : Call) (its : call_of q s ≡ Some c) (may : is_to_follow c e.cause e.unseen s ≡ true) where
-  none_behind : (j : ℕ) (b : Attempt) → slice_get s.attempts j ≡ Some b → w < j → SameNumber q b → ⊥
-  none_behind j b got less same =
-      let yes_ : is_followed q s ≡ true = followed_by s kept w q there (record { index = j; later = b; here = got; behind = less; same = same }) in
+  none_afterwards : (j : ℕ) (b : Attempt) → slice_get s.attempts j ≡ Some b → w < j → SameNumber q b → ⊥
+  none_afterwards j b got less same =
+      let yes_ : is_followed q s ≡ true = followed_by s kept w q there (record { index = j; later = b; here = got; afterwards = less; same = same }) in
       let no : false ≡ true = sym free ∙ yes_ in (cc)
 
   -- so one of its number is before it, or is it
@@ -110,9 +110,9 @@ module _ (s : Seen) (kept : IsKept s) (h : Retried s) (w : ℕ) (q : Attempt) (t
   Stands i a = HasLater s.attempts i a ⊎ ((i ≡ w) × (a ≡ q))
 
   stands_by : (i : ℕ) (a : Attempt) → slice_get s.attempts i ≡ Some a → SameNumber a q → Which i w → Stands i a
-  stands_by i a got same (inl less) = inl (record { index = w; later = q; here = there; behind = less; same = same })
+  stands_by i a got same (inl less) = inl (record { index = w; later = q; here = there; afterwards = less; same = same })
   stands_by i a got same (inr (inl here)) = inr (here, one_some a q (sym got ∙ (ap (slice_get s.attempts) here ∙ there)))
-  stands_by i a got same (inr (inr less)) = absurd (none_behind i a got less (sym same.0, sym same.1))
+  stands_by i a got same (inr (inr less)) = absurd (none_afterwards i a got less (sym same.0, sym same.1))
 
   q_again : holds is_again q.row.ended ≡ true
   q_again =

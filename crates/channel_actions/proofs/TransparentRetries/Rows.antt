@@ -27,7 +27,7 @@ pub record HasLater (xs : List Attempt) (i : ℕ) (a : Attempt) : Type 0 where
   pub index : ℕ
   pub later : Attempt
   pub here : slice_get xs index ≡ Some later
-  pub behind : i < index
+  pub afterwards : i < index
   pub same : SameNumber a later
 
 -- its end may be followed by one
@@ -135,7 +135,7 @@ module _ (links : List Link) (xs ys : List Attempt) (moves : AllMove links xs ys
         index = l.index;
         later = q.0;
         here = q.1;
-        behind = l.behind;
+        afterwards = l.afterwards;
         same = (sym m.call ∙ l.same.0 ∙ q.2.call, sym m.number ∙ l.same.1 ∙ q.2.number);
       }
 
@@ -149,12 +149,12 @@ module _ (links : List Link) (xs ys : List Attempt) (moves : AllMove links xs ys
       → was_unsent a ≡ true → a.row.placed ≡ Some at → b.row.placed ≡ Some to → at.link ≡ to.link → (y.row.placed ≡ Some to) ⊎ (is_taking links to.link ≡ true) → ⊥
   apart_by i j a b x y at to first second m n less same unsent on off link (inl was) =
       let number : SameNumber x y = (sym m.call ∙ same.0 ∙ n.call, sym m.number ∙ same.1 ∙ n.number) in
-      let l : HasLater xs i x = record { index = j; later = y; here = second; behind = less; same = number } in
+      let l : HasLater xs i x = record { index = j; later = y; here = second; afterwards = less; same = number } in
       let stays : (a.row.ended ≡ x.row.ended) × (a.row.placed ≡ x.row.placed) = same_end i x a first m l in
       h.apart i j x y at to first second less number (was_so (λ e. is_unsent e.cause) x a stays.0 unsent) (sym stays.1 ∙ on) was link
   apart_by i j a b x y at to first second m n less same unsent on off link (inr takes) =
       let number : SameNumber x y = (sym m.call ∙ same.0 ∙ n.call, sym m.number ∙ same.1 ∙ n.number) in
-      let l : HasLater xs i x = record { index = j; later = y; here = second; behind = less; same = number } in
+      let l : HasLater xs i x = record { index = j; later = y; here = second; afterwards = less; same = number } in
       let stays : (a.row.ended ≡ x.row.ended) × (a.row.placed ≡ x.row.placed) = same_end i x a first m l in
       let was : IsUnsentOn links x.row.stream x.row.placed = h.unsent i x first (was_so (λ e. is_unsent e.cause) x a stays.0 unsent) in
       let closed : is_closed links at.link ≡ true = sym (ap (holds (λ (p : Placed). is_closed links p.link)) (sym stays.1 ∙ on)) ∙ was.1 in
@@ -247,17 +247,17 @@ module _ (links : List Link) (xs : List Attempt) (b : Attempt) (n : IsNextRow xs
   within i a (inr e) = let same : i ≡ length xs = e.0 in omega (arith, same)
 
   later_by : (i : ℕ) (a : Attempt) (l : HasLater ys i a) → Old l.index l.later → HasLater xs i a ⊎ SameNumber a b
-  later_by i a l (inl e) = inl (record { index = l.index; later = l.later; here = e; behind = l.behind; same = l.same })
+  later_by i a l (inl e) = inl (record { index = l.index; later = l.later; here = e; afterwards = l.afterwards; same = l.same })
   later_by i a l (inr e) = inr (subst (λ (z : Attempt). SameNumber a z) (sym e.1) l.same)
 
   later_old : (i : ℕ) (a : Attempt) → HasLater ys i a → HasLater xs i a ⊎ SameNumber a b
   later_old i a l = later_by i a l (past xs b l.later l.index l.here)
 
-  -- nothing comes behind it
+  -- nothing comes after it
   is_last : (a : Attempt) → (i : ℕ) → i ≡ length xs → HasLater ys i a → ⊥
   is_last a i here l =
       let most : l.index ≤ length xs = within l.index l.later (past xs b l.later l.index l.here) in
-      let less : i < l.index = l.behind in omega (arith, most, less, here)
+      let less : i < l.index = l.afterwards in omega (arith, most, less, here)
 
   ended_by : (i : ℕ) (a : Attempt) → Old i a → HasLater ys i a → holds is_again a.row.ended ≡ true
   ended_by i a (inl e) l =

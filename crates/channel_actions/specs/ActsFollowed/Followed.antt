@@ -75,9 +75,9 @@ followed_by_end why number x slot stamped = record x {
   links = all_closed slot.call.live (all_given_up slot.call.live x.links);
   outstanding = all_out_gone slot.call.live x.outstanding;
   queue = all_queue_gone number slot.call.live x.queue;
-  patient = all_queue_gone number slot.call.live x.patient;
+  ready_waiters = all_queue_gone number slot.call.live x.ready_waiters;
   dues = timer_moved number slot.due None x.dues;
   deadlines = timer_moved number slot.deadline None x.deadlines;
-  bare = remove_key (is_same (0, number)) x.bare;
-  impatient = remove_key (is_same (0, number)) x.impatient;
+  awaiting_config = remove_key (is_same (0, number)) x.awaiting_config;
+  fail_fast = remove_key (is_same (0, number)) x.fail_fast;
 }

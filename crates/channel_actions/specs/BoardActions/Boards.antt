@@ -23,9 +23,9 @@ is_of_board (action.SettingsArrive sub) = true
 is_of_board (action.LinkDown sub) = true
 is_of_board _ = false
 
-abbrev pub AreOfBoard : List Action → Type 0
-AreOfBoard [] = Unit {0}
-AreOfBoard (a ∷ actions) = (is_of_board a ≡ true) × AreOfBoard actions
+abbrev pub ActionsAreOfBoard : List Action → Type 0
+ActionsAreOfBoard [] = Unit {0}
+ActionsAreOfBoard (a ∷ actions) = (is_of_board a ≡ true) × ActionsAreOfBoard actions
 
 -- of the one history all but the open entry, policies, subchannels, links and the wish for a resolution, and these of the other
 abbrev pub boarded : Seen → Seen → Seen

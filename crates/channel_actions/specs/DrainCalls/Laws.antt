@@ -5,9 +5,9 @@
 use Rattle.std.specs.Option.{option_map}
 use Rattle.std.specs.Prelude.{Bool, IfSome, List, Some, [], drop, false, if◌then◌else◌, length, slice_get, true, ℕ, ◌∷◌, ◌≡◌, ◌≤◌}
 use Rattle.attempt_buffer.specs.Buffers.{Buffered, Committed, left_of, taken_by, text_of}
-use Rattle.call_actions.specs.Order.{AreNumbered}
+use Rattle.call_actions.specs.Order.{AttemptsAreNumbered}
 use Rattle.call_core.specs.Parts.{fed_buffer}
-use Rattle.channel_actions.specs.DrainWrites.Laws.{AreRows}
+use Rattle.channel_actions.specs.DrainWrites.Laws.{RowsAgree}
 use Rattle.grpc_frame.specs.Messages.{framed_all}
 use Rattle.session_actions.specs.Attempts.{commitment, is_of, is_outstanding}
 use Rattle.session_actions.specs.Writing.{drained}
@@ -37,12 +37,12 @@ fed_some own (f ∷ feeds) b = fed_some own feeds (if own f.0 then fed_buffer f.
 -- nothing happened but that attempts have streams and that something passed on links
 pub record IsOnlyStreamed (s t : Seen) : Type 0 where
   pub is : t ≡ record s { attempts = t.attempts; links = t.links; current = t.current }
-  pub rows : AreRows s.attempts t.attempts
+  pub rows : RowsAgree s.attempts t.attempts
 
 -- what is left of each attempt that goes on is what the session has, and of the others nothing was written: then the buffer holds what the session has
 abbrev pub FeedsHold : Type 0
 FeedsHold =
-    (s t : Seen) (c : Call) (b : Buffered) (own : ℕ → Bool) (feeds : List (ℕ × ℕ)) → AreNumbered 1 s.attempts → IsOnlyStreamed s t → Holds s c b → IsSoundBuffer s c b
+    (s t : Seen) (c : Call) (b : Buffered) (own : ℕ → Bool) (feeds : List (ℕ × ℕ)) → AttemptsAreNumbered 1 s.attempts → IsOnlyStreamed s t → Holds s c b → IsSoundBuffer s c b
     → ((i : ℕ) (a : Attempt) → slice_get t.attempts i ≡ Some a → is_of c a ≡ true → is_outstanding a ≡ true → IsLeftAt t c (fed_some own feeds b) a)
     → ((i : ℕ) (a z : Attempt) → slice_get s.attempts i ≡ Some a → slice_get t.attempts i ≡ Some z → is_outstanding a ≡ false → drained z t ≡ drained a s)
     → Holds t c (fed_some own feeds b)

@@ -16,15 +16,15 @@ use Rattle.session_actions.specs.Configs.{deadline}
 use Rattle.session_actions.specs.Entries.{now}
 use Rattle.session_actions.specs.declared.link.Link.{Link}
 use Rattle.session_actions.specs.declared.seen.Seen.{Seen}
-use Rattle.session_order.specs.Calm.{NoneIs, is_to_cut}
+use Rattle.session_order.specs.Quiescent.{NoneIs, is_to_cut}
 use Rattle.link_actions.specs.StreamActions.Sees.{SeesStreams}
 
 -- no deadline is further ahead than the longest duration. (Requests and configs name no longer timeout.)
-abbrev pub AreNear : Seen → Type 0
-AreNear s = list_all (λ c. option_map_or (λ t. nat_le t (now s + duration_limit)) (deadline c s) true) s.calls ≡ true
+abbrev pub DeadlinesAreClose : Seen → Type 0
+DeadlinesAreClose s = list_all (λ c. option_map_or (λ t. nat_le t (now s + duration_limit)) (deadline c s) true) s.calls ≡ true
 
 -- where nothing is to be cut off, and no deadline has come
 abbrev pub LinesAreLent : Type 0
 LinesAreLent =
-    (x : StateSeen) (s : Seen) (l : Link) (w : Wire) (g : ℕ → Line) → Agrees x s → NoneIs (is_to_cut s) s.attempts → next_deadline s ≡ None → AreNear s
+    (x : StateSeen) (s : Seen) (l : Link) (w : Wire) (g : ℕ → Line) → Agrees x s → NoneIs (is_to_cut s) s.attempts → next_deadline s ≡ None → DeadlinesAreClose s
     → SeesStreams l s w g → SeesStreams l s w (lines_of x.book)

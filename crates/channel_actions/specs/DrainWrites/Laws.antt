@@ -24,17 +24,17 @@ use Rattle.session_actions.specs.declared.link.Link.{Link}
 use Rattle.session_actions.specs.declared.link.Sent.{Sent}
 use Rattle.session_actions.specs.declared.link.Traffic.TheVariants as traffic
 use Rattle.session_actions.specs.declared.seen.Seen.{Seen}
-use Rattle.session_order.specs.Calm.{IsCalm}
+use Rattle.session_order.specs.Quiescent.{IsQuiescent}
 use Rattle.link_actions.specs.StreamActions.Sees.{SeesStreams}
 
 -- an attempt, but for its stream; and all of them
 abbrev pub IsRow : Attempt → Attempt → Type 0
 IsRow a b = b ≡ record a { row = record a.row { stream = b.row.stream } }
 
-abbrev pub AreRows : List Attempt → List Attempt → Type 0
-AreRows [] [] = Unit {0}
-AreRows (a ∷ as_) (b ∷ bs) = IsRow a b × AreRows as_ bs
-AreRows _ _ = ⊥
+abbrev pub RowsAgree : List Attempt → List Attempt → Type 0
+RowsAgree [] [] = Unit {0}
+RowsAgree (a ∷ as_) (b ∷ bs) = IsRow a b × RowsAgree as_ bs
+RowsAgree _ _ = ⊥
 
 -- a link on which these were written, one after the other
 abbrev pub with_all_sent : List Sent → Link → Link
@@ -47,16 +47,16 @@ pub record IsDraining (o : OpenEntry) (s : Seen) (link most : ℕ) (given : List
   pub event_is : o.event ≡ event.Drain link most
   pub stage_is : o.stage ≡ stage.Replied
   pub reply_is : o.reply ≡ Some (reply.Octets given)
-  pub calm : IsCalm o s
+  pub quiescent : IsQuiescent o s
 
 -- attempts of these places get these streams, one after the other; and none of them had one
 abbrev pub given_in : List (ℕ × ℕ) → List Attempt → List Attempt
 given_in [] as_ = as_
 given_in (o ∷ opened) as_ = given_in opened (changed (with_stream o.1) o.0 as_)
 
-abbrev pub AreWaiting : List (ℕ × ℕ) → List Attempt → Type 0
-AreWaiting [] as_ = Unit {0}
-AreWaiting (o ∷ opened) as_ = ((b : Attempt) → numbered as_ o.0 ≡ Some b → b.row.stream ≡ None) × AreWaiting opened (changed (with_stream o.1) o.0 as_)
+abbrev pub OpenedRowsWait : List (ℕ × ℕ) → List Attempt → Type 0
+OpenedRowsWait [] as_ = Unit {0}
+OpenedRowsWait (o ∷ opened) as_ = ((b : Attempt) → numbered as_ o.0 ≡ Some b → b.row.stream ≡ None) × OpenedRowsWait opened (changed (with_stream o.1) o.0 as_)
 
 abbrev pub writing : ℕ → Sent → Action
 writing link x = action.FrameWritten link x
@@ -69,12 +69,12 @@ pub record IsDrainRun (l : Link) (s : Seen) (o : OpenEntry) (octets : List ℕ) 
   pub entry : OpenEntry
   pub entry_is : entry ≡ record o { reply = Some (reply.Octets octets) }
   pub is : seen ≡ record s { attempts = seen.attempts; links = changed (with_all_sent sent) l.number s.links; current = Some entry }
-  pub rows : AreRows s.attempts seen.attempts
+  pub rows : RowsAgree s.attempts seen.attempts
   pub given : seen.attempts ≡ given_in (opened_between w w2) s.attempts
-  pub fresh : AreWaiting (opened_between w w2) s.attempts
+  pub fresh : OpenedRowsWait (opened_between w w2) s.attempts
   pub streams : SeesStreams (with_all_sent sent l) seen w2 g2
   pub readers_are : SeesReaders (with_all_sent sent l) seen readers
-  pub calm : IsCalm entry seen
+  pub quiescent : IsQuiescent entry seen
   pub none : frame_action entry seen ≡ None
 
 -- (the numbers of streams do not end, which no session reaches)

@@ -8,7 +8,7 @@ use Rattle.std.specs.Prelude.{List, None, Some, true, ℕ, ◌≡◌}
 use Rattle.attempt_buffer.specs.Buffers.{text_of}
 use Rattle.call_actions.specs.TakeActions.Serves.{drained_so_far}
 use Rattle.channel_actions.specs.Agrees.{Agrees}
-use Rattle.channel_actions.specs.Calm.{IsAt}
+use Rattle.channel_actions.specs.Quiescent.{IsAt}
 use Rattle.channel_actions.specs.HeldTexts.Fits.{TextsFit}
 use Rattle.channel_core.specs.Applying.{AnswersBy, new_state, refusal_of}
 use Rattle.channel_core.specs.Books.{slot_at}

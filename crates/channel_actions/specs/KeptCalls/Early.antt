@@ -45,5 +45,5 @@ pub record IsEarlyKept (s : Seen) : Type 0 where
   -- no attempt is made of a call before it has its config
   pub made : list_all (λ a. holds is_past (call_of a s)) s.attempts ≡ true
   -- and nothing else happens to it
-  pub bare : list_all (λ c. is_past c || is_early c) s.calls ≡ true
+  pub awaiting_config : list_all (λ c. is_past c || is_early c) s.calls ≡ true
   pub boards : list_all is_linked_up s.subs ≡ true

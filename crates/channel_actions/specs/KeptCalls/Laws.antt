@@ -1,8 +1,8 @@
 -- What a session keeps of calls before their first attempt (`IsEarlyKept`) holds of a new one, and after each action that is next; so it does after every list of
--- actions. An open call without a config is bare then, as `call_actions` asks.
+-- actions. An open call without a config is without attempts then, as `call_actions` asks.
 -- Example: a call begins, and is given up before a config came. CallBegins, RequestFinished, CallEnds: until then it had no mark, and no attempt.
 use Rattle.std.specs.Prelude.{List, None, Some, ℕ, ◌≡◌}
-use Rattle.call_actions.specs.Laws.{IsBare}
+use Rattle.call_actions.specs.Laws.{IsUnconfigured}
 use Rattle.channel_actions.specs.KeptCalls.Early.{IsEarlyKept}
 use Rattle.channel_actions.specs.KeptSessions.Kept.{IsKept}
 use Rattle.session_actions.specs.Actions.{after}
@@ -27,12 +27,12 @@ EarlyStays = (s : Seen) (a : Action) → IsKept s → IsEarlyKept s → IsNext a
 abbrev pub EarlyAlong : Type 0
 EarlyAlong = (actions : List Action) (s t : Seen) → IsKept s → IsEarlyKept s → Does actions s t → IsEarlyKept t
 
--- so an open call without a config is bare
-abbrev pub CallsAreBare : Type 0
-CallsAreBare =
-    (s : Seen) (number : ℕ) (c : Call) → IsKept s → IsEarlyKept s → numbered s.calls number ≡ Some c → c.end ≡ None → c.config ≡ None → IsBare s c
+-- so an open call without a config is without attempts
+abbrev pub CallsAreUnconfigured : Type 0
+CallsAreUnconfigured =
+    (s : Seen) (number : ℕ) (c : Call) → IsKept s → IsEarlyKept s → numbered s.calls number ≡ Some c → c.end ≡ None → c.config ≡ None → IsUnconfigured s c
 
--- and the frame that a link shows next ends behind all that the ends of attempts saw of the link
+-- and the frame that a link shows next ends after all that the ends of attempts saw of the link
 abbrev pub FramesAreFresh : Type 0
 FramesAreFresh =
     (s : Seen) (link : ℕ) (r : ReadFrame) → IsKept s → IsEarlyKept s → next_frame_read link s ≡ Some (action.FrameRead link r)

@@ -22,9 +22,9 @@ use Rattle.session_actions.specs.declared.seen.Seen.{Seen}
 use Rattle.session_actions.specs.declared.subchannel.Subchannel.{Subchannel}
 
 -- numbers from one on
-abbrev pub AreCounted : ℕ → List ℕ → Type 0
-AreCounted n [] = Unit {0}
-AreCounted n (m ∷ ms) = (m ≡ n) × AreCounted (suc n) ms
+abbrev pub NumbersCountUp : ℕ → List ℕ → Type 0
+NumbersCountUp n [] = Unit {0}
+NumbersCountUp n (m ∷ ms) = (m ≡ n) × NumbersCountUp (suc n) ms
 
 -- a link came up (0 is the number of none)
 abbrev pub came_up : Seen → ℕ → Bool
@@ -49,11 +49,11 @@ is_sound_ask s ask =
     holds (λ a. not (is_unfollowed a && (ask.entry == entry s)) || has_link_for s.subs ask.answer) (numbered s.attempts ask.row)
 
 pub record IsKept (s : Seen) : Type 0 where
-  pub calls : AreCounted 1 (map (λ c. c.number) s.calls)
-  pub attempts : AreCounted 1 (map (λ a. a.place) s.attempts)
-  pub links : AreCounted 1 (map (λ l. l.number) s.links)
-  pub subs : AreCounted 1 (map (λ b. b.number) s.subs)
-  pub policies : AreCounted 1 (map (λ g. g.number) s.policies)
+  pub calls : NumbersCountUp 1 (map (λ c. c.number) s.calls)
+  pub attempts : NumbersCountUp 1 (map (λ a. a.place) s.attempts)
+  pub links : NumbersCountUp 1 (map (λ l. l.number) s.links)
+  pub subs : NumbersCountUp 1 (map (λ b. b.number) s.subs)
+  pub policies : NumbersCountUp 1 (map (λ g. g.number) s.policies)
   -- each attempt is of a call
   pub owned : list_all (λ a. is_some (call_of a s)) s.attempts ≡ true
   -- and each link of a subchannel

@@ -1,6 +1,6 @@
--- What a session did since, that some links cannot tell: on each of them the same passed, the same bytes came, and it owes the same; the attempts that are
+-- What a session did since, that some links cannot distinguish: on each of them the same passed, the same bytes came, and it owes the same; the attempts that are
 -- outstanding on it are the same, with the same streams; and of their calls no message was taken back, and the longest message that a response may have is the same.
--- Example: link 1 has attempt 1, and link 2 has attempt 2, which is cut off, and its stream is reset. Link 1 cannot tell: attempt 1 is as before.
+-- Example: link 1 has attempt 1, and link 2 has attempt 2, which is cut off, and its stream is reset. Link 1 cannot distinguish: attempt 1 is as before.
 use Rattle.std.specs.List.{AllByRecursion}
 use Rattle.std.specs.Prelude.{Bool, List, Some, [], false, true, ℕ, ◌&&◌, ◌==◌, ◌∷◌, ◌≡◌, ◌≤◌}
 use Rattle.session_actions.specs.Attempts.{call_of, is_outstanding}
@@ -49,12 +49,12 @@ pub record IsAlike (touched : Numbers) (s t : Seen) (a b : Attempt) : Type 0 whe
 abbrev pub IsElsewhere : Numbers → Attempt → Type 0
 IsElsewhere touched b = (link : ℕ) → touched link ≡ false → is_on link b ≡ false
 
-abbrev pub AreAlike : Numbers → Seen → Seen → List Attempt → List Attempt → Type 0
-AreAlike touched s t [] bs = AllByRecursion (IsElsewhere touched) bs
-AreAlike touched s t (a ∷ as_) (b ∷ bs) = IsAlike touched s t a b × AreAlike touched s t as_ bs
-AreAlike touched s t (a ∷ as_) [] = ⊥
+abbrev pub AttemptsAreAlike : Numbers → Seen → Seen → List Attempt → List Attempt → Type 0
+AttemptsAreAlike touched s t [] bs = AllByRecursion (IsElsewhere touched) bs
+AttemptsAreAlike touched s t (a ∷ as_) (b ∷ bs) = IsAlike touched s t a b × AttemptsAreAlike touched s t as_ bs
+AttemptsAreAlike touched s t (a ∷ as_) [] = ⊥
 
--- each link but those that are named was there, and cannot tell
-pub record CannotTell (touched : Numbers) (s t : Seen) : Type 0 where
+-- each link but those that are named was there, and cannot distinguish
+pub record CannotDistinguish (touched : Numbers) (s t : Seen) : Type 0 where
   pub links : (link : ℕ) (m : Link) → touched link ≡ false → numbered t.links link ≡ Some m → (l : Link) × (numbered s.links link ≡ Some l) × IsLinkStill l m
-  pub attempts : AreAlike touched s t s.attempts t.attempts
+  pub attempts : AttemptsAreAlike touched s t s.attempts t.attempts

@@ -40,6 +40,6 @@ abbrev pub bear_on : List Action → Seen → Numbers
 bear_on [] s link = false
 bear_on (a ∷ actions) s link = bears_on a s link || bear_on actions (after a s) link
 
-abbrev pub AreOrderly : List Action → Seen → Type 0
-AreOrderly [] s = Unit {0}
-AreOrderly (a ∷ actions) s = IsOrderly a s × AreOrderly actions (after a s)
+abbrev pub ActionsAreOrderly : List Action → Seen → Type 0
+ActionsAreOrderly [] s = Unit {0}
+ActionsAreOrderly (a ∷ actions) s = IsOrderly a s × ActionsAreOrderly actions (after a s)

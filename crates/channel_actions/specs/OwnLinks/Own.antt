@@ -6,5 +6,5 @@ use Rattle.session_actions.specs.declared.link.Link.{Link}
 use Rattle.session_actions.specs.declared.seen.Seen.{Seen}
 use Rattle.session_actions.specs.declared.subchannel.Subchannel.{Subchannel}
 
-abbrev pub AreOwnLinks : Seen → Type 0
-AreOwnLinks s = (n k : ℕ) (b : Subchannel) (l : Link) → numbered s.subs n ≡ Some b → b.link ≡ Some k → numbered s.links k ≡ Some l → l.sub ≡ n
+abbrev pub LinksAreOwn : Seen → Type 0
+LinksAreOwn s = (n k : ℕ) (b : Subchannel) (l : Link) → numbered s.subs n ≡ Some b → b.link ≡ Some k → numbered s.links k ≡ Some l → l.sub ≡ n

@@ -3,8 +3,8 @@
 -- Example: two attempts wait on link 1. HEADERS are written for the first, on stream 1, and then for the second, on stream 3.
 use Rattle.std.specs.Prelude.{Bool, List, Some, false, map, slice_get, ℕ, ◌&&◌, ◌==◌, ◌≡◌}
 use Rattle.channel_actions.specs.KeptSessions.Kept.{IsKept}
-use Rattle.channel_actions.specs.GreetedLinks.Greeted.{AreGreeted}
-use Rattle.channel_actions.specs.OwnStreams.Own.{AreOwnStreams}
+use Rattle.channel_actions.specs.PrefacedLinks.Prefaced.{LinksArePrefaced}
+use Rattle.channel_actions.specs.OwnStreams.Own.{StreamsAreOwn}
 use Rattle.session_actions.specs.Actions.{after}
 use Rattle.session_actions.specs.Attempts.{is_outstanding}
 use Rattle.session_actions.specs.Sessions.{Does, IsNext, new_session}
@@ -19,17 +19,17 @@ use Rattle.session_actions.specs.declared.seen.Seen.{Seen}
 use Rattle.session_actions.specs.declared.seen.Setup.{Setup}
 
 abbrev pub StreamsBegin : Type 0
-StreamsBegin = (setup : Setup) → AreOwnStreams (new_session setup)
+StreamsBegin = (setup : Setup) → StreamsAreOwn (new_session setup)
 
 abbrev pub StreamsStay : Type 0
-StreamsStay = (s : Seen) (a : Action) → IsKept s → AreGreeted s → AreOwnStreams s → IsNext a s → AreOwnStreams (after a s)
+StreamsStay = (s : Seen) (a : Action) → IsKept s → LinksArePrefaced s → StreamsAreOwn s → IsNext a s → StreamsAreOwn (after a s)
 
 abbrev pub StreamsAlong : Type 0
-StreamsAlong = (actions : List Action) (s t : Seen) → IsKept s → AreGreeted s → AreOwnStreams s → Does actions s t → AreOwnStreams t
+StreamsAlong = (actions : List Action) (s t : Seen) → IsKept s → LinksArePrefaced s → StreamsAreOwn s → Does actions s t → StreamsAreOwn t
 
 abbrev pub FramesAreSendable : Type 0
 FramesAreSendable =
-    (s : Seen) (link : ℕ) (x : Sent) (l : Link) → IsKept s → AreGreeted s → IsNext (action.FrameWritten link x) s → numbered s.links link ≡ Some l → sendable l s ≡ Some x
+    (s : Seen) (link : ℕ) (x : Sent) (l : Link) → IsKept s → LinksArePrefaced s → IsNext (action.FrameWritten link x) s → numbered s.links link ≡ Some l → sendable l s ≡ Some x
 
 -- so what is written on a link leaves what was written for every attempt that does not go on there
 abbrev pub goes_on_at : ℕ → Attempt → Bool
@@ -37,5 +37,5 @@ goes_on_at link a = is_outstanding a && holds (λ at. at.link == link) a.row.pla
 
 abbrev pub WritesLeaveOthers : Type 0
 WritesLeaveOthers =
-    (sent : List Sent) (link : ℕ) (s t : Seen) → IsKept s → AreGreeted s → AreOwnStreams s → Does (map (λ x. action.FrameWritten link x) sent) s t
+    (sent : List Sent) (link : ℕ) (s t : Seen) → IsKept s → LinksArePrefaced s → StreamsAreOwn s → Does (map (λ x. action.FrameWritten link x) sent) s t
     → (i : ℕ) (a : Attempt) → slice_get s.attempts i ≡ Some a → goes_on_at link a ≡ false → (slice_get t.attempts i ≡ Some a) × (drained a t ≡ drained a s)

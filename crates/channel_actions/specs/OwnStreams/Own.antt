@@ -18,11 +18,11 @@ abbrev pub is_opened : List Link → Attempt → Bool
 is_opened links a = option_map_or (λ n. holds (λ at. is_below_next links n at.link) a.row.placed) a.row.stream true
 
 -- two attempts that have one stream of one link are the same
-abbrev pub AreApart : List Attempt → Type 0
-AreApart attempts =
+abbrev pub StreamsAreApart : List Attempt → Type 0
+StreamsAreApart attempts =
     (i j n : ℕ) (a b : Attempt) (at to : Placed) → numbered attempts i ≡ Some a → numbered attempts j ≡ Some b → a.row.placed ≡ Some at → b.row.placed ≡ Some to
     → at.link ≡ to.link → a.row.stream ≡ Some n → b.row.stream ≡ Some n → i ≡ j
 
-pub record AreOwnStreams (s : Seen) : Type 0 where
+pub record StreamsAreOwn (s : Seen) : Type 0 where
   pub opened : list_all (is_opened s.links) s.attempts ≡ true
-  pub apart : AreApart s.attempts
+  pub apart : StreamsAreApart s.attempts

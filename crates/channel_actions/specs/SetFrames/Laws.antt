@@ -3,20 +3,20 @@
 use Rattle.std.specs.BTreeSet.{insert_key}
 use Rattle.std.specs.Prelude.{Bool, List, not, ℕ, ◌&&◌, ◌||◌, ◌≡◌}
 use Rattle.std.specs.Set.{remove_key}
-use Rattle.channel_actions.specs.Sets.{AreExactly}
+use Rattle.channel_actions.specs.Sets.{PairsAreExactly}
 use Rattle.picker_gate.specs.Pairs.{is_same, pair_cmp}
 
 abbrev pub PairsComeIn : Type 0
 PairsComeIn =
-    (pairs : List (ℕ × ℕ)) (test : ℕ → ℕ → Bool) (p : ℕ × ℕ) → AreExactly pairs test
-    → AreExactly (insert_key pair_cmp pairs p) (λ a b. is_same (a, b) p || test a b)
+    (pairs : List (ℕ × ℕ)) (test : ℕ → ℕ → Bool) (p : ℕ × ℕ) → PairsAreExactly pairs test
+    → PairsAreExactly (insert_key pair_cmp pairs p) (λ a b. is_same (a, b) p || test a b)
 
 abbrev pub PairsGo : Type 0
 PairsGo =
-    (pairs : List (ℕ × ℕ)) (test : ℕ → ℕ → Bool) (p : ℕ × ℕ) → AreExactly pairs test
-    → AreExactly (remove_key (is_same p) pairs) (λ a b. test a b && not (is_same p (a, b)))
+    (pairs : List (ℕ × ℕ)) (test : ℕ → ℕ → Bool) (p : ℕ × ℕ) → PairsAreExactly pairs test
+    → PairsAreExactly (remove_key (is_same p) pairs) (λ a b. test a b && not (is_same p (a, b)))
 
 -- what passes another test that holds of the same pairs
 abbrev pub TestsAreSame : Type 0
 TestsAreSame =
-    (pairs : List (ℕ × ℕ)) (test other : ℕ → ℕ → Bool) → AreExactly pairs test → ((a b : ℕ) → test a b ≡ other a b) → AreExactly pairs other
+    (pairs : List (ℕ × ℕ)) (test other : ℕ → ℕ → Bool) → PairsAreExactly pairs test → ((a b : ℕ) → test a b ≡ other a b) → PairsAreExactly pairs other

@@ -4,7 +4,7 @@
 use Rattle.std.specs.Global.{Global}
 use Rattle.std.specs.Prelude.{Bool, List, None, Option, Some, false, slice_get, true, ℕ, ◌≡◌}
 use Rattle.attempt_buffer.specs.Buffers.{Buffered}
-use Rattle.call_actions.specs.Order.{AreNumbered}
+use Rattle.call_actions.specs.Order.{AttemptsAreNumbered}
 use Rattle.call_actions.specs.TakeActions.Serves.{Holds}
 use Rattle.channel_actions.specs.Agrees.{Agrees}
 use Rattle.channel_actions.specs.DrainCalls.Laws.{IsLeftAt, IsOnlyStreamed, fed_some}
@@ -59,7 +59,7 @@ BuffersAreSoundIn =
 -- the commitment, also while that waits)
 abbrev pub SoundFeedsHold : Type 0
 SoundFeedsHold =
-    (s t : Seen) (c : Call) (b : Buffered) (own : ℕ → Bool) (feeds : List (ℕ × ℕ)) → AreNumbered 1 s.attempts → IsOnlyStreamed s t → Holds s c b → IsSoundIn s c b
+    (s t : Seen) (c : Call) (b : Buffered) (own : ℕ → Bool) (feeds : List (ℕ × ℕ)) → AttemptsAreNumbered 1 s.attempts → IsOnlyStreamed s t → Holds s c b → IsSoundIn s c b
     → ((i : ℕ) (a : Attempt) → slice_get t.attempts i ≡ Some a → is_of c a ≡ true → is_outstanding a ≡ true → IsLeftAt t c (fed_some own feeds b) a)
     → ((i : ℕ) (a z : Attempt) → slice_get s.attempts i ≡ Some a → slice_get t.attempts i ≡ Some z → is_outstanding a ≡ false → drained z t ≡ drained a s)
     → Holds t c (fed_some own feeds b)

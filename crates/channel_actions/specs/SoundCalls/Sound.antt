@@ -44,6 +44,6 @@ abbrev pub all_attempts : StateSeen → ℕ
 all_attempts x = length x.book.ledger.rows + to_come x.book.calls
 
 -- its calls, and the config that calls get
-pub record AreSoundCalls (x : StateSeen) : Type 0 where
+pub record CallsAreSound (x : StateSeen) : Type 0 where
   pub slots : (number : ℕ) (slot : CallSlot) → slot_at x.book number ≡ Some slot → IsSoundSlot (length x.book.ledger.rows) slot
   pub plans : AllowsPlans x.held

@@ -2,7 +2,7 @@
 -- as before in all that is due of its call.
 -- Example: HEADERS are written for attempt 1, which waited. It has stream 1 from then on; no call ends by that, no attempt does, and none is due.
 use Rattle.std.specs.Prelude.{None, Some, false, true, ℕ, slice_get, ◌==◌, ◌≡◌}
-use Rattle.call_actions.specs.Order.{AreNumbered}
+use Rattle.call_actions.specs.Order.{AttemptsAreNumbered}
 use Rattle.grpc_base.specs.declared.event.Event.TheVariants as event
 use Rattle.h2_frame.specs.Frames.{FrameSeen}
 use Rattle.h2_frame.specs.Numbers.{headers_type}
@@ -16,7 +16,7 @@ use Rattle.session_actions.specs.declared.link.Sent.{Sent}
 use Rattle.session_actions.specs.declared.link.Sent.TheVariants as sent
 use Rattle.session_actions.specs.declared.response.Response.{Response}
 use Rattle.session_actions.specs.declared.seen.Seen.{Seen}
-use Rattle.session_order.specs.Calm.{IsStill}
+use Rattle.session_order.specs.Quiescent.{IsStill}
 use Rattle.session_order.specs.declared.line.Line.{Line}
 
 -- nothing came yet
@@ -27,7 +27,7 @@ pub record IsBlank (p : Response) : Type 0 where
 
 -- what is asked: attempts have the numbers of their places, the link has its own, and on a stream that HEADERS open nothing came yet (RFC 9113, section 5.1.1)
 pub record CanWrite (l : Link) (x : Sent) (s : Seen) : Type 0 where
-  pub places : AreNumbered 1 s.attempts
+  pub places : AttemptsAreNumbered 1 s.attempts
   pub at : numbered s.links l.number ≡ Some l
   pub blank : (f : FrameSeen) (a : Attempt) → x ≡ sent.Frame f → (f.kind == headers_type) ≡ true → slice_get (waiting_on l s) 0 ≡ Some a
       → IsBlank (response_in (limit_of_attempt a s) f.stream l.traffic)

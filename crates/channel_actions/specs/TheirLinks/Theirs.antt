@@ -9,7 +9,7 @@ use Rattle.session_actions.specs.declared.seen.Seen.{Seen}
 use Rattle.session_actions.specs.declared.subchannel.Subchannel.{Subchannel}
 use Rattle.std.specs.Prelude.{None, Some, false, ℕ, ◌≡◌}
 
-abbrev pub AreTheirs : Seen → Type 0
-AreTheirs s =
+abbrev pub LinksAreTheirs : Seen → Type 0
+LinksAreTheirs s =
     (k : ℕ) (l : Link) (b : Subchannel) → numbered s.links k ≡ Some l → l.over ≡ None → is_retiring l ≡ false → numbered s.subs l.sub ≡ Some b
     → is_shutdown b.state ≡ false → b.link ≡ Some k

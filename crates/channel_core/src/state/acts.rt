@@ -34,8 +34,8 @@ impl<P: Balancer> State<P> {
             }
             CallAct::Queue(row) => self.queue_row(call, row),
             CallAct::End(_) => {
-                let _bare = self.bare.remove(0, u64::from(call));
-                let _impatient = self.impatient.remove(0, u64::from(call));
+                let _awaiting_config = self.awaiting_config.remove(0, u64::from(call));
+                let _fail_fast = self.fail_fast.remove(0, u64::from(call));
                 Ok(())
             }
         }
@@ -57,14 +57,14 @@ impl<P: Balancer> State<P> {
         ensures { self.new ≡ steps.unqueued call row self.old }
     {
         let _waited = self.queue.leave(call, row);
-        let _waited = self.patient.leave(call, row);
+        let _waited = self.ready_waiters.leave(call, row);
     }
 
     fn queue_row(&mut self, call: u32, row: u64) -> Result<(), NoMemory>
         ensures { OnOk result (self.new ≡ steps.queued call row self.old) }
     {
         if self.book.waits(call) {
-            self.patient.join(call, row)
+            self.ready_waiters.join(call, row)
         } else {
             self.queue.join(call, row)
         }

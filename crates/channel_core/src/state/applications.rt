@@ -21,9 +21,9 @@ impl<P: Balancer> State<P> {
     {
         let call = self.book.begin(request)?;
         let waits = request.wait() == Some(true);
-        self.bare.insert(0, u64::from(call))?;
+        self.awaiting_config.insert(0, u64::from(call))?;
         if !waits {
-            self.impatient.insert(0, u64::from(call))?;
+            self.fail_fast.insert(0, u64::from(call))?;
         }
         self.set_timers(call)?;
         Ok(Reply::Call { call })
@@ -52,7 +52,7 @@ impl<P: Balancer> State<P> {
     }
 }
 
-/// A longer message than may be is told as the end that such a message brings. None comes, since a link refuses it.
+/// A longer message than may be is reported as the end that such a message brings. None comes, since a link refuses it.
 pub fn within_limit(alloc: Global, reply: Reply) -> Reply
     ensures { result ≡ arrivals.within_limit reply }
 {

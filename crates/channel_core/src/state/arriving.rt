@@ -3,7 +3,7 @@ ghost use Rattle.std.specs.Prelude.{◌≡◌, ◌<◌, ◌≤◌, [], drop, len
 ghost use Rattle.std.specs.Option.{option_map};
 ghost use Rattle.channel_core.specs.Arrivals as arrivals;
 ghost use Rattle.channel_core.specs.Steps as steps;
-ghost use Rattle.channel_core.specs.Tables.{heard_in};
+ghost use Rattle.channel_core.specs.Tables.{received_in};
 
 use crate::state::State;
 use attempt_ledger::{EndNews, News, RowCause};
@@ -29,28 +29,28 @@ impl<P: Balancer> State<P> {
         Ok(Reply::Done)
     }
 
-    /// Applies the bytes up to the end of one frame, and tells how many these are; None where the link is dead.
+    /// Applies the bytes up to the end of one frame, and reports how many these are; None where the link is dead.
     fn frame_arrived(&mut self, link: u32, piece: &[u8]) -> Result<Option<usize>, NoMemory>
         requires { 0 < length piece.now }
-        ensures state { OnOk result (self.new ≡ arrivals.frame_heard_if link (heard_in link piece.now self.old.links) self.old) }
-        ensures taken { IfOk result (λ n. n ≡ option_map (λ h. h.taken) (heard_in link piece.now self.old.links)) }
+        ensures state { OnOk result (self.new ≡ arrivals.frame_received_if link (received_in link piece.now self.old.links) self.old) }
+        ensures taken { IfOk result (λ n. n ≡ option_map (λ h. h.taken) (received_in link piece.now self.old.links)) }
         ensures within { IfOk result (λ n. IfSome n (λ taken. (1 ≤ taken) × (taken ≤ length piece.now))) }
     {
         match self.links.arrived(link, piece)? {
             Some(arrival) => {
-                self.hear_frame(link, arrival.read, arrival.news)?;
+                self.receive_frame(link, arrival.read, arrival.news)?;
                 Ok(Some(arrival.taken))
             }
             None => Ok(None),
         }
     }
 
-    /// The news of one frame. The ledger is told how far the link is read before they are heard; ends are applied by the rows' places.
-    fn hear_frame(&mut self, link: u32, read: u64, news: Items<News>) -> Result<(), NoMemory>
-        ensures { OnOk result (self.new ≡ arrivals.heard link news (arrivals.read_to link read self.old)) }
+    /// The news of one frame. The ledger is given how far the link is read before they are handled; ends are applied by the rows' places.
+    fn receive_frame(&mut self, link: u32, read: u64, news: Items<News>) -> Result<(), NoMemory>
+        ensures { OnOk result (self.new ≡ arrivals.handled link news (arrivals.read_to link read self.old)) }
     {
         link_read(&mut self.book.ledger.links, link, read);
-        let ends = self.hear_all(link, news)?;
+        let ends = self.receive_all(link, news)?;
         self.end_all_on(link, ends)?;
         self.links.seal(link);
         self.seal();
@@ -58,14 +58,18 @@ impl<P: Balancer> State<P> {
     }
 
     /// All news but the ends, which it gives by the rows' places.
-    fn hear_all(&mut self, link: u32, news: Items<News>) -> Result<BTreeMap<u64, EndNews>, NoMemory>
-        ensures state { OnOk result (self.new ≡ arrivals.heard_all link news self.old) }
+    fn receive_all(
+        &mut self,
+        link: u32,
+        news: Items<News>,
+    ) -> Result<BTreeMap<u64, EndNews>, NoMemory>
+        ensures state { OnOk result (self.new ≡ arrivals.received_all link news self.old) }
         ensures ends { IfOk result (λ ends. ends.entries ≡ steps.ends_kept news []) }
     {
         let mut ends = BTreeMap::new(self.alloc);
         let mut rest = news.into_vec().into_iter();
         while let Some(one) = rest.next() {
-            self.hear_one(link, one, &mut ends)?;
+            self.receive_one(link, one, &mut ends)?;
         }
         Ok(ends)
     }
@@ -80,13 +84,13 @@ impl<P: Balancer> State<P> {
         Ok(())
     }
 
-    fn hear_one(
+    fn receive_one(
         &mut self,
         link: u32,
         news: News,
         ends: &mut BTreeMap<u64, EndNews>,
     ) -> Result<(), NoMemory>
-        ensures state { OnOk result (self.new ≡ arrivals.heard_one link news self.old) }
+        ensures state { OnOk result (self.new ≡ arrivals.received_one link news self.old) }
         ensures ends { OnOk result (ends.new.entries ≡ steps.end_kept news ends.old.entries) }
     {
         match news {
@@ -109,14 +113,14 @@ impl<P: Balancer> State<P> {
             }
             News::Head { tag, .. } | News::Message { tag, .. } | News::TooLarge { tag, .. } => {
                 let call = self.book.call_of_row(tag);
-                self.tell(call, tag, news)
+                self.report(call, tag, news)
             }
         }
     }
 
-    /// Tells a call what came for one of its attempts.
-    pub fn tell(&mut self, call: u32, row: u64, news: News) -> Result<(), NoMemory>
-        ensures { OnOk result (self.new ≡ steps.told_to call row news self.old) }
+    /// reports to a call what came for one of its attempts.
+    pub fn report(&mut self, call: u32, row: u64, news: News) -> Result<(), NoMemory>
+        ensures { OnOk result (self.new ≡ steps.reported_to call row news self.old) }
     {
         let word = self.next_word();
         let acts = self.book.news(call, row, news, word)?;
@@ -134,7 +138,7 @@ impl<P: Balancer> State<P> {
         }
         let _was = self.outstanding.leave(link, row);
         let call = self.book.call_of_row(row);
-        self.tell(call, row, News::Ended { tag: row, end })?;
+        self.report(call, row, News::Ended { tag: row, end })?;
         self.stamp_gone(link);
         Ok(())
     }
@@ -145,7 +149,7 @@ impl<P: Balancer> State<P> {
         ensures { OnOk result (self.new ≡ arrivals.lost link each self.old) }
     {
         let sub = self.sub_of(link);
-        self.links.bury(link);
+        self.links.mark_dead(link);
         self.net.down(sub, link);
         self.resolver.want();
         self.lose_rows(link, each)?;

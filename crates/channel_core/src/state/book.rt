@@ -194,8 +194,8 @@ impl Book {
         news: News,
         word: u64,
     ) -> Result<Items<CallAct>, NoMemory>
-        ensures book { OnOk result (self.new ≡ (book_acted (step.heard_news row news self.old.moment word) call self.old).book) }
-        ensures acts { IfOk result (λ acts. acts ≡ (book_acted (step.heard_news row news self.old.moment word) call self.old).acts) }
+        ensures book { OnOk result (self.new ≡ (book_acted (step.received_news row news self.old.moment word) call self.old).book) }
+        ensures acts { IfOk result (λ acts. acts ≡ (book_acted (step.received_news row news self.old.moment word) call self.old).acts) }
     {
         let Some(slot) = self.calls.get_mut(call) else {
             return Ok(Items::new(self.alloc));

@@ -9,7 +9,7 @@ use grpc_base::{NoMemory, Throttle};
 use std::alloc::Global;
 use std::marker::Model;
 
-/// The token buckets, one for each run of valid configs with equal throttling; None for a run without. Behind that of calls
+/// The token buckets, one for each run of valid configs with equal throttling; None for a run without. After that of calls
 /// without a configuration, which has no tokens.
 #[derive(Drop)]
 pub struct Buckets {

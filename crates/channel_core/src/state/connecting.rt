@@ -1,4 +1,4 @@
-// What the resolver and the dialers tell.
+// What the resolver and the dialers report.
 ghost use Rattle.std.specs.Prelude.{◌≡◌, IfOk, OnOk};
 ghost use Rattle.std.specs.Option.{option_copied};
 ghost use Rattle.grpc_base.specs.declared.event.Reply.TheVariants as reply;
@@ -34,7 +34,7 @@ impl<P: Balancer> State<P> {
         Ok(reply)
     }
 
-    /// Holds the config that was read, or tells its fault.
+    /// Holds the config that was read, or reports its fault.
     fn take_config(&mut self, read: Result<Config, ConfigFault>) -> Result<Reply, NoMemory>
         ensures state { OnOk result (self.new ≡ (applying.config_taken read self.old).state) }
         ensures reply { IfOk result (λ r. r ≡ (applying.config_taken read self.old).reply) }

@@ -3,7 +3,7 @@ ghost use Rattle.std.specs.Borrow.{sem};
 ghost use Rattle.std.specs.Option.{option_copied, option_copied_mut, option_map};
 ghost use Rattle.std.specs.Prelude.{◌≡◌, ◌<◌, ◌≤◌, ◌+◌, ◌++◌, ◌∷◌, ℕ, [], Some, min, true, length, IfOk, IfSome, OnOk, if◌then◌else◌};
 ghost use Rattle.channel_core.specs.Lending.{lends_link};
-ghost use Rattle.channel_core.specs.Tables.{DrainGives, SlotGives, arrival_at, arrival_of, buried_in, can_drain_at, fresh_link, heard_in, heard_link, hears_at, is_dead, is_retiring, links_heard, new_slot, numbered, pinged_in, placed_in, placed_link, reset_in, retired_in, sealed_in, takes_rows, takes_rows_at, with_link};
+ghost use Rattle.channel_core.specs.Tables.{DrainGives, SlotGives, arrival_at, arrival_of, marked_dead_in, can_drain_at, fresh_link, received_in, received_link, receives_at, is_dead, is_retiring, links_received, new_slot, numbered, pinged_in, placed_in, placed_link, reset_in, retired_in, sealed_in, takes_rows, takes_rows_at, with_link};
 
 use grpc_base::NoMemory;
 use grpc_base::error_code::CANCEL;
@@ -36,7 +36,7 @@ impl LinkSlot {
         requires { 0 < length piece.now }
         ensures arrival { IfOk result (λ a. a ≡ arrival_at piece.now (Some self.old)) }
         ensures within { IfOk result (λ a. IfSome a (λ a. (1 ≤ a.taken) × (a.taken ≤ length piece.now))) }
-        ensures after { OnOk result (self.new ≡ (if hears_at (Some self.old) then with_link (heard_link piece.now) self.old else self.old)) }
+        ensures after { OnOk result (self.new ≡ (if receives_at (Some self.old) then with_link (received_link piece.now) self.old else self.old)) }
     {
         if self.dead {
             return Ok(None);
@@ -139,8 +139,8 @@ impl LinkTable {
     }
 
     #[tactic(auto, using(crate::proofs::Places::put_changed, crate::proofs::Places::none_changed))]
-    pub fn bury(&mut self, link: u32)
-        ensures { self.new ≡ buried_in link self.old }
+    pub fn mark_dead(&mut self, link: u32)
+        ensures { self.new ≡ marked_dead_in link self.old }
     {
         if let Some(slot) = self.get_mut(link) {
             slot.dead = true;
@@ -201,9 +201,9 @@ impl LinkTable {
     /// Hands the link the next bytes, at least one; None where it is dead or broken, or there is none.
     pub fn arrived(&mut self, link: u32, piece: &[u8]) -> Result<Option<GrpcArrival>, NoMemory>
         requires { 0 < length piece.now }
-        ensures arrival { IfOk result (λ a. a ≡ option_map arrival_of (heard_in link piece.now self.old)) }
+        ensures arrival { IfOk result (λ a. a ≡ option_map arrival_of (received_in link piece.now self.old)) }
         ensures within { IfOk result (λ a. IfSome a (λ a. (1 ≤ a.taken) × (a.taken ≤ length piece.now))) }
-        ensures after { OnOk result (self.new ≡ links_heard self.old (heard_in link piece.now self.old)) }
+        ensures after { OnOk result (self.new ≡ links_received self.old (received_in link piece.now self.old)) }
     {
         match self.get_mut(link) {
             Some(slot) => slot.arrived(piece),

@@ -26,7 +26,7 @@ impl<P: Balancer> State<P> {
     {
         self.pass_limits()?;
         self.settle_net()?;
-        self.serve_bare()?;
+        self.serve_unconfigured()?;
         self.move_all(MOST)
     }
 
@@ -51,7 +51,7 @@ impl<P: Balancer> State<P> {
         let dead = self.net.clock(self.book.moment)?;
         let mut rest = dead.into_vec().into_iter();
         while let Some(link) = rest.next() {
-            self.links.bury(link);
+            self.links.mark_dead(link);
             self.resolver.want();
             self.stamp_gone(link);
         }
@@ -69,26 +69,26 @@ impl<P: Balancer> State<P> {
     }
 
     /// Calls without a configuration get one or end, by their numbers. Mostly there is none.
-    #[tactic(auto, using(crate::proofs::Idling::none_bare))]
-    fn serve_bare(&mut self) -> Result<(), NoMemory>
-        ensures { OnOk result (self.new ≡ steps.bare_served self.old) }
+    #[tactic(auto, using(crate::proofs::Idling::none_unconfigured))]
+    fn serve_unconfigured(&mut self) -> Result<(), NoMemory>
+        ensures { OnOk result (self.new ≡ steps.unconfigured_served self.old) }
     {
-        match (self.bare.next(), self.impatient.next()) {
+        match (self.awaiting_config.next(), self.fail_fast.next()) {
             (None, None) => Ok(()),
-            _ => self.serve_each_bare(),
+            _ => self.serve_each_unconfigured(),
         }
     }
 
-    #[tactic(auto, using(crate::proofs::Asking::all_unconfigured_by), unfolding(crate::specs::Steps::bare_served))]
-    fn serve_each_bare(&mut self) -> Result<(), NoMemory>
-        ensures { OnOk result (self.new ≡ steps.bare_served self.old) }
+    #[tactic(auto, using(crate::proofs::Asking::all_unconfigured_by), unfolding(crate::specs::Steps::unconfigured_served))]
+    fn serve_each_unconfigured(&mut self) -> Result<(), NoMemory>
+        ensures { OnOk result (self.new ≡ steps.unconfigured_served self.old) }
     {
         if self.held.is_some() {
-            let calls = take_due(self.alloc, &mut self.bare, 0)?;
-            self.impatient = Timers::new(self.alloc);
+            let calls = take_due(self.alloc, &mut self.awaiting_config, 0)?;
+            self.fail_fast = Timers::new(self.alloc);
             self.configure_all(calls)
         } else if self.unconfigured {
-            let calls = take_due(self.alloc, &mut self.impatient, 0)?;
+            let calls = take_due(self.alloc, &mut self.fail_fast, 0)?;
             self.act_on_all(calls, &CallEvent::Close(EndCause::NoConfig))?;
             Ok(())
         } else {
@@ -205,7 +205,7 @@ impl<P: Balancer> State<P> {
         match self.net.state() {
             Some(Conn::Ready) => first_pair(
                 self.queue.first_after(call, row),
-                self.patient.first_after(call, row),
+                self.ready_waiters.first_after(call, row),
             ),
             Some(Conn::Failure) => self.queue.first_after(call, row),
             Some(Conn::Idle | Conn::Connecting | Conn::Shutdown) | None => None,
@@ -277,13 +277,13 @@ impl<P: Balancer> State<P> {
         self.follow(call, acts)
     }
 
-    #[tactic(auto, using(crate::proofs::Asking::pick_told))]
+    #[tactic(auto, using(crate::proofs::Asking::pick_reported))]
     fn fail(&mut self, call: u32, row: u64) -> Result<(), NoMemory>
         ensures { OnOk result (self.new ≡ steps.pick_failed call row self.old) }
     {
         self.unqueue(call, row);
         let end = own_end(self.alloc, Code::Unavailable, RowCause::Pick, 0);
-        self.tell(call, row, News::Ended { tag: row, end })?;
+        self.report(call, row, News::Ended { tag: row, end })?;
         self.seal();
         Ok(())
     }

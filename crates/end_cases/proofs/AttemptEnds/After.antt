@@ -5,17 +5,17 @@ use Rattle.std.specs.Option.{option_map_or}
 use Rattle.attempt_ledger.specs.declared.ledger.CallEnd.{CallEnd}
 use Rattle.attempt_ledger.specs.declared.row.Placed.{Placed}
 use Rattle.attempt_ledger.specs.declared.row.RowEnd.{RowEnd}
-use Rattle.call_actions.proofs.Bare.{some_still}
+use Rattle.call_actions.proofs.Unconfigured.{some_still}
 use Rattle.call_actions.proofs.Places.{place_is}
 use Rattle.call_actions.proofs.Ranks.{find_last_map, numbered_map}
-use Rattle.call_actions.specs.Order.{AreNumbered}
+use Rattle.call_actions.specs.Order.{AttemptsAreNumbered}
 use Rattle.channel_actions.specs.Sets.{is_in_outstanding, is_waiting}
 use Rattle.end_cases.proofs.AttemptEnds.Base.{c, call_is, e, has, here, t}
 use Rattle.end_cases.specs.AttemptEnds.Ends.{EndNext}
 use Rattle.channel_core.specs.States.{StateSeen}
 use Rattle.link_actions.proofs.Ended.{changed_one, ended_seen, is_ended, noted_call}
 use Rattle.link_actions.proofs.Without.{at_place, changed_at}
-use Rattle.link_actions.specs.Sees.{ArePlaced}
+use Rattle.link_actions.specs.Sees.{AttemptsStandInPlace}
 use Rattle.session_actions.specs.AttemptEnds.{with_end, with_end_in_run}
 use Rattle.session_actions.specs.Attempts.{call_of, commitment, is_commitment, is_of, is_outstanding, is_over, is_over_in, is_queued}
 use Rattle.session_actions.specs.Entries.{entry, now}
@@ -31,9 +31,9 @@ use Rattle.session_actions.specs.declared.seen.Seen.{Seen}
 use Rattle.session_order.specs.declared.line.Line.{Line}
 
 -- places, in the words of calls and of links
-pub placed_from : (n : ℕ) (xs : List Attempt) → AreNumbered n xs → ArePlaced n xs
+pub placed_from : (n : ℕ) (xs : List Attempt) → AttemptsAreNumbered n xs → AttemptsStandInPlace n xs
 placed_from n [] p = tt
-placed_from n (q ∷ xs) p = (p.0, subst (λ (k : ℕ). ArePlaced k xs) (let up : suc n ≡ n + 1 = omega arith in up) (placed_from (suc n) xs p.1))
+placed_from n (q ∷ xs) p = (p.0, subst (λ (k : ℕ). AttemptsStandInPlace k xs) (let up : suc n ≡ n + 1 = omega arith in up) (placed_from (suc n) xs p.1))
 
 -- tests: placed, not ended, over; whether it is the one that ends
 pub out_by : (b : Bool) (z : RowEnd) (o : Option Placed) (p : Option RowEnd) → (is_some o && is_none (if b then Some z else p)) ≡ ((is_some o && is_none p) && not b)
@@ -76,10 +76,10 @@ module _ (later : List (ℕ × RowEnd)) (waits : Line → Bool) (also : List ℕ
   abbrev pub u : Seen
   u = ended_seen (is_some end.word) a.row.call a.place end runs s
 
-  pub numbers : AreNumbered 1 s.attempts
+  pub numbers : AttemptsAreNumbered 1 s.attempts
   numbers = (has later waits also a out x o s is).sees.order.places
 
-  pub places : ArePlaced 1 s.attempts
+  pub places : AttemptsStandInPlace 1 s.attempts
   places = placed_from 1 s.attempts numbers
 
   pub t_is : t later waits also a out x o s is ≡ u

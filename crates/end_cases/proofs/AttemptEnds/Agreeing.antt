@@ -45,7 +45,7 @@ use Rattle.end_cases.proofs.AttemptEnds.Buckets.{buckets_set}
 use Rattle.end_cases.proofs.AttemptEnds.GoesOn.{after, call, called, order, order_then, r_is, sees_then, then_, turn}
 use Rattle.end_cases.proofs.AttemptEnds.Own.{own_call}
 use Rattle.end_cases.proofs.AttemptEnds.Sets.{sets_then}
-use Rattle.end_cases.proofs.AttemptEnds.Told.{gone_form, slot_after, told_form, told_is}
+use Rattle.end_cases.proofs.AttemptEnds.Report.{gone_form, slot_after, reported_form, reported_is}
 use Rattle.call_cases.proofs.ConfiguredCalls.Lists.{changed_length, same_numbered, set_length}
 use Rattle.attempt_cases.proofs.DialEvents.Words.{draw_by}
 use Rattle.end_cases.specs.AttemptEnds.Ahead.{AgreesOffLinks, HasLinkAhead, LinksAhead, SetsAgree}
@@ -54,7 +54,7 @@ use Rattle.end_cases.specs.AttemptEnds.Laws.{GoesOnAfter}
 use Rattle.channel_core.proofs.Places.{put_there}
 use Rattle.channel_core.specs.Books.{drew_by, has_drawn}
 use Rattle.channel_core.specs.States.{StateSeen}
-use Rattle.channel_core.specs.Steps.{told, with_ledger_links}
+use Rattle.channel_core.specs.Steps.{reported, with_ledger_links}
 use Rattle.channel_core.specs.Tables.{tokens_in, with_tokens}
 use Rattle.channel_core.specs.Timing.{timer_moved}
 use Rattle.channel_core.specs.declared.state.slots.CallSlot.{CallSlot}
@@ -154,8 +154,8 @@ module _ (later : List (ℕ × RowEnd)) (waits : Line → Bool) (also : List ℕ
   }
 
   -- what is known of its attempts
-  calm : list_any (waits_to_follow s k) s.attempts ≡ false
-  calm =
+  quiescent : list_any (waits_to_follow s k) s.attempts ≡ false
+  quiescent =
       none_of (is_of k) (λ (q : Attempt). wants_follower q s) s.attempts
       (is.still line.Transparent refl (early_by (waits line.Transparent) (may_wait line.Transparent) (is.late line.Transparent) refl))
 
@@ -167,7 +167,7 @@ module _ (later : List (ℕ × RowEnd)) (waits : Line → Bool) (also : List ℕ
       (ap (λ (q : Option RowEnd). is_none q)
       (ending.unended s k (x2 later waits also a out x o s is) a.place a out (sees later waits also a out x o s is)
       (order later waits also a out x o s is case) (turn later waits also a out x o s is case) is.ending case.counting))
-      case.counting.alone (record { turn = turn later waits also a out x o s is case; calm = calm }))
+      case.counting.alone (record { turn = turn later waits also a out x o s is case; quiescent = quiescent }))
 
   turn_then : IsInTurn v dk
   turn_then =
@@ -177,7 +177,7 @@ module _ (later : List (ℕ × RowEnd)) (waits : Line → Bool) (also : List ℕ
 
   -- what the channel is
   abbrev pub y1 : StateSeen
-  y1 = told_form a.place n aft was (z later waits also a out x o s is)
+  y1 = reported_form a.place n aft was (z later waits also a out x o s is)
 
   abbrev p : Option Placed
   p = a.row.placed
@@ -188,16 +188,16 @@ module _ (later : List (ℕ × RowEnd)) (waits : Line → Bool) (also : List ℕ
   abbrev pub w : StateSeen
   w = with_ledger_links stamps y1
 
-  told_so : told a.place (news_of_link.Ended a.place (news later waits also a out x o s is)) (z later waits also a out x o s is) ≡ y1
-  told_so =
-      told_is a.place (news later waits also a out x o s is) n (z later waits also a out x o s is) was a.row (row_is later waits also a out x o s is) (call_is later waits also a out x o s is)
+  reported_so : reported a.place (news_of_link.Ended a.place (news later waits also a out x o s is)) (z later waits also a out x o s is) ≡ y1
+  reported_so =
+      reported_is a.place (news later waits also a out x o s is) n (z later waits also a out x o s is) was a.row (row_is later waits also a out x o s is) (call_is later waits also a out x o s is)
       (slot_there later waits also a out x o s is) (ap (λ (q : Stepped). q.acts) (r_is later waits also a out x o s is case))
-      ∙ ap (λ (q : Stepped). told_form a.place n q was (z later waits also a out x o s is)) (r_is later waits also a out x o s is case)
+      ∙ ap (λ (q : Stepped). reported_form a.place n q was (z later waits also a out x o s is)) (r_is later waits also a out x o s is case)
 
   pub ended_is : ended_in a (news later waits also a out x o s is) x ≡ w
   ended_is =
-      ap (λ (q : StateSeen). gone_with p (told a.place (news_of_link.Ended a.place (news later waits also a out x o s is)) q)) (off_is a.row.call a.place p x)
-      ∙ ap (gone_with p) told_so ∙ gone_form p y1
+      ap (λ (q : StateSeen). gone_with p (reported a.place (news_of_link.Ended a.place (news later waits also a out x o s is)) q)) (off_is a.row.call a.place p x)
+      ∙ ap (gone_with p) reported_so ∙ gone_form p y1
 
   -- the clock
   rows_now : numbered aft.ledger.rows a.place ≡ option_map (λ (q : Attempt). q.row) (numbered v.attempts a.place)
@@ -294,7 +294,7 @@ module _ (later : List (ℕ × RowEnd)) (waits : Line → Bool) (also : List ℕ
   abbrev its_sets : StateSeen
   its_sets = record x {
     queue = queue_off a.row.call a.place p x.queue;
-    patient = queue_off a.row.call a.place p x.patient;
+    ready_waiters = queue_off a.row.call a.place p x.ready_waiters;
     outstanding = out_off a.place p x.outstanding;
     dues = timer_moved n was.due own_slot.due x.dues;
     deadlines = timer_moved n was.deadline own_slot.deadline x.deadlines;
@@ -306,11 +306,11 @@ module _ (later : List (ℕ × RowEnd)) (waits : Line → Bool) (also : List ℕ
   pub sets_now : SetsAgree w v
   sets_now = record {
     queue = moved.queue;
-    patient = moved.patient;
+    ready_waiters = moved.ready_waiters;
     dues = moved.dues;
     deadlines = moved.deadlines;
-    bare = moved.bare;
-    impatient = moved.impatient;
+    awaiting_config = moved.awaiting_config;
+    fail_fast = moved.fail_fast;
     outstanding = moved.outstanding;
   }
 

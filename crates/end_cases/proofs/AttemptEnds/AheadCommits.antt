@@ -6,7 +6,7 @@ use Rattle.call_actions.proofs.Lists.{changed_here}
 use Rattle.call_actions.proofs.PlacedFrames.{none_bad}
 use Rattle.call_actions.proofs.Ranks.{filter_mapped, map_through, numbered_map}
 use Rattle.call_cases.proofs.EndsFollow.Codes.{response_by_limit}
-use Rattle.call_cases.proofs.LinkEnds.Behind.{of_readers, readers_of}
+use Rattle.call_cases.proofs.LinkEnds.After.{of_readers, readers_of}
 use Rattle.call_cases.proofs.LinkEnds.Resets.{relined}
 use Rattle.channel_actions.specs.Links.{lines_in}
 use Rattle.end_cases.proofs.AttemptEnds.AheadStays.{codes_with, limit_noted}
@@ -20,7 +20,7 @@ use Rattle.link_actions.specs.ResetActions.Ahead.{SeesAhead}
 use Rattle.link_actions.specs.ResponseActions.Laws.{IsSameResponse, ReadsAlike}
 use Rattle.link_actions.specs.StreamActions.Sees.{SeesStreams}
 use Rattle.link_actions.specs.ResponseActions.Readers.{attempt_on}
-use Rattle.link_actions.specs.Sees.{ArePlaced, by_stream, put_by_stream}
+use Rattle.link_actions.specs.Sees.{AttemptsStandInPlace, by_stream, put_by_stream}
 use Rattle.session_actions.specs.AttemptEnds.{reset_code_of}
 use Rattle.session_actions.specs.Attempts.{with_attempt}
 use Rattle.session_actions.specs.Calls.{marked}
@@ -55,7 +55,7 @@ module _ (f : Attempt → Attempt) (same : (q : Attempt) → stream_number (f q)
   by_stream_map [] = refl
   by_stream_map (a ∷ xs) = ap (put_by_stream (f a)) (by_stream_map xs) ∙ sym (put_map a (by_stream xs))
 
-module _ (u : Seen) (place : ℕ) (pa : Attempt) (there : numbered u.attempts place ≡ Some pa) (places : ArePlaced 1 u.attempts) where
+module _ (u : Seen) (place : ℕ) (pa : Attempt) (there : numbered u.attempts place ≡ Some pa) (places : AttemptsStandInPlace 1 u.attempts) where
   abbrev f : Attempt → Attempt
   f q = at_place (with_commitment (entry u)) place q
 

@@ -3,7 +3,7 @@ use Rattle.std.proofs.Common.{◌≡◌, ◌&&◌, ◌||◌, ◌==◌, ◌++◌,
 use Rattle.std.specs.Prelude.{option_and_then, unwrap_or}
 use Rattle.attempt_ledger.specs.declared.row.RowEnd.{RowEnd}
 use Rattle.call_cases.proofs.EndsFollow.Codes.{response_by_limit}
-use Rattle.call_cases.proofs.LinkEnds.Behind.{of_readers, readers_of}
+use Rattle.call_cases.proofs.LinkEnds.After.{of_readers, readers_of}
 use Rattle.call_cases.proofs.LinkEnds.Cutting.{filter_same}
 use Rattle.call_cases.proofs.LinkEnds.Ends.{readers_noted}
 use Rattle.call_cases.proofs.LinkEnds.Resets.{relined}

@@ -13,7 +13,7 @@ use Rattle.call_core.specs.Steps.{Stepped, ended_at}
 use Rattle.channel_actions.proofs.Stamps.{numbered_map}
 use Rattle.channel_actions.specs.Calls.{HasSlot, lent_to}
 use Rattle.channel_actions.specs.Clock.{DrawsAlike}
-use Rattle.end_cases.proofs.AttemptEnds.Told.{gone_form, lent_of, step_of}
+use Rattle.end_cases.proofs.AttemptEnds.Report.{gone_form, lent_of, step_of}
 use Rattle.attempt_cases.proofs.DialEvents.Words.{word_same}
 use Rattle.end_cases.specs.AttemptEnds.Ahead.{AgreesOffLinks}
 use Rattle.end_cases.specs.AttemptEnds.Ends.{EndNext, gone_with, taken_off}
@@ -46,7 +46,7 @@ abbrev pub off_form : ℕ → ℕ → Option Placed → StateSeen → StateSeen
 off_form call row p x = record x {
   outstanding = out_off row p x.outstanding;
   queue = queue_off call row p x.queue;
-  patient = queue_off call row p x.patient;
+  ready_waiters = queue_off call row p x.ready_waiters;
 }
 
 pub off_is : (call row : ℕ) (p : Option Placed) (x : StateSeen) → taken_off call row p x ≡ off_form call row p x

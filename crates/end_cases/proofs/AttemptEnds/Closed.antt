@@ -20,7 +20,7 @@ use Rattle.end_cases.proofs.AttemptEnds.After.{commitment_is, d, d_here, put, t_
 use Rattle.end_cases.proofs.AttemptEnds.Alone as alone_ends
 use Rattle.end_cases.proofs.AttemptEnds.Base.{c, e, news, sees, step_is, x2}
 use Rattle.end_cases.proofs.AttemptEnds.Closing as closing
-use Rattle.end_cases.proofs.AttemptEnds.Closing.{Between, Goes, Made, Steps, is_of_closing}
+use Rattle.end_cases.proofs.AttemptEnds.Closing.{Between, Continues, Made, Steps, is_of_closing}
 use Rattle.end_cases.proofs.AttemptEnds.Committed.{alone, counted_then, one_is}
 use Rattle.end_cases.proofs.AttemptEnds.EndLines as ends
 use Rattle.end_cases.proofs.AttemptEnds.OneEnded as first
@@ -41,7 +41,7 @@ use Rattle.session_actions.specs.declared.call.Call.{Call}
 use Rattle.session_actions.specs.declared.entry.OpenEntry.{OpenEntry}
 use Rattle.session_actions.specs.declared.response.Outcome.{Outcome}
 use Rattle.session_actions.specs.declared.seen.Seen.{Seen}
-use Rattle.session_order.specs.Calm.{IsStill}
+use Rattle.session_order.specs.Quiescent.{IsStill}
 use Rattle.session_order.specs.declared.line.Line.{Line}
 use Rattle.session_order.specs.declared.line.Line.TheVariants as line
 
@@ -115,7 +115,7 @@ module _ (later : List (ℕ × RowEnd)) (waits : Line → Bool) (also : List ℕ
 
   -- what the channel's call is
   abbrev before : Stepped
-  before = row_ended a.place (ending.its_end s k lent a.place a out seen order turn is.ending case.counting) (ending.told s k lent a.place a out seen order turn is.ending case.counting)
+  before = row_ended a.place (ending.its_end s k lent a.place a out seen order turn is.ending case.counting) (ending.reported s k lent a.place a out seen order turn is.ending case.counting)
 
   abbrev with_live : List LiveRow → Stepped
   with_live live = ended_as ending_cause.Row (now s) (record before { call = record before.call { live = live } })
@@ -131,7 +131,7 @@ module _ (later : List (ℕ × RowEnd)) (waits : Line → Bool) (also : List ℕ
       ending.counted_is s k lent a.place a out seen order turn is.ending case.counting
       ∙ ap (λ (q : Option ℕ). if is_some q then ended_as ending_cause.Row (now s) before
       else steps.counted_free (live_row a) (ending.its_end s k lent a.place a out seen order turn is.ending case.counting) (now s) (next_word s)
-      (ending.told s k lent a.place a out seen order turn is.ending case.counting))
+      (ending.reported s k lent a.place a out seen order turn is.ending case.counting))
       (sym seen.attempts.committed ∙ ap (option_map (λ (q : Attempt). q.place)) its)
       ∙ ap with_live none_live
 
@@ -181,7 +181,7 @@ module _ (later : List (ℕ × RowEnd)) (waits : Line → Bool) (also : List ℕ
   none_out : (i : ℕ) (q : Attempt) → slice_get v.attempts i ≡ Some q → (q.row.call == n) ≡ true → is_outstanding q ≡ false
   none_out i q at own = first.none_out later waits also a out x o s is none_else i q at own
 
-  goes : Goes later waits also a out x o s is case.counting b
+  goes : Continues later waits also a out x o s is case.counting b
   goes = record {
     does = refl;
     apart = tt;

@@ -31,15 +31,15 @@ use Rattle.channel_actions.specs.Columns.{SeesColumns}
 use Rattle.channel_actions.specs.Configs.{SeesBuckets, bucket_in, bucket_place}
 use Rattle.channel_actions.specs.KeptSessions.Kept.{IsKept}
 use Rattle.call_cases.specs.OtherCalls.Laws.{SetsApart}
-use Rattle.call_cases.specs.OtherCalls.Others.{AreOfCall, BooksApart, GoesApart, IsBooked}
+use Rattle.call_cases.specs.OtherCalls.Others.{ActionsAreOfCall, BooksApart, GoesApart, IsBooked}
 use Rattle.end_cases.proofs.AttemptEnds.After.{entry_is, runs}
 use Rattle.end_cases.proofs.AttemptEnds.Agreeing.{run_away}
 use Rattle.end_cases.proofs.AttemptEnds.Base.{books, c, call_is, e, has, here, moment_is, news, off_is, slot_there, x1}
 use Rattle.end_cases.proofs.AttemptEnds.Buckets.{buckets_set}
-use Rattle.end_cases.proofs.AttemptEnds.ClosedTimers.{bare_then, deadlines_then, dues_then, impatient_then}
+use Rattle.end_cases.proofs.AttemptEnds.ClosedTimers.{unconfigured_then, deadlines_then, dues_then, fail_fast_then}
 use Rattle.end_cases.proofs.AttemptEnds.Closing as closing
-use Rattle.end_cases.proofs.AttemptEnds.Closing.{Between, Follows, Goes, Made, Parts, Steps, placed_by}
-use Rattle.end_cases.proofs.AttemptEnds.Told.{gone_form, slot_after}
+use Rattle.end_cases.proofs.AttemptEnds.Closing.{Between, Follows, Continues, Made, Parts, Steps, placed_by}
+use Rattle.end_cases.proofs.AttemptEnds.Report.{gone_form, slot_after}
 use Rattle.call_cases.proofs.ConfiguredCalls.Lists.{changed_length, same_numbered, same_words, set_length}
 use Rattle.attempt_cases.proofs.DialEvents.Words.{draw_by}
 use Rattle.attempt_ledger.specs.declared.row.RowEnd.{RowEnd}
@@ -49,7 +49,7 @@ use Rattle.channel_core.proofs.BookLaws.{number_other}
 use Rattle.channel_core.proofs.Places.{put_there}
 use Rattle.channel_core.specs.Books.{drew_by, has_drawn}
 use Rattle.channel_core.specs.States.{StateSeen}
-use Rattle.channel_core.specs.Steps.{told, with_ledger_links}
+use Rattle.channel_core.specs.Steps.{reported, with_ledger_links}
 use Rattle.channel_core.specs.Tables.{tokens_in, with_tokens}
 use Rattle.channel_core.specs.declared.state.slots.CallSlot.{CallSlot}
 use Rattle.end_cases.specs.AttemptEnds.Left.{all_left}
@@ -74,12 +74,12 @@ use Rattle.session_actions.specs.declared.seen.Seen.{Seen}
 use Rattle.session_order.specs.declared.line.Line.{Line}
 
 -- actions of one call, one list after the other
-pub of_call_on : (number : ℕ) (these those : List Action) (s t : Seen) → Does these s t → AreOfCall number these s → AreOfCall number those t → AreOfCall number (these ++ those) s
-of_call_on number [] those s t does these_are those_are = subst (λ (q : Seen). AreOfCall number those q) does those_are
+pub of_call_on : (number : ℕ) (these those : List Action) (s t : Seen) → Does these s t → ActionsAreOfCall number these s → ActionsAreOfCall number those t → ActionsAreOfCall number (these ++ those) s
+of_call_on number [] those s t does these_are those_are = subst (λ (q : Seen). ActionsAreOfCall number those q) does those_are
 of_call_on number (a ∷ these) those s t does these_are those_are = (these_are.0, of_call_on number these those (after_action a s) t does.1 these_are.1 those_are)
 
 module _ (later : List (ℕ × RowEnd)) (waits : Line → Bool) (also : List ℕ) (a : Attempt) (out : Outcome) (x : StateSeen) (o : OpenEntry) (s : Seen) (is : EndNext later waits also a out x o s)
-    (counting : IsCounting s (c later waits also a out x o s is) out) (b : Between later waits also a out x o s is counting) (goes : Goes later waits also a out x o s is counting b) where
+    (counting : IsCounting s (c later waits also a out x o s is) out) (b : Between later waits also a out x o s is counting) (goes : Continues later waits also a out x o s is counting b) where
   abbrev call : Call
   call = c later waits also a out x o s is
 
@@ -126,14 +126,14 @@ module _ (later : List (ℕ × RowEnd)) (waits : Line → Bool) (also : List ℕ
   pub kept_mid : IsKept mid
   kept_mid = kept_along start s mid kept does_start
 
-  apart_start : AreOfCall m start s
+  apart_start : ActionsAreOfCall m start s
   apart_start = (
     record {
       acts = ap (λ (q : Option Attempt). option_map_or (λ (i : ℕ). i == m) (option_map (λ (g : Attempt). g.row.call) q) true) is.ending.there
           ∙ eq-eqb a.row.call m (call_is later waits also a out x o s is);
       passes = λ g at off. refl;
     },
-    subst (λ (q : Seen). AreOfCall m b.actions q) (sym (closing.after_is later waits also a out x o s is counting)) goes.apart,
+    subst (λ (q : Seen). ActionsAreOfCall m b.actions q) (sym (closing.after_is later waits also a out x o s is counting)) goes.apart,
   )
 
   pub apart_mid : GoesApart m s mid
@@ -175,7 +175,7 @@ module _ (later : List (ℕ × RowEnd)) (waits : Line → Bool) (also : List ℕ
 
       -- what the channel is
       abbrev y1 : StateSeen
-      y1 = closing.told_with later waits also a out x o s is counting made parts
+      y1 = closing.reported_with later waits also a out x o s is counting made parts
 
       abbrev stamps : List LinkSeen
       stamps = (gone_with a.row.placed y1).book.ledger.links
@@ -185,8 +185,8 @@ module _ (later : List (ℕ × RowEnd)) (waits : Line → Bool) (also : List ℕ
 
       pub ended_is : ended_in a (news later waits also a out x o s is) x ≡ y
       ended_is =
-          ap (λ (q : StateSeen). gone_with a.row.placed (told a.place (news_of_link.Ended a.place (news later waits also a out x o s is)) q)) (off_is a.row.call a.place a.row.placed x)
-          ∙ ap (gone_with a.row.placed) follows.told_is ∙ gone_form a.row.placed y1
+          ap (λ (q : StateSeen). gone_with a.row.placed (reported a.place (news_of_link.Ended a.place (news later waits also a out x o s is)) q)) (off_is a.row.call a.place a.row.placed x)
+          ∙ ap (gone_with a.row.placed) follows.reported_is ∙ gone_form a.row.placed y1
 
       -- the clock
       rows_now : numbered stepped.ledger.rows a.place ≡ option_map (λ (q : Attempt). q.row) (numbered then_.attempts a.place)
@@ -300,11 +300,11 @@ module _ (later : List (ℕ × RowEnd)) (waits : Line → Bool) (also : List ℕ
       sets_now : SetsAgree y then_
       sets_now = record {
         queue = follows.queue;
-        patient = follows.patient;
+        ready_waiters = follows.ready_waiters;
         dues = dues_then later waits also a out x o s is counting b goes others own_slot own.due;
         deadlines = deadlines_then later waits also a out x o s is counting b goes others own_slot own.deadline_is;
-        bare = bare_then later waits also a out x o s is counting b goes others;
-        impatient = impatient_then later waits also a out x o s is counting b goes others;
+        awaiting_config = unconfigured_then later waits also a out x o s is counting b goes others;
+        fail_fast = fail_fast_then later waits also a out x o s is counting b goes others;
         outstanding = follows.outs;
       }
 

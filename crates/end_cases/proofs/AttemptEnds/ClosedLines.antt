@@ -13,7 +13,7 @@ use Rattle.end_cases.proofs.AttemptEnds.Agreeing.{early_by}
 use Rattle.end_cases.proofs.AttemptEnds.Base.{books, c, news, x1}
 use Rattle.end_cases.proofs.AttemptEnds.ClosedAgree as agree
 use Rattle.end_cases.proofs.AttemptEnds.Closing as closing
-use Rattle.end_cases.proofs.AttemptEnds.Closing.{Between, Follows, Goes, Made, Parts, Steps}
+use Rattle.end_cases.proofs.AttemptEnds.Closing.{Between, Follows, Continues, Made, Parts, Steps}
 use Rattle.end_cases.proofs.AttemptEnds.Lists.{find_one, next_apart}
 use Rattle.end_cases.proofs.AttemptEnds.Others.{cut_none, final_none, none_at, row_none}
 use Rattle.end_cases.specs.AttemptEnds.Ahead.{AgreesAhead}
@@ -32,9 +32,9 @@ use Rattle.session_actions.specs.declared.call.Call.{Call}
 use Rattle.session_actions.specs.declared.entry.OpenEntry.{OpenEntry}
 use Rattle.session_actions.specs.declared.response.Outcome.{Outcome}
 use Rattle.session_actions.specs.declared.seen.Seen.{Seen}
-use Rattle.session_order.proofs.Calms.{first_line_gives}
+use Rattle.session_order.proofs.Quiescence.{first_line_gives}
 use Rattle.session_order.proofs.Ended.{ended_leaves}
-use Rattle.session_order.specs.Calm.{IsStill, is_to_cut}
+use Rattle.session_order.specs.Quiescent.{IsStill, is_to_cut}
 use Rattle.session_order.specs.Lines.{rank}
 use Rattle.session_order.specs.Stirs.{stirs}
 use Rattle.session_order.specs.declared.line.Line.{Line}
@@ -65,7 +65,7 @@ before_row loses line.Drop e X a b c = absurd (cc)
 before_row loses line.Add e X a b c = absurd (cc)
 
 module _ (later : List (ℕ × RowEnd)) (waits : Line → Bool) (also : List ℕ) (a : Attempt) (out : Outcome) (x : StateSeen) (o : OpenEntry) (s : Seen) (is : EndNext later waits also a out x o s)
-    (counting : IsCounting s (c later waits also a out x o s is) out) (b : Between later waits also a out x o s is counting) (goes : Goes later waits also a out x o s is counting b) where
+    (counting : IsCounting s (c later waits also a out x o s is) out) (b : Between later waits also a out x o s is counting) (goes : Continues later waits also a out x o s is counting b) where
   abbrev call : Call
   call = c later waits also a out x o s is
 

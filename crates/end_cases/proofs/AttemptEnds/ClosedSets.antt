@@ -9,11 +9,11 @@ use Rattle.call_actions.specs.Laws.{IsCounting}
 use Rattle.call_actions.specs.Sees.{is_live}
 use Rattle.std.specs.List.{list_any}
 use Rattle.call_cases.specs.OtherCalls.Laws.{SetsApart}
-use Rattle.channel_actions.specs.Sets.{AreExactly, is_in_patient, is_in_queue, is_patient, is_waiting}
+use Rattle.channel_actions.specs.Sets.{PairsAreExactly, is_in_ready_waiters, is_in_queue, is_ready_waiter, is_waiting}
 use Rattle.end_cases.proofs.AttemptEnds.After.{numbers}
 use Rattle.end_cases.proofs.AttemptEnds.Base.{books, c, queue_off}
 use Rattle.end_cases.proofs.AttemptEnds.Closing as closing
-use Rattle.end_cases.proofs.AttemptEnds.Closing.{Between, Goes}
+use Rattle.end_cases.proofs.AttemptEnds.Closing.{Between, Continues}
 use Rattle.end_cases.proofs.AttemptEnds.OffSets.{and_on, queue_left}
 use Rattle.end_cases.specs.AttemptEnds.Ends.{EndNext}
 use Rattle.channel_core.specs.States.{StateSeen}
@@ -37,7 +37,7 @@ none_waits true out_ false off e = refl
 none_waits false out_ q off e = refl
 
 module _ (later : List (ℕ × RowEnd)) (waits : Line → Bool) (also : List ℕ) (a : Attempt) (out : Outcome) (x : StateSeen) (o : OpenEntry) (s : Seen) (is : EndNext later waits also a out x o s)
-    (counting : IsCounting s (c later waits also a out x o s is) out) (b : Between later waits also a out x o s is counting) (goes : Goes later waits also a out x o s is counting b)
+    (counting : IsCounting s (c later waits also a out x o s is) out) (b : Between later waits also a out x o s is counting) (goes : Continues later waits also a out x o s is counting b)
     (none_else : list_any (λ (q : Attempt). is_live s (c later waits also a out x o s is) q && not (q.place == a.place)) s.attempts ≡ false)
     (others : SetsApart (closing.n later waits also a out x o s is counting) s (closing.closed later waits also a out x o s is counting b)) where
   abbrev call : Call
@@ -96,7 +96,7 @@ module _ (later : List (ℕ × RowEnd)) (waits : Line → Bool) (also : List ℕ
 
   module _ (test other : ℕ → ℕ → Bool) (none_then : (row : ℕ) → other m row ≡ false) (none_was : (row : ℕ) → (test m row && not (row == a.place)) ≡ false)
       (none_placed : is_some a.row.placed ≡ true → (row : ℕ) → test m row ≡ false) (away : (i row : ℕ) → (i == m) ≡ false → other i row ≡ test i row) where
-    pub none_left : (pairs : List (ℕ × ℕ)) → AreExactly pairs test → AreExactly (queue_off a.row.call a.place a.row.placed pairs) other
+    pub none_left : (pairs : List (ℕ × ℕ)) → PairsAreExactly pairs test → PairsAreExactly (queue_off a.row.call a.place a.row.placed pairs) other
     none_left pairs h =
         queue_left later waits also a out x o s is test other (λ row. none_then row ∙ sym (none_was row)) away
         (λ some row passes. (let both : false ≡ true = sym (none_placed some row) ∙ passes in absurd (cc))) pairs h
@@ -107,14 +107,14 @@ module _ (later : List (ℕ × RowEnd)) (waits : Line → Bool) (also : List ℕ
   and_swap true false r e = refl
   and_swap false q r e = refl
 
-  pub queue_then : AreExactly (queue_off a.row.call a.place a.row.placed x.queue) (is_in_queue then_)
+  pub queue_then : PairsAreExactly (queue_off a.row.call a.place a.row.placed x.queue) (is_in_queue then_)
   queue_then =
-      none_left (is_in_queue s) (is_in_queue then_) (λ row. ap (λ (b : Bool). b && not (is_patient then_ m)) (wait_then row))
-      (λ row. and_swap (is_waiting s m row) (not (is_patient s m)) (not (row == a.place)) (ap (λ (b : Bool). b && not (is_patient s m)) (wait_was row)))
-      (λ some row. ap (λ (b : Bool). b && not (is_patient s m)) (not_waiting some row (row == a.place) refl)) (λ i row e. others.queue i row e) x.queue (books later waits also a out x o s is).sets.queue
+      none_left (is_in_queue s) (is_in_queue then_) (λ row. ap (λ (b : Bool). b && not (is_ready_waiter then_ m)) (wait_then row))
+      (λ row. and_swap (is_waiting s m row) (not (is_ready_waiter s m)) (not (row == a.place)) (ap (λ (b : Bool). b && not (is_ready_waiter s m)) (wait_was row)))
+      (λ some row. ap (λ (b : Bool). b && not (is_ready_waiter s m)) (not_waiting some row (row == a.place) refl)) (λ i row e. others.queue i row e) x.queue (books later waits also a out x o s is).sets.queue
 
-  pub patient_then : AreExactly (queue_off a.row.call a.place a.row.placed x.patient) (is_in_patient then_)
-  patient_then =
-      none_left (is_in_patient s) (is_in_patient then_) (λ row. ap (λ (b : Bool). b && is_patient then_ m) (wait_then row))
-      (λ row. and_swap (is_waiting s m row) (is_patient s m) (not (row == a.place)) (ap (λ (b : Bool). b && is_patient s m) (wait_was row)))
-      (λ some row. ap (λ (b : Bool). b && is_patient s m) (not_waiting some row (row == a.place) refl)) (λ i row e. others.patient i row e) x.patient (books later waits also a out x o s is).sets.patient
+  pub wait_for_ready_then : PairsAreExactly (queue_off a.row.call a.place a.row.placed x.ready_waiters) (is_in_ready_waiters then_)
+  wait_for_ready_then =
+      none_left (is_in_ready_waiters s) (is_in_ready_waiters then_) (λ row. ap (λ (b : Bool). b && is_ready_waiter then_ m) (wait_then row))
+      (λ row. and_swap (is_waiting s m row) (is_ready_waiter s m) (not (row == a.place)) (ap (λ (b : Bool). b && is_ready_waiter s m) (wait_was row)))
+      (λ some row. ap (λ (b : Bool). b && is_ready_waiter s m) (not_waiting some row (row == a.place) refl)) (λ i row e. others.ready_waiters i row e) x.ready_waiters (books later waits also a out x o s is).sets.ready_waiters

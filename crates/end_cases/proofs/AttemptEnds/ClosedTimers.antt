@@ -9,10 +9,10 @@ use Rattle.channel_actions.proofs.Links.Settings.Pairs.{exactly_by, exactly_remo
 use Rattle.channel_actions.proofs.Links.Settings.Timers.{other_key, own_key, timers_exactly}
 use Rattle.channel_actions.specs.Calls.{deadline_of, due_of}
 use Rattle.call_cases.specs.OtherCalls.Laws.{SetsApart}
-use Rattle.channel_actions.specs.Sets.{AreExactly, is_in_bare, is_in_deadlines, is_in_dues, is_in_impatient, is_patient}
+use Rattle.channel_actions.specs.Sets.{PairsAreExactly, is_awaiting_config, is_in_deadlines, is_in_dues, is_in_fail_fast, is_ready_waiter}
 use Rattle.end_cases.proofs.AttemptEnds.Base.{books, c, has, here, slot}
 use Rattle.end_cases.proofs.AttemptEnds.Closing as closing
-use Rattle.end_cases.proofs.AttemptEnds.Closing.{Between, Goes}
+use Rattle.end_cases.proofs.AttemptEnds.Closing.{Between, Continues}
 use Rattle.end_cases.proofs.AttemptEnds.OffSets.{and_on}
 use Rattle.end_cases.specs.AttemptEnds.Ends.{EndNext}
 use Rattle.channel_core.specs.States.{StateSeen}
@@ -42,7 +42,7 @@ zero_turns : (m : ℕ) → (m == 0) ≡ (0 == m)
 zero_turns m = grind (arith, nat_tests)
 
 module _ (later : List (ℕ × RowEnd)) (waits : Line → Bool) (also : List ℕ) (a : Attempt) (out : Outcome) (x : StateSeen) (o : OpenEntry) (s : Seen) (is : EndNext later waits also a out x o s)
-    (counting : IsCounting s (c later waits also a out x o s is) out) (b : Between later waits also a out x o s is counting) (goes : Goes later waits also a out x o s is counting b)
+    (counting : IsCounting s (c later waits also a out x o s is) out) (b : Between later waits also a out x o s is counting) (goes : Continues later waits also a out x o s is counting b)
     (others : SetsApart (closing.n later waits also a out x o s is counting) s (closing.closed later waits also a out x o s is counting b)) where
   abbrev call : Call
   call = c later waits also a out x o s is
@@ -60,45 +60,45 @@ module _ (later : List (ℕ × RowEnd)) (waits : Line → Bool) (also : List ℕ
   ended_here = closing.closed_here later waits also a out x o s is counting b goes
 
   -- calls without a config
-  none_bare : (j : ℕ) → is_in_bare then_ j m ≡ false
-  none_bare j =
+  none_unconfigured : (j : ℕ) → is_awaiting_config then_ j m ≡ false
+  none_unconfigured j =
       ap (λ (q : Option Call). (j == 0) && holds (λ (g : Call). is_open_call g && is_none g.config) q) ended_here ∙ and_right (j == 0) (false && is_none call.config) refl
 
   zero_key : (j : ℕ) → (j == 0) ≡ is_same (0, m) (j, m)
   zero_key j = zero_turns j ∙ sym (own_key 0 j m)
 
-  bare_by : (j i : ℕ) (q : Bool) → (i == m) ≡ q → (is_in_bare s j i && not (is_same (0, m) (j, i))) ≡ is_in_bare then_ j i
-  bare_by j i true e =
-      subst (λ (q : ℕ). (is_in_bare s j q && not (is_same (0, m) (j, q))) ≡ is_in_bare then_ j q) (sym (eqb-true i m e))
-      (gone_by (j == 0) (is_same (0, m) (j, m)) (holds (λ (g : Call). is_open_call g && is_none g.config) (numbered s.calls m)) (zero_key j) ∙ sym (none_bare j))
-  bare_by j i false e = ap (λ (q : Bool). is_in_bare s j i && not q) (other_key 0 j i m e) ∙ and_on (is_in_bare s j i) ∙ sym (others.bare j i e)
+  unconfigured_by : (j i : ℕ) (q : Bool) → (i == m) ≡ q → (is_awaiting_config s j i && not (is_same (0, m) (j, i))) ≡ is_awaiting_config then_ j i
+  unconfigured_by j i true e =
+      subst (λ (q : ℕ). (is_awaiting_config s j q && not (is_same (0, m) (j, q))) ≡ is_awaiting_config then_ j q) (sym (eqb-true i m e))
+      (gone_by (j == 0) (is_same (0, m) (j, m)) (holds (λ (g : Call). is_open_call g && is_none g.config) (numbered s.calls m)) (zero_key j) ∙ sym (none_unconfigured j))
+  unconfigured_by j i false e = ap (λ (q : Bool). is_awaiting_config s j i && not q) (other_key 0 j i m e) ∙ and_on (is_awaiting_config s j i) ∙ sym (others.awaiting_config j i e)
 
-  impatient_by : (j i : ℕ) (q : Bool) → (i == m) ≡ q → (is_in_impatient s j i && not (is_same (0, m) (j, i))) ≡ is_in_impatient then_ j i
-  impatient_by j i true e =
-      subst (λ (q : ℕ). (is_in_impatient s j q && not (is_same (0, m) (j, q))) ≡ is_in_impatient then_ j q) (sym (eqb-true i m e))
-      (gone_too (j == 0) (is_same (0, m) (j, m)) (holds (λ (g : Call). is_open_call g && is_none g.config) (numbered s.calls m)) (not (is_patient s m)) (zero_key j)
-      ∙ sym (ap (λ (q : Bool). q && not (is_patient then_ m)) (none_bare j)))
-  impatient_by j i false e = ap (λ (q : Bool). is_in_impatient s j i && not q) (other_key 0 j i m e) ∙ and_on (is_in_impatient s j i) ∙ sym (others.impatient j i e)
+  fail_fast_by : (j i : ℕ) (q : Bool) → (i == m) ≡ q → (is_in_fail_fast s j i && not (is_same (0, m) (j, i))) ≡ is_in_fail_fast then_ j i
+  fail_fast_by j i true e =
+      subst (λ (q : ℕ). (is_in_fail_fast s j q && not (is_same (0, m) (j, q))) ≡ is_in_fail_fast then_ j q) (sym (eqb-true i m e))
+      (gone_too (j == 0) (is_same (0, m) (j, m)) (holds (λ (g : Call). is_open_call g && is_none g.config) (numbered s.calls m)) (not (is_ready_waiter s m)) (zero_key j)
+      ∙ sym (ap (λ (q : Bool). q && not (is_ready_waiter then_ m)) (none_unconfigured j)))
+  fail_fast_by j i false e = ap (λ (q : Bool). is_in_fail_fast s j i && not q) (other_key 0 j i m e) ∙ and_on (is_in_fail_fast s j i) ∙ sym (others.fail_fast j i e)
 
-  pub bare_then : AreExactly (remove_key (is_same (0, m)) x.bare) (is_in_bare then_)
-  bare_then =
-      exactly_by (remove_key (is_same (0, m)) x.bare) (λ j i. is_in_bare s j i && not (is_same (0, m) (j, i))) (is_in_bare then_)
-      (exactly_remove x.bare (is_in_bare s) (0, m) (books later waits also a out x o s is).sets.bare) (λ j i. bare_by j i (i == m) refl)
+  pub unconfigured_then : PairsAreExactly (remove_key (is_same (0, m)) x.awaiting_config) (is_awaiting_config then_)
+  unconfigured_then =
+      exactly_by (remove_key (is_same (0, m)) x.awaiting_config) (λ j i. is_awaiting_config s j i && not (is_same (0, m) (j, i))) (is_awaiting_config then_)
+      (exactly_remove x.awaiting_config (is_awaiting_config s) (0, m) (books later waits also a out x o s is).sets.awaiting_config) (λ j i. unconfigured_by j i (i == m) refl)
 
-  pub impatient_then : AreExactly (remove_key (is_same (0, m)) x.impatient) (is_in_impatient then_)
-  impatient_then =
-      exactly_by (remove_key (is_same (0, m)) x.impatient) (λ j i. is_in_impatient s j i && not (is_same (0, m) (j, i))) (is_in_impatient then_)
-      (exactly_remove x.impatient (is_in_impatient s) (0, m) (books later waits also a out x o s is).sets.impatient) (λ j i. impatient_by j i (i == m) refl)
+  pub fail_fast_then : PairsAreExactly (remove_key (is_same (0, m)) x.fail_fast) (is_in_fail_fast then_)
+  fail_fast_then =
+      exactly_by (remove_key (is_same (0, m)) x.fail_fast) (λ j i. is_in_fail_fast s j i && not (is_same (0, m) (j, i))) (is_in_fail_fast then_)
+      (exactly_remove x.fail_fast (is_in_fail_fast s) (0, m) (books later waits also a out x o s is).sets.fail_fast) (λ j i. fail_fast_by j i (i == m) refl)
 
   -- the timers of the call
   module _ (after : CallSlot) where
-    pub dues_then : due_of then_ ended ≡ after.due → AreExactly (timer_moved m (slot later waits also a out x o s is).due after.due x.dues) (is_in_dues then_)
+    pub dues_then : due_of then_ ended ≡ after.due → PairsAreExactly (timer_moved m (slot later waits also a out x o s is).due after.due x.dues) (is_in_dues then_)
     dues_then due =
         timers_exactly m x.dues (is_in_dues s) (slot later waits also a out x o s is).due after.due (books later waits also a out x o s is).sets.dues
         (λ j. ap (holds (λ (g : Call). is_number j (due_of s g))) (here later waits also a out x o s is) ∙ ap (is_number j) (has later waits also a out x o s is).sees.due)
         (is_in_dues then_) (λ j i e. others.dues j i e) (λ j. ap (holds (λ (g : Call). is_number j (due_of then_ g))) ended_here ∙ ap (is_number j) due)
 
-    pub deadlines_then : deadline_of then_ ended ≡ after.deadline → AreExactly (timer_moved m (slot later waits also a out x o s is).deadline after.deadline x.deadlines) (is_in_deadlines then_)
+    pub deadlines_then : deadline_of then_ ended ≡ after.deadline → PairsAreExactly (timer_moved m (slot later waits also a out x o s is).deadline after.deadline x.deadlines) (is_in_deadlines then_)
     deadlines_then past =
         timers_exactly m x.deadlines (is_in_deadlines s) (slot later waits also a out x o s is).deadline after.deadline (books later waits also a out x o s is).sets.deadlines
         (λ j. ap (holds (λ (g : Call). is_number j (deadline_of s g))) (here later waits also a out x o s is) ∙ ap (is_number j) (has later waits also a out x o s is).sees.deadline_is)

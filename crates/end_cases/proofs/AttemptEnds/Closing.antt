@@ -17,28 +17,28 @@ use Rattle.call_actions.specs.CallsApart.Apart.{IsBook}
 use Rattle.call_actions.specs.CallsApart.Laws.{tokens_in_run}
 use Rattle.call_actions.specs.CallsInTurn.Turns.{StaysSteady, waits as waits_to_follow}
 use Rattle.call_actions.specs.Laws.{IsCounting}
-use Rattle.call_actions.specs.Order.{AreNumbered, IsInOrder, IsInTurn}
+use Rattle.call_actions.specs.Order.{AttemptsAreNumbered, IsInOrder, IsInTurn}
 use Rattle.call_actions.specs.Sees.{Sees}
-use Rattle.call_actions.specs.TakeActions.Serves.{ArePlaced, IsLeft, came}
+use Rattle.call_actions.specs.TakeActions.Serves.{AttemptsStandInPlace, IsLeft, came}
 use Rattle.call_core.specs.Laws as channel_laws
 use Rattle.call_core.specs.Steps.{Stepped, end_stamped, fresh_buffer}
 use Rattle.call_core.specs.declared.act.CallAct.{CallAct}
 use Rattle.call_core.specs.declared.attempts.Attempts.{Attempts}
 use Rattle.channel_actions.specs.Columns.{links_noted}
-use Rattle.call_cases.specs.EndsFollow.Cuts.{AreUnreset}
+use Rattle.call_cases.specs.EndsFollow.Cuts.{NoStreamIsToReset}
 use Rattle.call_cases.specs.EndsFollow.Laws.{is_late}
 use Rattle.channel_actions.specs.KeptSessions.Kept.{IsKept}
-use Rattle.call_cases.specs.OtherCalls.Others.{AreOfCall}
-use Rattle.channel_actions.specs.Sets.{AreExactly, is_in_outstanding, is_in_patient, is_in_queue}
+use Rattle.call_cases.specs.OtherCalls.Others.{ActionsAreOfCall}
+use Rattle.channel_actions.specs.Sets.{PairsAreExactly, is_in_outstanding, is_in_ready_waiters, is_in_queue}
 use Rattle.end_cases.proofs.AttemptEnds.After.{d, d_here, put, t_is, u}
 use Rattle.end_cases.proofs.AttemptEnds.Agreeing.{early_by, none_of}
 use Rattle.end_cases.proofs.AttemptEnds.Base.{c, call_is, e, has, here, news, r, sees, slot, x2, z}
 use Rattle.end_cases.proofs.AttemptEnds.OneEnded as first
-use Rattle.end_cases.proofs.AttemptEnds.Told.{told_form}
+use Rattle.end_cases.proofs.AttemptEnds.Report.{reported_form}
 use Rattle.end_cases.specs.AttemptEnds.Ahead.{LinksAhead}
 use Rattle.end_cases.specs.AttemptEnds.Ends.{EndNext, gone_with, may_wait}
 use Rattle.channel_core.specs.States.{StateSeen}
-use Rattle.channel_core.specs.Steps.{told, with_ledger_links}
+use Rattle.channel_core.specs.Steps.{reported, with_ledger_links}
 use Rattle.channel_core.specs.declared.state.links.LinkSlot.{LinkSlot}
 use Rattle.channel_core.specs.declared.state.slots.CallSlot.{CallSlot}
 use Rattle.grpc_base.specs.Limits.{message_limit}
@@ -68,11 +68,11 @@ use Rattle.session_actions.specs.declared.entry.OpenEntry.{OpenEntry}
 use Rattle.session_actions.specs.declared.link.Link.{Link}
 use Rattle.session_actions.specs.declared.response.Outcome.{Outcome}
 use Rattle.session_actions.specs.declared.seen.Seen.{Seen}
-use Rattle.session_order.specs.Calm.{IsStill}
+use Rattle.session_order.specs.Quiescent.{IsStill}
 use Rattle.session_order.specs.declared.line.Line.{Line}
 use Rattle.session_order.specs.declared.line.Line.TheVariants as line
 
-pub placed_by : (n : ℕ) (xs : List Attempt) → AreNumbered n xs → ArePlaced n xs
+pub placed_by : (n : ℕ) (xs : List Attempt) → AttemptsAreNumbered n xs → AttemptsStandInPlace n xs
 placed_by n [] p = tt
 placed_by n (q ∷ xs) p = (p.0, placed_by (suc n) xs p.1)
 
@@ -154,8 +154,8 @@ module _ (later : List (ℕ × RowEnd)) (waits : Line → Bool) (also : List ℕ
   runs_are = ap (λ (q : Seen). q.runs) (sym (t_is later waits also a out x o s is) ∙ ending.is_ended s k lent a.place a out seen order turn is.ending counting)
 
   -- its attempts are in turn
-  calm : list_any (waits_to_follow s k) s.attempts ≡ false
-  calm =
+  quiescent : list_any (waits_to_follow s k) s.attempts ≡ false
+  quiescent =
       none_of (is_of k) (λ (q : Attempt). wants_follower q s) s.attempts
       (is.still line.Transparent refl (early_by (waits line.Transparent) (may_wait line.Transparent) (is.late line.Transparent) refl))
 
@@ -164,15 +164,15 @@ module _ (later : List (ℕ × RowEnd)) (waits : Line → Bool) (also : List ℕ
       subst (λ (q : Seen). StaysSteady q n) (t_is later waits also a out x o s is)
       (ending_keeps s k a.place a end_ kept.book (subst (λ (q : Seen). IsBook q) (sym (t_is later waits also a out x o s is)) kept_one.book)
       (record { own = here later waits also a out x o s is; there = is.ending.there; mine = is.ending.own })
-      (ap (λ (q : Option RowEnd). is_none q) unended) counting.alone (record { turn = turn; calm = calm }))
+      (ap (λ (q : Option RowEnd). is_none q) unended) counting.alone (record { turn = turn; quiescent = quiescent }))
 
   pub same_steady : steady.call ≡ dk
   same_steady =
       let two : Some steady.call ≡ Some dk = sym steady.own ∙ d_here later waits also a out x o s is in
       (cc)
 
-  pub calm_one : list_any (waits_to_follow v dk) v.attempts ≡ false
-  calm_one = subst (λ (g : Call). list_any (waits_to_follow v g) v.attempts ≡ false) same_steady steady.steady.calm
+  pub quiescent_one : list_any (waits_to_follow v dk) v.attempts ≡ false
+  quiescent_one = subst (λ (g : Call). list_any (waits_to_follow v g) v.attempts ≡ false) same_steady steady.steady.quiescent
 
   pub turn_one : IsInTurn v dk
   turn_one = subst (λ (g : Call). IsInTurn v g) same_steady steady.steady.turn
@@ -234,9 +234,9 @@ module _ (later : List (ℕ × RowEnd)) (waits : Line → Bool) (also : List ℕ
     response_same = by_stream a.row.stream
 
   -- the session goes there, and the end of the call is next then
-  pub record Goes (b : Between) : Type 0 where
+  pub record Continues (b : Between) : Type 0 where
     pub does : Does b.actions v (mid b)
-    pub apart : AreOfCall n b.actions v
+    pub apart : ActionsAreOfCall n b.actions v
     pub posts : posted_in b.actions ≡ []
     pub netless : list_any is_of_net b.actions ≡ false
     pub here : numbered b.calls n ≡ Some (its b)
@@ -244,7 +244,7 @@ module _ (later : List (ℕ × RowEnd)) (waits : Line → Bool) (also : List ℕ
     pub one_there : numbered b.attempts a.place ≡ Some b.one
     pub one_ended : b.one.row.ended ≡ Some end_
     pub tokens : (i : ℕ) → is_some (numbered v.runs i) ≡ true → tokens_in_run (mid b) (Some i) ≡ tokens_in_run v (Some i)
-    pub unreset : AreUnreset (mid b)
+    pub unreset : NoStreamIsToReset (mid b)
     pub none_out : (i : ℕ) (q : Attempt) → slice_get b.attempts i ≡ Some q → (q.row.call == n) ≡ true → is_outstanding q ≡ false
     pub fewer : (link row : ℕ) → is_in_outstanding (mid b) link row ≡ true → is_in_outstanding s link row ≡ true
     pub over : is_over_by_row (mid b) (its b) ≡ true
@@ -252,7 +252,7 @@ module _ (later : List (ℕ × RowEnd)) (waits : Line → Bool) (also : List ℕ
     pub late : (l : Line) → is_late l ≡ true → waits l ≡ false → IsStill l entry_then (mid b)
     pub wire : IsStill line.WireEnd o s → IsStill line.WireEnd entry_then (mid b)
 
-  pub closed_here : (b : Between) → Goes b → numbered (closed b).calls n ≡ Some (ended b)
+  pub closed_here : (b : Between) → Continues b → numbered (closed b).calls n ≡ Some (ended b)
   closed_here b goes = closed_at b goes.here
 
   -- what the channel's call is in the end
@@ -283,7 +283,7 @@ module _ (later : List (ℕ × RowEnd)) (waits : Line → Bool) (also : List ℕ
     pub resets : List ℕ
     pub outs : List (ℕ × ℕ)
     pub queue : List (ℕ × ℕ)
-    pub patient : List (ℕ × ℕ)
+    pub ready_waiters : List (ℕ × ℕ)
     pub stamps : List LinkSeen
 
   abbrev pub with_parts : Parts → StateSeen → StateSeen
@@ -292,18 +292,18 @@ module _ (later : List (ℕ × RowEnd)) (waits : Line → Bool) (also : List ℕ
     resets = p.resets;
     outstanding = p.outs;
     queue = p.queue;
-    patient = p.patient;
-    bare = remove_key (is_same (0, n)) x.bare;
-    impatient = remove_key (is_same (0, n)) x.impatient;
+    ready_waiters = p.ready_waiters;
+    awaiting_config = remove_key (is_same (0, n)) x.awaiting_config;
+    fail_fast = remove_key (is_same (0, n)) x.fail_fast;
   }
 
-  abbrev pub told_with : Made → Parts → StateSeen
-  told_with m p = with_parts p (told_form a.place n (stepped m) was (z later waits also a out x o s is))
+  abbrev pub reported_with : Made → Parts → StateSeen
+  reported_with m p = with_parts p (reported_form a.place n (stepped m) was (z later waits also a out x o s is))
 
   pub record Follows (b : Between) (m : Made) (p : Parts) : Type 0 where
-    pub told_is : told a.place (news_of_link.Ended a.place (news later waits also a out x o s is)) (z later waits also a out x o s is) ≡ told_with m p
-    pub outs : AreExactly p.outs (is_in_outstanding (closed b))
-    pub queue : AreExactly p.queue (is_in_queue (closed b))
-    pub patient : AreExactly p.patient (is_in_patient (closed b))
-    pub noted : links_noted (closed b) ≡ (gone_with a.row.placed (told_with m p)).book.ledger.links
-    pub ahead : LinksAhead also (told_with m p) (all_left later (closed b))
+    pub reported_is : reported a.place (news_of_link.Ended a.place (news later waits also a out x o s is)) (z later waits also a out x o s is) ≡ reported_with m p
+    pub outs : PairsAreExactly p.outs (is_in_outstanding (closed b))
+    pub queue : PairsAreExactly p.queue (is_in_queue (closed b))
+    pub ready_waiters : PairsAreExactly p.ready_waiters (is_in_ready_waiters (closed b))
+    pub noted : links_noted (closed b) ≡ (gone_with a.row.placed (reported_with m p)).book.ledger.links
+    pub ahead : LinksAhead also (reported_with m p) (all_left later (closed b))

@@ -13,7 +13,7 @@ use Rattle.call_actions.proofs.Frames as frames
 use Rattle.call_actions.proofs.Lists.{numbered_not}
 use Rattle.call_actions.proofs.TakeActions.Lists.{found_at}
 use Rattle.call_actions.specs.Laws.{IsCounting}
-use Rattle.call_actions.specs.Order.{AreNumbered, IsInOrder, IsInTurn, goes_on_followed}
+use Rattle.call_actions.specs.Order.{AttemptsAreNumbered, IsInOrder, IsInTurn, goes_on_followed}
 use Rattle.call_actions.specs.Sees.{Sees, is_live}
 use Rattle.call_core.specs.Steps.{Stepped}
 use Rattle.call_cases.proofs.EndsFollow.Apart.{last_passes}
@@ -33,7 +33,7 @@ use Rattle.session_actions.specs.declared.call.Call.{Call}
 use Rattle.session_actions.specs.declared.entry.OpenEntry.{OpenEntry}
 use Rattle.session_actions.specs.declared.response.Outcome.{Outcome}
 use Rattle.session_actions.specs.declared.seen.Seen.{Seen}
-use Rattle.session_order.specs.Calm.{is_to_cut}
+use Rattle.session_order.specs.Quiescent.{is_to_cut}
 use Rattle.session_order.specs.declared.line.Line.{Line}
 use Rattle.session_order.specs.declared.line.Line.TheVariants as line
 
@@ -75,7 +75,7 @@ low_by p n x y None place rest e = here_by (p x) e
         omega (arith, at)
     here_by false e = absurd (cc)
 
-low : (p : Attempt → Bool) (n : ℕ) (xs : List Attempt) (y : Attempt) → AreNumbered n xs → find_last p xs ≡ Some y → n ≤ y.place
+low : (p : Attempt → Bool) (n : ℕ) (xs : List Attempt) (y : Attempt) → AttemptsAreNumbered n xs → find_last p xs ≡ Some y → n ≤ y.place
 low p n [] y places e = absurd (cc)
 low p n (x ∷ xs) y places e = low_by p n x y (find_last p xs) places.0 (λ last. low p (suc n) xs y places.1 last) e
 
@@ -104,7 +104,7 @@ lower_by p n z zs x y None last place pass high rest e zero at =
     let same : z ≡ y = (cc) in
     self y.place x.place (ap (λ (q : Attempt). q.place) (sym same ∙ one))
 
-no_lower : (p : Attempt → Bool) (n : ℕ) (xs : List Attempt) (y : Attempt) (i : ℕ) (x : Attempt) → AreNumbered n xs → find_last p xs ≡ Some y → slice_get xs i ≡ Some x → p x ≡ true
+no_lower : (p : Attempt → Bool) (n : ℕ) (xs : List Attempt) (y : Attempt) (i : ℕ) (x : Attempt) → AttemptsAreNumbered n xs → find_last p xs ≡ Some y → slice_get xs i ≡ Some x → p x ≡ true
     → nat_lt y.place x.place ≡ false
 no_lower p n [] y i x places e at pass = absurd (cc)
 no_lower p n (z ∷ zs) y i x places e at pass =

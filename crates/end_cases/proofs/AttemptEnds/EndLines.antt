@@ -22,7 +22,7 @@ use Rattle.session_actions.specs.declared.call.Call.{Call}
 use Rattle.session_actions.specs.declared.entry.OpenEntry.{OpenEntry}
 use Rattle.session_actions.specs.declared.response.Outcome.{Outcome}
 use Rattle.session_actions.specs.declared.seen.Seen.{Seen}
-use Rattle.session_order.specs.Calm.{IsStill}
+use Rattle.session_order.specs.Quiescent.{IsStill}
 use Rattle.session_order.specs.Stirs.{stirs}
 use Rattle.session_order.specs.declared.line.Line.{Line}
 use Rattle.session_order.specs.declared.line.Line.TheVariants as line
@@ -63,7 +63,7 @@ module _ (later : List (ℕ × RowEnd)) (waits : Line → Bool) (also : List ℕ
   mine_wants : (i : ℕ) (q : Attempt) → slice_get v.attempts i ≡ Some q → (q.row.call == m) ≡ true → wants_follower q v ≡ false
   mine_wants i q at own =
       ap (λ (b : Bool). b && wants_follower q v) (sym own)
-      ∙ numbered_not (waits_to_follow v (closing.dk later waits also a out x o s is counting)) v.attempts (suc i) q (closing.calm_one later waits also a out x o s is counting) at
+      ∙ numbered_not (waits_to_follow v (closing.dk later waits also a out x o s is counting)) v.attempts (suc i) q (closing.quiescent_one later waits also a out x o s is counting) at
 
   wants_by : (i : ℕ) (q : Attempt) (b : Bool) → slice_get v.attempts i ≡ Some q → (q.row.call == m) ≡ b → wants_follower q v ≡ false
   wants_by i q true at own = mine_wants i q at own

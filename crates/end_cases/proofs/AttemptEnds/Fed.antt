@@ -5,7 +5,7 @@ use Rattle.std.specs.List.{AllByRecursion}
 use Rattle.std.specs.Option.{option_map_or}
 use Rattle.attempt_buffer.specs.Buffers.{Buffered, taken_by, text_of}
 use Rattle.attempt_ledger.specs.declared.row.RowEnd.{RowEnd}
-use Rattle.call_actions.specs.TakeActions.Serves.{AreFed, Holds, IsAt, IsFed, Serves, drained_so_far, passed}
+use Rattle.call_actions.specs.TakeActions.Serves.{AttemptsAreFed, Holds, IsAt, IsFed, Serves, drained_so_far, passed}
 use Rattle.channel_actions.specs.Calls.{lent_to}
 use Rattle.end_cases.proofs.AttemptEnds.After.{attempts_are, d, end, free_then, put, put_call, u}
 use Rattle.end_cases.proofs.AttemptEnds.Base.{c, has, slot, x1}
@@ -92,9 +92,9 @@ module _ (later : List (ℕ × RowEnd)) (waits : Line → Bool) (also : List ℕ
   fed_one q false e k =
       subst (λ (z : Option ℕ). IsFed z (text_of buffer_then) (is_outstanding q) (drained q then_) all) (sym (taken_kept was_buffer a.place free_buffer q.place e)) k
 
-  fed_then : AreFed then_ called buffer_then (filter (is_of called) then_.attempts)
+  fed_then : AttemptsAreFed then_ called buffer_then (filter (is_of called) then_.attempts)
   fed_then =
-      subst (λ (xs : List Attempt). AreFed then_ called buffer_then (filter (is_of called) xs)) (sym (attempts_are later waits also a out x o s is))
+      subst (λ (xs : List Attempt). AttemptsAreFed then_ called buffer_then (filter (is_of called) xs)) (sym (attempts_are later waits also a out x o s is))
       (filter_mapped (is_of call) put_ (λ (q : Attempt). IsFed (taken_by q.place was_buffer) (text_of was_buffer) (is_outstanding q) (drained q s) all)
       (λ (q : Attempt). IsFed (taken_by q.place buffer_then) (text_of buffer_then) (is_outstanding q) (drained q then_) all)
       (λ q. ap (λ (n : ℕ). n == call.number) (put_call later waits also a out x o s is q)) (λ q k. fed_one q (q.place == a.place) refl k) s.attempts was_held.fed)

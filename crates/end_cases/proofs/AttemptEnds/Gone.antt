@@ -9,7 +9,7 @@ use Rattle.channel_actions.proofs.Gone.{all_numbered}
 use Rattle.channel_actions.proofs.Outstanding.{outstanding_same}
 use Rattle.channel_actions.proofs.Stamps.{counted_at}
 use Rattle.channel_actions.specs.KeptSessions.Kept.{IsKept}
-use Rattle.channel_actions.specs.Sets.{AreExactly, is_in_outstanding}
+use Rattle.channel_actions.specs.Sets.{PairsAreExactly, is_in_outstanding}
 use Rattle.end_cases.specs.AttemptEnds.Ends.{gone_with}
 use Rattle.channel_core.proofs.BookLaws.{number_changed, number_other}
 use Rattle.channel_core.specs.Books.{link_at}
@@ -22,7 +22,7 @@ use Rattle.channel_net.specs.declared.links.OwnLink.{OwnLink}
 use Rattle.grpc_base.specs.declared.event.Conn.{Conn}
 use Rattle.grpc_base.specs.declared.event.Conn.TheVariants as conn
 use Rattle.ledger_stamps.specs.Steps.{changed_at, gone_link, stamped}
-use Rattle.net_actions.specs.Sees.{AreSubs}
+use Rattle.net_actions.specs.Sees.{SubchannelsAgree}
 use Rattle.session_actions.specs.Closing.{noted_gone}
 use Rattle.session_actions.specs.Entries.{entry}
 use Rattle.session_actions.specs.Links.{is_retiring}
@@ -44,7 +44,7 @@ shut_same conn.Ready = refl
 shut_same conn.Failure = refl
 shut_same conn.Shutdown = refl
 
-subs_from : (n i : ℕ) (subs : List Subchannel) (board : List SubRecord) (links : List OwnLink) → AreSubs n subs board links → is_some (slice_get subs i) ≡ true
+subs_from : (n i : ℕ) (subs : List Subchannel) (board : List SubRecord) (links : List OwnLink) → SubchannelsAgree n subs board links → is_some (slice_get subs i) ≡ true
     → is_shut_state (option_map (λ (r : SubRecord). r.state) (slice_get board i)) ≡ holds (λ (b : Subchannel). is_shutdown b.state) (slice_get subs i)
 subs_from n i [] [] links h there = absurd (cc)
 subs_from n zero (b ∷ subs) (r ∷ board) links h there = shut_same r.state ∙ ap is_shutdown (sym h.0.state)
@@ -52,7 +52,7 @@ subs_from n (suc i) (b ∷ subs) (r ∷ board) links h there = subs_from (n + 1)
 subs_from n i [] (r ∷ board) links h there = absurd h
 subs_from n i (b ∷ subs) [] links h there = absurd h
 
-subs_at : (number : ℕ) (subs : List Subchannel) (board : List SubRecord) (links : List OwnLink) → AreSubs 1 subs board links → is_some (numbered subs number) ≡ true
+subs_at : (number : ℕ) (subs : List Subchannel) (board : List SubRecord) (links : List OwnLink) → SubchannelsAgree 1 subs board links → is_some (numbered subs number) ≡ true
     → is_shut_state (state_at board number) ≡ holds (λ (b : Subchannel). is_shutdown b.state) (numbered subs number)
 subs_at zero subs board links h there = absurd (cc)
 subs_at (suc i) subs board links h there = subs_from 1 i subs board links h there
@@ -63,8 +63,8 @@ pub record Knows (x : StateSeen) (s : Seen) (number : ℕ) (l : Link) : Type 0 w
   pub dead : channel_tables.is_dead x.links number ≡ is_some l.over
   pub retiring : channel_tables.is_retiring x.links number ≡ is_retiring l
   pub sub : sub_of (link_at x.book number) ≡ l.sub
-  pub out : AreExactly x.outstanding (is_in_outstanding s)
-  pub subs : AreSubs 1 s.subs x.net.board x.net.links
+  pub out : PairsAreExactly x.outstanding (is_in_outstanding s)
+  pub subs : SubchannelsAgree 1 s.subs x.net.board x.net.links
   pub kept : IsKept s
 
 pub gone_is : (x : StateSeen) (s : Seen) (number : ℕ) (l : Link) → Knows x s number l → channel.is_gone number x ≡ is_gone l s

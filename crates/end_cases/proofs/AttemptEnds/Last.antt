@@ -21,7 +21,7 @@ use Rattle.end_cases.proofs.AttemptEnds.After.{d, t_is, u}
 use Rattle.end_cases.proofs.AttemptEnds.Alone as alone_ends
 use Rattle.end_cases.proofs.AttemptEnds.Base.{c, e, news, sees, step_is, x2}
 use Rattle.end_cases.proofs.AttemptEnds.Closing as closing
-use Rattle.end_cases.proofs.AttemptEnds.Closing.{Between, Goes, Made, Steps}
+use Rattle.end_cases.proofs.AttemptEnds.Closing.{Between, Continues, Made, Steps}
 use Rattle.end_cases.proofs.AttemptEnds.OneEnded as first
 use Rattle.end_cases.proofs.AttemptEnds.LastCommits as last
 use Rattle.end_cases.specs.AttemptEnds.Ends.{EndNext, HasEnded}
@@ -208,7 +208,7 @@ module _ (later : List (ℕ × RowEnd)) (waits : Line → Bool) (also : List ℕ
     left = λ h. subst (λ (all : List Reply). IsLeft all k.taken (channel_laws.came (closing.was later waits also a out x o s is counting).call)) (sym came_same) h;
   }
 
-  goes : Goes later waits also a out x o s is counting b
+  goes : Continues later waits also a out x o s is counting b
   goes = record {
     does = last.goes_two later waits also a out x o s is counting free case.last.last;
     apart = last.apart_two later waits also a out x o s is counting free case.last.last;

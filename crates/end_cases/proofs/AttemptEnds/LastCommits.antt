@@ -23,16 +23,16 @@ use Rattle.call_cases.proofs.EndsFollow.Steps.{call_number}
 use Rattle.channel_actions.proofs.KeptSessions.Along.{kept_along}
 use Rattle.channel_actions.proofs.Stamps.{map_same}
 use Rattle.channel_actions.specs.Columns.{links_noted}
-use Rattle.call_cases.specs.EndsFollow.Cuts.{AreUnreset, is_unreset}
+use Rattle.call_cases.specs.EndsFollow.Cuts.{NoStreamIsToReset, is_unreset}
 use Rattle.call_cases.specs.EndsFollow.Laws.{is_late}
 use Rattle.channel_actions.specs.KeptSessions.Kept.{IsKept}
-use Rattle.call_cases.specs.OtherCalls.Others.{AreOfCall}
+use Rattle.call_cases.specs.OtherCalls.Others.{ActionsAreOfCall}
 use Rattle.channel_actions.specs.Sets.{is_in_outstanding}
 use Rattle.end_cases.proofs.AttemptEnds.After.{d, d_here, free_then, placed_from, t_is, u}
 use Rattle.end_cases.proofs.AttemptEnds.AheadCommits as commits
 use Rattle.end_cases.proofs.AttemptEnds.Base.{books, c, call_is, e, x1}
 use Rattle.end_cases.proofs.AttemptEnds.Closing as closing
-use Rattle.end_cases.proofs.AttemptEnds.Closing.{Between, Goes, is_of_closing}
+use Rattle.end_cases.proofs.AttemptEnds.Closing.{Between, Continues, is_of_closing}
 use Rattle.end_cases.proofs.AttemptEnds.Committed.{counted_then}
 use Rattle.end_cases.proofs.AttemptEnds.EndLines as ends
 use Rattle.end_cases.proofs.AttemptEnds.OneEnded as first
@@ -41,7 +41,7 @@ use Rattle.end_cases.proofs.AttemptEnds.Lists.{IsFrom, find_one, from_map, next_
 use Rattle.end_cases.proofs.AttemptEnds.Others.{none_at, row_none}
 use Rattle.call_cases.proofs.CommitsFollow.Newest.{new_last}
 use Rattle.call_cases.proofs.ConfiguredCalls.Lists.{changed_length}
-use Rattle.call_cases.proofs.FullSends.Bare.{no_items}
+use Rattle.call_cases.proofs.FullSends.Headless.{no_items}
 use Rattle.end_cases.specs.AttemptEnds.Ahead.{LinksAhead}
 use Rattle.end_cases.specs.AttemptEnds.Ends.{EndNext, may_wait}
 use Rattle.end_cases.specs.AttemptEnds.Laws.{goes_on_after}
@@ -54,7 +54,7 @@ use Rattle.grpc_base.specs.declared.plan.CallPlan.{CallPlan}
 use Rattle.grpc_base.specs.declared.plan.CallPlan.TheVariants as plan
 use Rattle.link_actions.proofs.Ended.{changed_one, noted_call}
 use Rattle.link_actions.proofs.Without.{at_place}
-use Rattle.link_actions.specs.Sees.{ArePlaced as ArePlacedOn}
+use Rattle.link_actions.specs.Sees.{AttemptsStandInPlace as ArePlacedOn}
 use Rattle.session_actions.specs.Actions.{after as after_action, after_if, following}
 use Rattle.session_actions.specs.AttemptEnds.{attempt_ended, with_end}
 use Rattle.session_actions.specs.Attempts.{commitment, is_commitment, is_counted, is_followed, is_later_of, is_of, is_outstanding, wants_follower, wants_follower_by}
@@ -82,10 +82,10 @@ use Rattle.session_actions.specs.declared.entry.OpenEntry.{OpenEntry}
 use Rattle.session_actions.specs.declared.link.Link.{Link}
 use Rattle.session_actions.specs.declared.response.Outcome.{Outcome}
 use Rattle.session_actions.specs.declared.seen.Seen.{Seen}
-use Rattle.session_order.proofs.Calms.{first_line_gives}
+use Rattle.session_order.proofs.Quiescence.{first_line_gives}
 use Rattle.session_order.proofs.Changed.{any_changed, lookup}
 use Rattle.session_order.proofs.Commits.{committed_leaves}
-use Rattle.session_order.specs.Calm.{IsStill}
+use Rattle.session_order.specs.Quiescent.{IsStill}
 use Rattle.session_order.specs.Lines.{is_line, rank}
 use Rattle.session_order.specs.Stirs.{IsCommittable, stirs}
 use Rattle.session_order.specs.declared.line.Line.{Line}
@@ -215,7 +215,7 @@ module _ (later : List (ℕ × RowEnd)) (waits : Line → Bool) (also : List ℕ
       subst (λ (q : Seen). StaysSteady q n) f_is
       (committing_keeps v dk a.place then_ (subst IsBook (sym f_is) book)
       (record { own = d_here later waits also a out x o s is; there = there; mine = is.ending.own })
-      (record { turn = closing.turn_one later waits also a out x o s is counting; calm = closing.calm_one later waits also a out x o s is counting }))
+      (record { turn = closing.turn_one later waits also a out x o s is counting; quiescent = closing.quiescent_one later waits also a out x o s is counting }))
 
   module _ (free : commitment k s ≡ None) (last : goes_on_after (plan_of k s) s k a out ≡ false) where
     free_one : commitment dk v ≡ None
@@ -307,7 +307,7 @@ module _ (later : List (ℕ × RowEnd)) (waits : Line → Bool) (also : List ℕ
     pub kept_two : IsKept f
     kept_two = kept_along (then_commits ∷ []) v f kept_one does_two
 
-    pub apart_two : AreOfCall n (then_commits ∷ []) v
+    pub apart_two : ActionsAreOfCall n (then_commits ∷ []) v
     apart_two = (
       record {
         acts = ap (λ (q : Option Attempt). option_map_or (λ (i : ℕ). i == n) (option_map (λ (g : Attempt). g.row.call) q) true) there
@@ -448,7 +448,7 @@ module _ (later : List (ℕ × RowEnd)) (waits : Line → Bool) (also : List ℕ
   pub ahead_two : LinksAhead also x (all_left later f)
   ahead_two = commits_left later v a.place then_ there places also x (first.links_one later waits also a out x o s is)
 
-  pub unreset_two : AreUnreset f
+  pub unreset_two : NoStreamIsToReset f
   unreset_two = all_changed is_unreset (with_commitment (entry v)) (λ q e. e) a.place v.attempts (first.unreset_one later waits also a out x o s is)
 
   pub tokens_two : (i : ℕ) → is_some (numbered v.runs i) ≡ true → tokens_in_run f (Some i) ≡ tokens_in_run v (Some i)

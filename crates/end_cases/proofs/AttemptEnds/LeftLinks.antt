@@ -15,7 +15,7 @@ use Rattle.end_cases.specs.AttemptEnds.Ahead.{LinksAhead}
 use Rattle.end_cases.specs.AttemptEnds.Left.{all_left, rows_ended}
 use Rattle.grpc_base.specs.declared.event.EndCause.{EndCause}
 use Rattle.link_actions.proofs.Ended.{changed_one}
-use Rattle.link_actions.specs.Sees.{ArePlaced}
+use Rattle.link_actions.specs.Sees.{AttemptsStandInPlace}
 use Rattle.session_actions.specs.AttemptEnds.{with_end}
 use Rattle.session_actions.specs.Attempts.{with_attempt}
 use Rattle.session_actions.specs.CallEnds.{call_ended}
@@ -139,13 +139,13 @@ still_there (x ∷ later) n xs a there =
     record { one = q.one; there = q.there; call = q.call ∙ k.call }
 
 -- each stands at its place
-places_changed : (e : RowEnd) (n k : ℕ) (ys : List Attempt) → ArePlaced k ys → ArePlaced k (changed (with_end e) n ys)
+places_changed : (e : RowEnd) (n k : ℕ) (ys : List Attempt) → AttemptsStandInPlace k ys → AttemptsStandInPlace k (changed (with_end e) n ys)
 places_changed e zero k ys are = are
 places_changed e (suc i) k [] are = are
 places_changed e (suc zero) k (y ∷ ys) are = are
-places_changed e (suc (suc i)) k (y ∷ ys) are = subst (ArePlaced k) (sym (changed_down (with_end e) i y ys)) (are.0, places_changed e (suc i) (k + 1) ys are.1)
+places_changed e (suc (suc i)) k (y ∷ ys) are = subst (AttemptsStandInPlace k) (sym (changed_down (with_end e) i y ys)) (are.0, places_changed e (suc i) (k + 1) ys are.1)
 
-pub places_left : (later : List (ℕ × RowEnd)) (xs : List Attempt) → ArePlaced 1 xs → ArePlaced 1 (rows_ended later xs)
+pub places_left : (later : List (ℕ × RowEnd)) (xs : List Attempt) → AttemptsStandInPlace 1 xs → AttemptsStandInPlace 1 (rows_ended later xs)
 places_left [] xs places = places
 places_left (x ∷ later) xs places = places_left later (changed (with_end x.1) x.0 xs) (places_changed x.1 x.0 1 xs places)
 
@@ -155,7 +155,7 @@ pub calls_end_left : (later : List (ℕ × RowEnd)) (u : Seen) (number : ℕ) (w
 calls_end_left later u number why also x ahead = calls_end_ahead (all_left later u) number why also x ahead
 
 -- a call is committed
-module _ (later : List (ℕ × RowEnd)) (u : Seen) (place : ℕ) (pa : Attempt) (there : numbered u.attempts place ≡ Some pa) (places : ArePlaced 1 u.attempts) where
+module _ (later : List (ℕ × RowEnd)) (u : Seen) (place : ℕ) (pa : Attempt) (there : numbered u.attempts place ≡ Some pa) (places : AttemptsStandInPlace 1 u.attempts) where
   abbrev k : IsStillThere (rows_ended later u.attempts) place pa
   k = still_there later place u.attempts pa there
 
@@ -165,7 +165,7 @@ module _ (later : List (ℕ × RowEnd)) (u : Seen) (place : ℕ) (pa : Attempt) 
   abbrev v : Seen
   v = commits.v u place pa there places
 
-  places_w : ArePlaced 1 w.attempts
+  places_w : AttemptsStandInPlace 1 w.attempts
   places_w = places_left later u.attempts places
 
   same : commits.v w place k.one k.there places_w ≡ all_left later v

@@ -23,7 +23,7 @@ use Rattle.session_actions.specs.declared.entry.OpenEntry.{OpenEntry}
 use Rattle.session_actions.specs.declared.response.Outcome.{Outcome}
 use Rattle.session_actions.specs.declared.seen.Seen.{Seen}
 use Rattle.session_order.proofs.AttemptDone.{attempt_leaves}
-use Rattle.session_order.specs.Calm.{IsStill}
+use Rattle.session_order.specs.Quiescent.{IsStill}
 use Rattle.session_order.specs.Stirs.{stirs}
 use Rattle.session_order.specs.declared.line.Line.{Line}
 use Rattle.session_order.specs.declared.line.Line.TheVariants as line
@@ -55,7 +55,7 @@ module _ (later : List (ℕ × RowEnd)) (waits : Line → Bool) (also : List ℕ
       let two : Some (steady later waits also a out x o s is case).call ≡ Some dk = sym (steady later waits also a out x o s is case).own ∙ d_here later waits also a out x o s is in
       let same : (steady later waits also a out x o s is case).call ≡ dk = (cc) in
       let none : (is_of (steady later waits also a out x o s is case).call q && wants_follower q v) ≡ false
-      = numbered_not (waits_to_follow v (steady later waits also a out x o s is case).call) v.attempts (suc i) q (steady later waits also a out x o s is case).steady.calm at in
+      = numbered_not (waits_to_follow v (steady later waits also a out x o s is case).call) v.attempts (suc i) q (steady later waits also a out x o s is case).steady.quiescent at in
       ap (λ (b : Bool). b && wants_follower q v) (sym own) ∙ ap (λ (g : Call). is_of g q && wants_follower q v) (sym same) ∙ none
 
   wants_by : (i : ℕ) (q : Attempt) (b : Bool) → slice_get v.attempts i ≡ Some q → (q.row.call == number) ≡ b → wants_follower q v ≡ false

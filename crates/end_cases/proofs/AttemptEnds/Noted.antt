@@ -13,7 +13,7 @@ use Rattle.channel_actions.proofs.Outstanding.{any_of}
 use Rattle.channel_actions.proofs.Stamps.{counted_at, map_same, numbered_map}
 use Rattle.channel_actions.specs.Columns.{links_noted}
 use Rattle.channel_actions.specs.KeptSessions.Kept.{IsKept, came_up, is_on_link}
-use Rattle.channel_actions.specs.Sets.{AreExactly, is_in_outstanding}
+use Rattle.channel_actions.specs.Sets.{PairsAreExactly, is_in_outstanding}
 use Rattle.end_cases.proofs.AttemptEnds.After.{end, entry_is, t_is, u}
 use Rattle.end_cases.proofs.AttemptEnds.Base.{books}
 use Rattle.end_cases.proofs.AttemptEnds.Gone.{going_gone, gone_is, one_noted, stamp_away, stamp_here}
@@ -29,7 +29,7 @@ use Rattle.channel_core.specs.declared.state.links.LinkSlot.{LinkSlot}
 use Rattle.channel_net.specs.Steps.{NetSeen}
 use Rattle.end_cases.specs.AttemptEnds.Left.{all_left}
 use Rattle.ledger_stamps.specs.Steps.{gone_link}
-use Rattle.net_actions.specs.Sees.{AreSubs}
+use Rattle.net_actions.specs.Sees.{SubchannelsAgree}
 use Rattle.session_actions.specs.AttemptEnds.{with_end}
 use Rattle.session_actions.specs.Attempts.{is_of, is_outstanding, is_over}
 use Rattle.session_actions.specs.Closing.{noted_gone}
@@ -92,7 +92,7 @@ module _ (later : List (ℕ × RowEnd)) (waits : Line → Bool) (also : List ℕ
 
   -- with what the channel then is
   module _ (y : StateSeen) (ledger_same : y.book.ledger.links ≡ x.book.ledger.links) (entry_same : y.book.ledger.entry ≡ x.book.ledger.entry) (links_same : y.links ≡ x.links)
-      (net_same : y.net ≡ x.net) (outs : AreExactly y.outstanding (is_in_outstanding v)) (kept_then : IsKept v) where
+      (net_same : y.net ≡ x.net) (outs : PairsAreExactly y.outstanding (is_in_outstanding v)) (kept_then : IsKept v) where
     -- it was on no link
     all_off : a.row.placed ≡ None → (l : Link) → is_outstanding_on l a ≡ false
     all_off e l = ap (λ (q : Option Placed). (is_some q && is_none a.row.ended) && holds (λ (at : Placed). at.link == l.number) q) e
@@ -149,7 +149,7 @@ module _ (later : List (ℕ × RowEnd)) (waits : Line → Bool) (also : List ℕ
           ap (λ (q : Option Placed). numbered (gone_with q x).book.ledger.links at.link) (sym e) ∙ ap (λ (ls : List LinkSeen). numbered ls at.link) (sym was_noted)
           ∙ numbered_map (λ (q : Link). link_seen (noted_gone s q)) s.links at.link ∙ ap (option_map (λ (q : Link). link_seen (noted_gone s q))) came.1
 
-      outs_before : AreExactly x.outstanding (is_in_outstanding s)
+      outs_before : PairsAreExactly x.outstanding (is_in_outstanding s)
       outs_before = (books later waits also a out x o s is).sets.outstanding
 
       -- which sub it is of, whether or not it is stamped
@@ -175,7 +175,7 @@ module _ (later : List (ℕ × RowEnd)) (waits : Line → Bool) (also : List ℕ
             retiring = retiring y links_same;
             sub = ap (λ (ls : List LinkSeen). sub_of (numbered ls at.link)) ledger_same ∙ sub;
             out = outs;
-            subs = subst (λ (q : NetSeen). AreSubs 1 s.subs q.board q.links) (sym net_same) (books later waits also a out x o s is).net.subs_are;
+            subs = subst (λ (q : NetSeen). SubchannelsAgree 1 s.subs q.board q.links) (sym net_same) (books later waits also a out x o s is).net.subs_are;
             kept = kept_then;
           })
 

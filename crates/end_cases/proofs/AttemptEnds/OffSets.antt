@@ -7,7 +7,7 @@ use Rattle.std.specs.Set.{remove_key}
 use Rattle.attempt_ledger.specs.declared.row.Placed.{Placed}
 use Rattle.attempt_ledger.specs.declared.row.RowEnd.{RowEnd}
 use Rattle.channel_actions.proofs.Links.Settings.Pairs.{exactly_by, exactly_remove}
-use Rattle.channel_actions.specs.Sets.{AreExactly, is_in_outstanding}
+use Rattle.channel_actions.specs.Sets.{PairsAreExactly, is_in_outstanding}
 use Rattle.end_cases.proofs.AttemptEnds.Base.{books, c, call_is, out_off, queue_off}
 use Rattle.end_cases.specs.AttemptEnds.Ends.{EndNext}
 use Rattle.channel_core.specs.States.{StateSeen}
@@ -60,13 +60,13 @@ module _ (later : List (ℕ × RowEnd)) (waits : Line → Bool) (also : List ℕ
         subst (λ (m : ℕ). test m row ≡ other m row) (sym (eqb-true k n e)) (sym (own row ∙ and_keep (test n row) (row == a.place) (waits_ some row)))
     same_by some k row false e = sym (away k row e)
 
-    left_by : (p : Option Placed) → a.row.placed ≡ p → (pairs : List (ℕ × ℕ)) → AreExactly pairs test → AreExactly (queue_off n a.place p pairs) other
+    left_by : (p : Option Placed) → a.row.placed ≡ p → (pairs : List (ℕ × ℕ)) → PairsAreExactly pairs test → PairsAreExactly (queue_off n a.place p pairs) other
     left_by None e pairs h = exactly_by (remove_key (is_same (n, a.place)) pairs) (λ k row. test k row && not (is_same (n, a.place) (k, row))) other (exactly_remove pairs test (n, a.place) h) (λ k row. off_by k row (k == n) refl)
     left_by (Some at) e pairs h = exactly_by pairs test other h (λ k row. same_by (ap (λ (z : Option Placed). is_some z) e) k row (k == n) refl)
 
-    pub queue_left : (pairs : List (ℕ × ℕ)) → AreExactly pairs test → AreExactly (queue_off a.row.call a.place a.row.placed pairs) other
+    pub queue_left : (pairs : List (ℕ × ℕ)) → PairsAreExactly pairs test → PairsAreExactly (queue_off a.row.call a.place a.row.placed pairs) other
     queue_left pairs h =
-        subst (λ (m : ℕ). AreExactly (queue_off m a.place a.row.placed pairs) other) (sym (call_is later waits also a out x o s is)) (left_by a.row.placed refl pairs h)
+        subst (λ (m : ℕ). PairsAreExactly (queue_off m a.place a.row.placed pairs) other) (sym (call_is later waits also a out x o s is)) (left_by a.row.placed refl pairs h)
 
   -- the outstanding ones
   module _ (then_ : Seen) (out_same : (link row : ℕ) → is_in_outstanding then_ link row ≡ (is_in_outstanding s link row && not (row == a.place))) where
@@ -98,11 +98,11 @@ module _ (later : List (ℕ × RowEnd)) (waits : Line → Bool) (also : List ℕ
         subst (λ (m : ℕ). is_in_outstanding s link m ≡ is_in_outstanding then_ link m) (sym same)
         (none ∙ sym (out_same link a.place ∙ ap (λ (b : Bool). b && not (a.place == a.place)) none))
 
-    out_left_by : (p : Option Placed) → a.row.placed ≡ p → AreExactly (out_off a.place p x.outstanding) (is_in_outstanding then_)
+    out_left_by : (p : Option Placed) → a.row.placed ≡ p → PairsAreExactly (out_off a.place p x.outstanding) (is_in_outstanding then_)
     out_left_by None e = exactly_by x.outstanding (is_in_outstanding s) (is_in_outstanding then_) (books later waits also a out x o s is).sets.outstanding (λ link row. none_by e link row (row == a.place) refl)
     out_left_by (Some at) e =
         exactly_by (remove_key (is_same (at.link, a.place)) x.outstanding) (λ link row. is_in_outstanding s link row && not (is_same (at.link, a.place) (link, row))) (is_in_outstanding then_)
         (exactly_remove x.outstanding (is_in_outstanding s) (at.link, a.place) (books later waits also a out x o s is).sets.outstanding) (λ link row. out_by at e link row (row == a.place) refl)
 
-    pub out_left : AreExactly (out_off a.place a.row.placed x.outstanding) (is_in_outstanding then_)
+    pub out_left : PairsAreExactly (out_off a.place a.row.placed x.outstanding) (is_in_outstanding then_)
     out_left = out_left_by a.row.placed refl

@@ -12,9 +12,9 @@ use Rattle.call_actions.proofs.Places.{place_is}
 use Rattle.call_actions.specs.Sees.{is_live}
 use Rattle.channel_actions.proofs.Gone.{all_numbered}
 use Rattle.channel_actions.proofs.KeptSessions.Along.{kept_along}
-use Rattle.call_cases.specs.EndsFollow.Cuts.{AreUnreset, is_unreset}
+use Rattle.call_cases.specs.EndsFollow.Cuts.{NoStreamIsToReset, is_unreset}
 use Rattle.channel_actions.specs.KeptSessions.Kept.{IsKept}
-use Rattle.call_cases.specs.OtherCalls.Others.{AreOfCall, GoesApart, IsBooked}
+use Rattle.call_cases.specs.OtherCalls.Others.{ActionsAreOfCall, GoesApart, IsBooked}
 use Rattle.channel_actions.specs.Sets.{is_in_outstanding}
 use Rattle.end_cases.proofs.AttemptEnds.After.{attempt_at, attempts_are, end, in_out, put, put_call, put_out, t_is, u}
 use Rattle.end_cases.proofs.AttemptEnds.Agreeing.{early_by}
@@ -39,7 +39,7 @@ use Rattle.session_actions.specs.declared.link.Link.{Link}
 use Rattle.session_actions.specs.declared.response.Outcome.{Outcome}
 use Rattle.session_actions.specs.declared.seen.Seen.{Seen}
 use Rattle.session_order.proofs.AttemptDone.{attempt_leaves}
-use Rattle.session_order.specs.Calm.{IsStill}
+use Rattle.session_order.specs.Quiescent.{IsStill}
 use Rattle.session_order.specs.Stirs.{stirs}
 use Rattle.session_order.specs.declared.line.Line.{Line}
 
@@ -87,7 +87,7 @@ module _ (later : List (ℕ × RowEnd)) (waits : Line → Bool) (also : List ℕ
   booked : (q : Seen) → IsKept q → IsBooked q
   booked q h = record { book = h.book; owned = h.owned; reads = h.reads }
 
-  pub of_call_one : AreOfCall n (act ∷ []) s
+  pub of_call_one : ActionsAreOfCall n (act ∷ []) s
   of_call_one = (
     record {
       acts = ap (λ (q : Option Attempt). option_map_or (λ (i : ℕ). i == n) (option_map (λ (b : Attempt). b.row.call) q) true) is.ending.there
@@ -130,7 +130,7 @@ module _ (later : List (ℕ × RowEnd)) (waits : Line → Bool) (also : List ℕ
       = sym at ∙ sym (ap (numbered v.attempts) (place_is (suc i) v.attempts q kept_one.book.places at)) ∙ ap (numbered v.attempts) (eqb-true q.place a.place here) ∙ one_there in
       (cc)
 
-  pub unreset_one : AreUnreset v
+  pub unreset_one : NoStreamIsToReset v
   unreset_one = all_changed is_unreset (with_end (end later waits also a out x o s is)) (λ b e. refl) a.place s.attempts is.unreset
 
   pub fewer_one : (link row : ℕ) → is_in_outstanding v link row ≡ true → is_in_outstanding s link row ≡ true

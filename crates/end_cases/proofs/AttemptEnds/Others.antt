@@ -21,7 +21,7 @@ use Rattle.session_actions.specs.Words.{holds, numbered}
 use Rattle.session_actions.specs.declared.attempt.Attempt.{Attempt}
 use Rattle.session_actions.specs.declared.call.Call.{Call}
 use Rattle.session_actions.specs.declared.seen.Seen.{Seen}
-use Rattle.session_order.specs.Calm.{is_to_cut}
+use Rattle.session_order.specs.Quiescent.{is_to_cut}
 
 -- none passes, where each does not
 pub none_at : {X : Type 0} (test : X → Bool) (xs : List X) → ((i : ℕ) (x : X) → slice_get xs i ≡ Some x → test x ≡ false) → list_any test xs ≡ false

@@ -7,9 +7,9 @@ use Rattle.attempt_ledger.specs.declared.ledger.CallSeen.{CallSeen}
 use Rattle.attempt_ledger.specs.declared.row.RowEnd.{RowEnd}
 use Rattle.call_actions.proofs.TakeActions.Deadlines.{deadline_is}
 use Rattle.call_actions.specs.Laws.{AttemptsAreDue}
-use Rattle.call_actions.specs.Order.{AreNumbered, IsInOrder, IsInTurn}
+use Rattle.call_actions.specs.Order.{AttemptsAreNumbered, IsInOrder, IsInTurn}
 use Rattle.call_actions.specs.Sees.{Sees}
-use Rattle.call_actions.specs.TakeActions.Serves.{ArePlaced, Holds, IsLeft, Serves, came}
+use Rattle.call_actions.specs.TakeActions.Serves.{AttemptsStandInPlace, Holds, IsLeft, Serves, came}
 use Rattle.call_core.specs.Laws as channel_laws
 use Rattle.call_core.specs.Steps.{Stepped}
 use Rattle.call_core.specs.declared.inbox.Inbox.{Inbox}
@@ -18,7 +18,7 @@ use Rattle.end_cases.proofs.AttemptEnds.After.{d, free_then, u}
 use Rattle.end_cases.proofs.AttemptEnds.Base.{c, has, slot, x1}
 use Rattle.end_cases.proofs.AttemptEnds.Buffers.{closed_is}
 use Rattle.end_cases.proofs.AttemptEnds.Fed.{buffer_then, free_buffer, holds_then}
-use Rattle.end_cases.proofs.AttemptEnds.Told.{slot_after}
+use Rattle.end_cases.proofs.AttemptEnds.Report.{slot_after}
 use Rattle.end_cases.specs.AttemptEnds.Ends.{EndNext}
 use Rattle.channel_core.specs.States.{StateSeen}
 use Rattle.channel_core.specs.Tables.{tokens_in}
@@ -38,7 +38,7 @@ use Rattle.session_actions.specs.declared.response.Outcome.{Outcome}
 use Rattle.session_actions.specs.declared.seen.Seen.{Seen}
 use Rattle.session_order.specs.declared.line.Line.{Line}
 
-placed_by : (n : ℕ) (xs : List Attempt) → AreNumbered n xs → ArePlaced n xs
+placed_by : (n : ℕ) (xs : List Attempt) → AttemptsAreNumbered n xs → AttemptsStandInPlace n xs
 placed_by n [] p = tt
 placed_by n (q ∷ xs) p = (p.0, placed_by (suc n) xs p.1)
 

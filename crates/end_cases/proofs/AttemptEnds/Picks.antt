@@ -22,8 +22,8 @@ use Rattle.session_actions.specs.declared.response.Outcome.{Outcome}
 use Rattle.session_actions.specs.declared.seen.Seen.{Seen}
 use Rattle.session_actions.specs.declared.subchannel.Subchannel.{Subchannel}
 use Rattle.session_actions.specs.Events.{is_loss}
-use Rattle.session_order.proofs.Calms.{first_line_gives}
-use Rattle.session_order.specs.Calm.{IsStill, can_follow, is_to_follow_pick}
+use Rattle.session_order.proofs.Quiescence.{first_line_gives}
+use Rattle.session_order.specs.Quiescent.{IsStill, can_follow, is_to_follow_pick}
 use Rattle.session_order.specs.Lines.{rank}
 use Rattle.session_order.specs.declared.line.Line.{Line}
 use Rattle.session_order.specs.declared.line.Line.TheVariants as line

@@ -7,7 +7,7 @@ use Rattle.channel_actions.proofs.Links.Settings.Pairs.{exactly_by}
 use Rattle.channel_actions.proofs.Links.Settings.Timers.{timers_exactly}
 use Rattle.channel_actions.specs.Calls.{deadline_of, due_of}
 use Rattle.call_cases.specs.OtherCalls.Laws.{SetsApart}
-use Rattle.channel_actions.specs.Sets.{AreExactly, is_in_bare, is_in_deadlines, is_in_dues, is_in_impatient, is_in_patient, is_in_queue, is_patient, is_waiting}
+use Rattle.channel_actions.specs.Sets.{PairsAreExactly, is_awaiting_config, is_in_deadlines, is_in_dues, is_in_fail_fast, is_in_ready_waiters, is_in_queue, is_ready_waiter, is_waiting}
 use Rattle.end_cases.proofs.AttemptEnds.After.{d, d_here, in_out, in_wait, u}
 use Rattle.end_cases.proofs.AttemptEnds.Base.{books, c, has, here, out_off, queue_off, slot}
 use Rattle.end_cases.proofs.AttemptEnds.OffSets.{out_left, queue_left}
@@ -52,17 +52,17 @@ module _ (later : List (ℕ × RowEnd)) (waits : Line → Bool) (also : List ℕ
   abbrev sets : SetsAgree x s
   sets = record {
     queue = (books later waits also a out x o s is).sets.queue;
-    patient = (books later waits also a out x o s is).sets.patient;
+    ready_waiters = (books later waits also a out x o s is).sets.ready_waiters;
     dues = (books later waits also a out x o s is).sets.dues;
     deadlines = (books later waits also a out x o s is).sets.deadlines;
-    bare = (books later waits also a out x o s is).sets.bare;
-    impatient = (books later waits also a out x o s is).sets.impatient;
+    awaiting_config = (books later waits also a out x o s is).sets.awaiting_config;
+    fail_fast = (books later waits also a out x o s is).sets.fail_fast;
     outstanding = (books later waits also a out x o s is).sets.outstanding;
   }
 
   -- whether the call waits for ready
-  patient_same : is_patient then_ n ≡ is_patient s n
-  patient_same = ap (holds (λ (k : Call). waits_for_ready k then_)) (d_here later waits also a out x o s is) ∙ sym (ap (holds (λ (k : Call). waits_for_ready k s)) (here later waits also a out x o s is))
+  wait_for_ready_same : is_ready_waiter then_ n ≡ is_ready_waiter s n
+  wait_for_ready_same = ap (holds (λ (k : Call). waits_for_ready k then_)) (d_here later waits also a out x o s is) ∙ sym (ap (holds (λ (k : Call). waits_for_ready k s)) (here later waits also a out x o s is))
 
   wait_same : (row : ℕ) → is_waiting then_ n row ≡ (is_waiting s n row && not (row == a.place))
   wait_same row = in_wait later waits also a out x o s is open_now free row
@@ -83,45 +83,45 @@ module _ (later : List (ℕ × RowEnd)) (waits : Line → Bool) (also : List ℕ
   waiting_of : (b : Bool) (row : ℕ) → (is_waiting s n row && b) ≡ true → is_waiting s n row ≡ true
   waiting_of b row e = (and_parts (is_waiting s n row) b e).0
 
-  pub queue_then : AreExactly (queue_off a.row.call a.place a.row.placed x.queue) (is_in_queue then_)
+  pub queue_then : PairsAreExactly (queue_off a.row.call a.place a.row.placed x.queue) (is_in_queue then_)
   queue_then =
       queue_left later waits also a out x o s is (is_in_queue s) (is_in_queue then_)
-      (λ row. ap (λ (b : Bool). b && not (is_patient then_ n)) (wait_same row) ∙ ap (λ (b : Bool). (is_waiting s n row && not (row == a.place)) && not b) patient_same
-      ∙ queue_by (not (is_patient s n)) row)
-      (λ k row e. others.queue k row e) (λ some row e. not_waiting some row (row == a.place) refl (waiting_of (not (is_patient s n)) row e)) x.queue sets.queue
+      (λ row. ap (λ (b : Bool). b && not (is_ready_waiter then_ n)) (wait_same row) ∙ ap (λ (b : Bool). (is_waiting s n row && not (row == a.place)) && not b) wait_for_ready_same
+      ∙ queue_by (not (is_ready_waiter s n)) row)
+      (λ k row e. others.queue k row e) (λ some row e. not_waiting some row (row == a.place) refl (waiting_of (not (is_ready_waiter s n)) row e)) x.queue sets.queue
 
-  pub patient_then : AreExactly (queue_off a.row.call a.place a.row.placed x.patient) (is_in_patient then_)
-  patient_then =
-      queue_left later waits also a out x o s is (is_in_patient s) (is_in_patient then_)
-      (λ row. ap (λ (b : Bool). b && is_patient then_ n) (wait_same row) ∙ ap (λ (b : Bool). (is_waiting s n row && not (row == a.place)) && b) patient_same ∙ queue_by (is_patient s n) row)
-      (λ k row e. others.patient k row e) (λ some row e. not_waiting some row (row == a.place) refl (waiting_of (is_patient s n) row e)) x.patient sets.patient
+  pub wait_for_ready_then : PairsAreExactly (queue_off a.row.call a.place a.row.placed x.ready_waiters) (is_in_ready_waiters then_)
+  wait_for_ready_then =
+      queue_left later waits also a out x o s is (is_in_ready_waiters s) (is_in_ready_waiters then_)
+      (λ row. ap (λ (b : Bool). b && is_ready_waiter then_ n) (wait_same row) ∙ ap (λ (b : Bool). (is_waiting s n row && not (row == a.place)) && b) wait_for_ready_same ∙ queue_by (is_ready_waiter s n) row)
+      (λ k row e. others.ready_waiters k row e) (λ some row e. not_waiting some row (row == a.place) refl (waiting_of (is_ready_waiter s n) row e)) x.ready_waiters sets.ready_waiters
 
   -- calls without a config
-  bare_by : (z k : ℕ) (b : Bool) → (k == n) ≡ b → is_in_bare s z k ≡ is_in_bare then_ z k
-  bare_by z k true e =
-      subst (λ (m : ℕ). is_in_bare s z m ≡ is_in_bare then_ z m) (sym (eqb-true k n e))
+  unconfigured_by : (z k : ℕ) (b : Bool) → (k == n) ≡ b → is_awaiting_config s z k ≡ is_awaiting_config then_ z k
+  unconfigured_by z k true e =
+      subst (λ (m : ℕ). is_awaiting_config s z m ≡ is_awaiting_config then_ z m) (sym (eqb-true k n e))
       (ap (λ (r : Option Call). (z == 0) && holds (λ (g : Call). is_open_call g && is_none g.config) r) (here later waits also a out x o s is)
       ∙ sym (ap (λ (r : Option Call). (z == 0) && holds (λ (g : Call). is_open_call g && is_none g.config) r) (d_here later waits also a out x o s is)))
-  bare_by z k false e = sym (others.bare z k e)
+  unconfigured_by z k false e = sym (others.awaiting_config z k e)
 
-  impatient_by : (z k : ℕ) (b : Bool) → (k == n) ≡ b → is_in_impatient s z k ≡ is_in_impatient then_ z k
-  impatient_by z k true e =
-      subst (λ (m : ℕ). is_in_impatient s z m ≡ is_in_impatient then_ z m) (sym (eqb-true k n e))
-      (ap (λ (b : Bool). b && not (is_patient s n)) (bare_by z n true (eq-eqb n n refl)) ∙ ap (λ (b : Bool). is_in_bare then_ z n && not b) (sym patient_same))
-  impatient_by z k false e = sym (others.impatient z k e)
+  fail_fast_by : (z k : ℕ) (b : Bool) → (k == n) ≡ b → is_in_fail_fast s z k ≡ is_in_fail_fast then_ z k
+  fail_fast_by z k true e =
+      subst (λ (m : ℕ). is_in_fail_fast s z m ≡ is_in_fail_fast then_ z m) (sym (eqb-true k n e))
+      (ap (λ (b : Bool). b && not (is_ready_waiter s n)) (unconfigured_by z n true (eq-eqb n n refl)) ∙ ap (λ (b : Bool). is_awaiting_config then_ z n && not b) (sym wait_for_ready_same))
+  fail_fast_by z k false e = sym (others.fail_fast z k e)
 
   -- with the timers of the call
   module _ (after : CallSlot) (due : due_of then_ (d later waits also a out x o s is) ≡ after.due) (past : deadline_of then_ (d later waits also a out x o s is) ≡ after.deadline) where
     pub sets_then : SetsAgree (record x {
       queue = queue_off a.row.call a.place a.row.placed x.queue;
-      patient = queue_off a.row.call a.place a.row.placed x.patient;
+      ready_waiters = queue_off a.row.call a.place a.row.placed x.ready_waiters;
       outstanding = out_off a.place a.row.placed x.outstanding;
       dues = timer_moved n (slot later waits also a out x o s is).due after.due x.dues;
       deadlines = timer_moved n (slot later waits also a out x o s is).deadline after.deadline x.deadlines;
     }) then_
     sets_then = record {
       queue = queue_then;
-      patient = patient_then;
+      ready_waiters = wait_for_ready_then;
       dues = timers_exactly n x.dues (is_in_dues s) (slot later waits also a out x o s is).due after.due sets.dues
           (λ m. ap (holds (λ (k : Call). is_number m (due_of s k))) (here later waits also a out x o s is) ∙ ap (is_number m) (has later waits also a out x o s is).sees.due)
           (is_in_dues then_) (λ m k e. others.dues m k e)
@@ -130,7 +130,7 @@ module _ (later : List (ℕ × RowEnd)) (waits : Line → Bool) (also : List ℕ
           (λ m. ap (holds (λ (k : Call). is_number m (deadline_of s k))) (here later waits also a out x o s is) ∙ ap (is_number m) (has later waits also a out x o s is).sees.deadline_is)
           (is_in_deadlines then_) (λ m k e. others.deadlines m k e)
           (λ m. ap (holds (λ (k : Call). is_number m (deadline_of then_ k))) (d_here later waits also a out x o s is) ∙ ap (is_number m) past);
-      bare = exactly_by x.bare (is_in_bare s) (is_in_bare then_) sets.bare (λ z k. bare_by z k (k == n) refl);
-      impatient = exactly_by x.impatient (is_in_impatient s) (is_in_impatient then_) sets.impatient (λ z k. impatient_by z k (k == n) refl);
+      awaiting_config = exactly_by x.awaiting_config (is_awaiting_config s) (is_awaiting_config then_) sets.awaiting_config (λ z k. unconfigured_by z k (k == n) refl);
+      fail_fast = exactly_by x.fail_fast (is_in_fail_fast s) (is_in_fail_fast then_) sets.fail_fast (λ z k. fail_fast_by z k (k == n) refl);
       outstanding = out_left later waits also a out x o s is then_ (in_out later waits also a out x o s is);
     }

@@ -3,7 +3,7 @@ use Rattle.std.proofs.Common.{◌≡◌, ◌&&◌, ◌==◌, ap, subst, sym, ◌
 use Rattle.std.specs.List.{list_any}
 use Rattle.call_actions.proofs.Lists.{filter_none}
 use Rattle.channel_actions.specs.Agrees.{Agrees}
-use Rattle.call_cases.specs.EndsFollow.Cuts.{AreUnreset}
+use Rattle.call_cases.specs.EndsFollow.Cuts.{NoStreamIsToReset}
 use Rattle.channel_actions.specs.Links.{HasLink, IsGoing, lines_in}
 use Rattle.end_cases.specs.AttemptEnds.Ahead.{AgreesAhead, HasLinkAhead, IsAhead, is_owed_on, owed_reset, resets_owed}
 use Rattle.end_cases.specs.AttemptEnds.Laws.{NoneIsOwed}
@@ -16,7 +16,7 @@ use Rattle.session_actions.specs.Links.{link_number}
 use Rattle.session_actions.specs.declared.attempt.Attempt.{Attempt}
 use Rattle.session_actions.specs.declared.link.Link.{Link}
 use Rattle.session_actions.specs.declared.seen.Seen.{Seen}
-use Rattle.session_order.specs.Calm.{is_to_reset}
+use Rattle.session_order.specs.Quiescent.{is_to_reset}
 
 pub none_owed : (s : Seen) → list_any (is_to_reset s) s.attempts ≡ false → (l : Link) → resets_owed l s ≡ []
 none_owed s none l =
@@ -55,11 +55,11 @@ module _ (x : StateSeen) (s : Seen) (h : AgreesAhead [] [] x s) (none : list_any
     orderly = h.books.orderly;
     sets = record {
       queue = h.books.sets.queue;
-      patient = h.books.sets.patient;
+      ready_waiters = h.books.sets.ready_waiters;
       dues = h.books.sets.dues;
       deadlines = h.books.sets.deadlines;
-      bare = h.books.sets.bare;
-      impatient = h.books.sets.impatient;
+      awaiting_config = h.books.sets.awaiting_config;
+      fail_fast = h.books.sets.fail_fast;
       outstanding = h.books.sets.outstanding;
       resets = closed;
     };
@@ -70,7 +70,7 @@ pub none_is_owed : NoneIsOwed
 none_is_owed x s h none closed = agrees x s h none closed
 
 -- and what agrees agrees ahead, by none
-module _ (also : List ℕ) (x : StateSeen) (s : Seen) (h : Agrees x s) (unreset : AreUnreset s) (none : list_any (is_to_reset s) s.attempts ≡ false) where
+module _ (also : List ℕ) (x : StateSeen) (s : Seen) (h : Agrees x s) (unreset : NoStreamIsToReset s) (none : list_any (is_to_reset s) s.attempts ≡ false) where
   none_of : (l : Link) → resets_owed l s ≡ []
   none_of = none_owed s none
 
@@ -102,11 +102,11 @@ module _ (also : List ℕ) (x : StateSeen) (s : Seen) (h : Agrees x s) (unreset 
       orderly = h.orderly;
       sets = record {
         queue = h.sets.queue;
-        patient = h.sets.patient;
+        ready_waiters = h.sets.ready_waiters;
         dues = h.sets.dues;
         deadlines = h.sets.deadlines;
-        bare = h.sets.bare;
-        impatient = h.sets.impatient;
+        awaiting_config = h.sets.awaiting_config;
+        fail_fast = h.sets.fail_fast;
         outstanding = h.sets.outstanding;
       };
       kept = h.kept;

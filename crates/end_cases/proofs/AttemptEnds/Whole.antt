@@ -2,7 +2,7 @@
 use Rattle.std.proofs.Common.{◌≡◌, ◌==◌, ◌&&◌, not, refl, subst, sym, ◌∙◌, Bool, true, false, List, [], ℕ}
 use Rattle.attempt_ledger.specs.declared.row.RowEnd.{RowEnd}
 use Rattle.call_actions.proofs.CallsApart.Moves.{all_changed}
-use Rattle.call_cases.specs.EndsFollow.Cuts.{AreUnreset, is_unreset}
+use Rattle.call_cases.specs.EndsFollow.Cuts.{NoStreamIsToReset, is_unreset}
 use Rattle.call_cases.specs.EndsFollow.Laws.{is_late}
 use Rattle.channel_actions.specs.Sets.{is_in_outstanding}
 use Rattle.end_cases.proofs.AttemptEnds.After.{end, in_out}
@@ -22,7 +22,7 @@ use Rattle.session_actions.specs.declared.attempt.Attempt.{Attempt}
 use Rattle.session_actions.specs.declared.entry.OpenEntry.{OpenEntry}
 use Rattle.session_actions.specs.declared.response.Outcome.{Outcome}
 use Rattle.session_actions.specs.declared.seen.Seen.{Seen}
-use Rattle.session_order.specs.Calm.{IsStill}
+use Rattle.session_order.specs.Quiescent.{IsStill}
 use Rattle.session_order.specs.declared.line.Line.{Line}
 use Rattle.session_order.specs.declared.line.Line.TheVariants as line
 
@@ -82,7 +82,7 @@ module _ (later : List (ℕ × RowEnd)) (waits : Line → Bool) (also : List ℕ
   late_then line.WireEnd late off = absurd (cc)
   late_then line.Reset late off = absurd (cc)
 
-  unreset_then : AreUnreset v
+  unreset_then : NoStreamIsToReset v
   unreset_then = all_changed is_unreset (with_end (end later waits also a out x o s is)) (λ b e. refl) a.place s.attempts is.unreset
 
   agrees_then : AgreesAhead later also (ended_in a (news later waits also a out x o s is) x) v

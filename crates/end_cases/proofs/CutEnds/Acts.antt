@@ -1,4 +1,4 @@
--- A call of the channel hears that one of its attempts ended, and ends by it, and the rows that go on are given up: the book, the timers, links, sets of rows and
+-- A call of the channel is notified that one of its attempts ended, and ends by it, and the rows that go on are given up: the book, the timers, links, sets of rows and
 -- stamps change, and the call waits for no config.
 use Rattle.attempt_ledger.specs.declared.news.EndNews.{EndNews}
 use Rattle.attempt_ledger.specs.declared.news.News.TheVariants as news_of_link
@@ -15,8 +15,8 @@ use Rattle.channel_actions.proofs.Links.Settings.Slots.{changed_slot_is, set_twi
 use Rattle.end_cases.proofs.AttemptEnds.Base.{c, call_is, news, row_is, slot_there, z}
 use Rattle.end_cases.proofs.AttemptEnds.Closing as closing
 use Rattle.end_cases.proofs.AttemptEnds.Closing.{Parts}
-use Rattle.end_cases.proofs.AttemptEnds.Told.{book_with, slot_after, step_of, told_form}
-use Rattle.end_cases.proofs.AttemptEnds.ToldEnd.{acted_so, b, slot_is}
+use Rattle.end_cases.proofs.AttemptEnds.Report.{book_with, slot_after, step_of, reported_form}
+use Rattle.end_cases.proofs.AttemptEnds.ReportedEnd.{acted_so, b, slot_is}
 use Rattle.attempt_cases.proofs.CallCommits.Linked.{all_passing}
 use Rattle.attempt_ledger.specs.declared.row.RowEnd.{RowEnd}
 use Rattle.call_cases.proofs.ConfiguredCalls.Lists.{same_words}
@@ -28,7 +28,7 @@ use Rattle.end_cases.specs.AttemptEnds.Ends.{EndNext}
 use Rattle.end_cases.specs.AttemptEnds.Laws.{goes_on_after}
 use Rattle.channel_core.specs.Books.{BookActs, call_of, deadline_of, due_at, has_drawn, link_of, link_of_placed, row_at, slot_at}
 use Rattle.channel_core.specs.States.{StateSeen}
-use Rattle.channel_core.specs.Steps.{acts_done, clothed, drawn_if, timers_moved, timers_moved_to, told, told_acts, told_to}
+use Rattle.channel_core.specs.Steps.{acts_done, given_config, drawn_if, timers_moved, timers_moved_to, reported, reported_acts, reported_to}
 use Rattle.channel_core.specs.Tables as tables
 use Rattle.channel_core.specs.Tables.{with_call, with_timers}
 use Rattle.channel_core.specs.declared.state.slots.CallSlot.{CallSlot}
@@ -57,14 +57,14 @@ module _ (place : ℕ) (end : EndNews) (n : ℕ) (z : StateSeen) (held : CallSlo
   acted r = acts_done n (map given rows) (begun r)
 
   abbrev pub closed_rows : Stepped → StateSeen
-  closed_rows r = record (told_form place n r held z) {
+  closed_rows r = record (reported_form place n r held z) {
     links = (acted r).links;
     resets = (acted r).resets;
     outstanding = (acted r).outstanding;
     queue = (acted r).queue;
-    patient = (acted r).patient;
-    bare = remove_key (is_same (0, n)) (acted r).bare;
-    impatient = remove_key (is_same (0, n)) (acted r).impatient;
+    ready_waiters = (acted r).ready_waiters;
+    awaiting_config = remove_key (is_same (0, n)) (acted r).awaiting_config;
+    fail_fast = remove_key (is_same (0, n)) (acted r).fail_fast;
     book = record (book_with n r held (slot_after r held) z.book) { ledger = record r.ledger { links = (acted r).book.ledger.links } };
   }
 
@@ -80,24 +80,24 @@ module _ (place : ℕ) (end : EndNews) (n : ℕ) (z : StateSeen) (held : CallSlo
   form : last0 ≡ parts_of last0 (begun r0)
   form = acts_form n (map given rows) (begun r0)
 
-  slot_last : slot_at (clothed n last0).book n ≡ Some v0
+  slot_last : slot_at (given_config n last0).book n ≡ Some v0
   slot_last = ap (λ (q : StateSeen). slot_at q.book n) form ∙ slot_is place end n z held row row_is call_is there why
 
-  timed : timers_moved_to n (Some v0) (clothed n (parts_of last0 (begun r0))) ≡ closed_rows r0
+  timed : timers_moved_to n (Some v0) (given_config n (parts_of last0 (begun r0))) ≡ closed_rows r0
   timed =
       ap (λ (calls : List CallSlot). record (closed_rows r0) { book = record (closed_rows r0).book { calls = calls } })
       (changed_slot_is (with_timers (due_at (Some v0)) (deadline_of (Some v0))) (slice_set z.book.calls (n - 1) v0) n v0 (slot_is place end n z held row row_is call_is there why)
       ∙ set_twice z.book.calls (n - 1) v0 (slot_after r0 held))
 
-  pub told_rows : r0.acts ≡ map given rows ++ act.End why ∷ [] → told place (news_of_link.Ended place end) z ≡ closed_rows r0
-  told_rows acts =
-      ap (λ (q : Option Row). told_to (call_of q) place (news_of_link.Ended place end) z) row_is
-      ∙ ap (λ (i : ℕ). told_to i place (news_of_link.Ended place end) z) call_is
-      ∙ ap (λ (q : BookActs). told_acts q n place z)
+  pub reported_rows : r0.acts ≡ map given rows ++ act.End why ∷ [] → reported place (news_of_link.Ended place end) z ≡ closed_rows r0
+  reported_rows acts =
+      ap (λ (q : Option Row). reported_to (call_of q) place (news_of_link.Ended place end) z) row_is
+      ∙ ap (λ (i : ℕ). reported_to i place (news_of_link.Ended place end) z) call_is
+      ∙ ap (λ (q : BookActs). reported_acts q n place z)
       (acted_so place end n z held row row_is call_is there why ∙ ap (λ (those : List CallAct). record { book = b place end n z held row row_is call_is there why; acts = those }) acts)
       ∙ ap (timers_moved n) (done_append n (map given rows) (act.End why ∷ []) (begun r0))
-      ∙ ap (λ (q : Option CallSlot). timers_moved_to n q (clothed n last0)) slot_last
-      ∙ ap (λ (q : StateSeen). timers_moved_to n (Some v0) (clothed n q)) form
+      ∙ ap (λ (q : Option CallSlot). timers_moved_to n q (given_config n last0)) slot_last
+      ∙ ap (λ (q : StateSeen). timers_moved_to n (Some v0) (given_config n q)) form
       ∙ timed
 
 module _ (later : List (ℕ × RowEnd)) (waits : Line → Bool) (also : List ℕ) (a : Attempt) (out : Outcome) (x : StateSeen) (o : OpenEntry) (s : Seen) (is : EndNext later waits also a out x o s)
@@ -168,18 +168,18 @@ module _ (later : List (ℕ × RowEnd)) (waits : Line → Bool) (also : List ℕ
     resets = last.resets;
     outs = last.outstanding;
     queue = last.queue;
-    patient = last.patient;
+    ready_waiters = last.ready_waiters;
     stamps = last.book.ledger.links;
   }
 
   abbrev pub then_ : StateSeen
-  then_ = closing.told_with later waits also a out x o s is counting (made later waits also a out x o s is counting free final last_end) parts
+  then_ = closing.reported_with later waits also a out x o s is counting (made later waits also a out x o s is counting free final last_end) parts
 
-  pub told_is : told a.place (news_of_link.Ended a.place (news later waits also a out x o s is)) z1 ≡ then_
-  told_is =
-      told_rows a.place (news later waits also a out x o s is) n z1 was a.row (row_is later waits also a out x o s is) (call_is later waits also a out x o s is) (slot_there later waits also a out x o s is)
+  pub reported_is : reported a.place (news_of_link.Ended a.place (news later waits also a out x o s is)) z1 ≡ then_
+  reported_is =
+      reported_rows a.place (news later waits also a out x o s is) n z1 was a.row (row_is later waits also a out x o s is) (call_is later waits also a out x o s is) (slot_there later waits also a out x o s is)
       ending_cause.Row rows1 (ap (λ (q : Stepped). q.acts) (steps_so later waits also a out x o s is counting free final last_end).step_is)
       ∙ ap (λ (q : Stepped). closed_rows a.place (news later waits also a out x o s is) n z1 was a.row (row_is later waits also a out x o s is) (call_is later waits also a out x o s is)
       (slot_there later waits also a out x o s is) ending_cause.Row rows1 q) (steps_so later waits also a out x o s is counting free final last_end).step_is
-      ∙ ap (λ (pairs : List (ℕ × ℕ)). record then_ { bare = remove_key (is_same (0, n)) pairs; impatient = remove_key (is_same (0, n)) last.impatient }) is_done.bare
-      ∙ ap (λ (pairs : List (ℕ × ℕ)). record then_ { impatient = remove_key (is_same (0, n)) pairs }) is_done.impatient
+      ∙ ap (λ (pairs : List (ℕ × ℕ)). record then_ { awaiting_config = remove_key (is_same (0, n)) pairs; fail_fast = remove_key (is_same (0, n)) last.fail_fast }) is_done.awaiting_config
+      ∙ ap (λ (pairs : List (ℕ × ℕ)). record then_ { fail_fast = remove_key (is_same (0, n)) pairs }) is_done.fail_fast

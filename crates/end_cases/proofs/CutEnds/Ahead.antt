@@ -6,17 +6,17 @@ use Rattle.call_actions.proofs.CallsApart.Moves.{all_changed}
 use Rattle.call_actions.proofs.Ranks.{numbered_map}
 use Rattle.call_cases.proofs.EndsFollow.Codes.{cut_waiting, ended_code, going_code}
 use Rattle.channel_actions.proofs.Gone.{all_numbered}
-use Rattle.call_cases.proofs.LinkEnds.Behind.{IsKeptSlot, cut_at, cut_keeps, of_readers, off_placed, on_placed, readers_of, slots_cut}
+use Rattle.call_cases.proofs.LinkEnds.After.{IsKeptSlot, cut_at, cut_keeps, of_readers, off_placed, on_placed, readers_of, slots_cut}
 use Rattle.call_cases.proofs.LinkEnds.Codes.{cut_code}
 use Rattle.call_cases.proofs.LinkEnds.Cutting.{IsHere, attempts_are, cut_elsewhere, end_outstanding, filter_same, here_filtered, links_are, on_it, one_of_places, readers_elsewhere, readers_here}
 use Rattle.call_cases.proofs.LinkEnds.Resets.{IsOwed, is_owed, relined}
 use Rattle.channel_actions.proofs.Stamps.{counted_at}
-use Rattle.call_cases.specs.EndsFollow.Cuts.{AreCutOff, AreUnreset, IsOut, cut_off, is_unreset}
-use Rattle.channel_actions.specs.KeptSessions.Kept.{AreCounted}
+use Rattle.call_cases.specs.EndsFollow.Cuts.{AttemptsAreCutOff, NoStreamIsToReset, IsOut, cut_off, is_unreset}
+use Rattle.channel_actions.specs.KeptSessions.Kept.{NumbersCountUp}
 use Rattle.call_cases.specs.LinkEnds.Cuts.{links_cut}
 use Rattle.channel_actions.specs.Links.{lines_in}
-use Rattle.channel_actions.specs.OwnStreams.Own.{AreApart}
-use Rattle.call_cases.proofs.CallPosts.Told.{map_changed}
+use Rattle.channel_actions.specs.OwnStreams.Own.{StreamsAreApart}
+use Rattle.call_cases.proofs.CallPosts.Report.{map_changed}
 use Rattle.end_cases.proofs.CutEnds.Pairs.{all_away, gains, is_away, owed_sorted, put_is_reset, put_pair, sorted, sorted_same}
 use Rattle.end_cases.proofs.OwedResets.First.{stays_out}
 use Rattle.end_cases.specs.AttemptEnds.Ahead.{HasLinkAhead, IsAhead, LinksAhead, is_owed_on, owed_reset, resets_owed}
@@ -37,7 +37,7 @@ use Rattle.link_actions.proofs.Without.{changed_at, places_at}
 use Rattle.link_actions.specs.ResetActions.Ahead.{put_reset}
 use Rattle.link_actions.specs.ResetActions.Laws.{IsCut}
 use Rattle.link_actions.specs.ResponseActions.Readers.{SeesReaders}
-use Rattle.link_actions.specs.Sees.{ArePlaced}
+use Rattle.link_actions.specs.Sees.{AttemptsStandInPlace}
 use Rattle.link_actions.specs.StreamActions.Laws.{IsOn}
 use Rattle.session_actions.specs.AttemptEnds.{code_at_end, code_for_stream, code_to_reset, cut_end, end_of, reset_code_of, with_end}
 use Rattle.session_actions.specs.Attempts.{is_outstanding}
@@ -57,7 +57,7 @@ use Rattle.std.specs.List.{list_all}
 use Rattle.std.specs.Option.{option_map_or}
 use Rattle.std.specs.Prelude.{option_and_then}
 
-module _ (s : Seen) (a : Attempt) (out : IsOut s a) (places : ArePlaced 1 s.attempts) (apart : AreApart s.attempts) where
+module _ (s : Seen) (a : Attempt) (out : IsOut s a) (places : AttemptsStandInPlace 1 s.attempts) (apart : StreamsAreApart s.attempts) where
   abbrev u : Seen
   u = cut_off a s
 
@@ -243,10 +243,10 @@ one_more (x ∷ xs) ys n = ap (λ (b : Bool). (x == n) || b) (one_more xs ys n) 
 
 -- what the session keeps while attempts are cut off
 pub record IsReady (s : Seen) : Type 0 where
-  pub places : ArePlaced 1 s.attempts
-  pub unreset : AreUnreset s
-  pub apart : AreApart s.attempts
-  pub numbers : AreCounted 1 (map (λ (l : Link). l.number) s.links)
+  pub places : AttemptsStandInPlace 1 s.attempts
+  pub unreset : NoStreamIsToReset s
+  pub apart : StreamsAreApart s.attempts
+  pub numbers : NumbersCountUp 1 (map (λ (l : Link). l.number) s.links)
   pub reads : list_all (λ (l : Link). list_all (is_read_by (read_bytes l)) l.traffic) s.links ≡ true
 
 -- attempts that have the streams and links that they had
@@ -270,7 +270,7 @@ keyed xs ys same i y at =
     keyed_by xs i y (numbered xs i) refl
     (sym (numbered_map key_of xs i) ∙ ap (λ (ks : List (Option Placed × Option ℕ)). numbered ks i) (sym same) ∙ numbered_map key_of ys i ∙ ap (option_map key_of) at)
 
-pub apart_still : (xs ys : List Attempt) → map key_of ys ≡ map key_of xs → AreApart xs → AreApart ys
+pub apart_still : (xs ys : List Attempt) → map key_of ys ≡ map key_of xs → StreamsAreApart xs → StreamsAreApart ys
 apart_still xs ys same apart i j n a b at to here there pa pb links na nb =
     let x : IsKeyed xs i a = keyed xs ys same i a here in
     let y : IsKeyed xs j b = keyed xs ys same j b there in
@@ -296,10 +296,10 @@ module _ (s : Seen) (a : Attempt) (out : IsOut s a) (is : IsReady s) where
 
   pub ready_still : IsReady u1
   ready_still = record {
-    places = subst (ArePlaced 1) (sym (changed_is ∙ changed_at f a.place s.attempts a is.places out.there)) (places_at f (λ b. refl) a.place 1 s.attempts is.places);
+    places = subst (AttemptsStandInPlace 1) (sym (changed_is ∙ changed_at f a.place s.attempts a is.places out.there)) (places_at f (λ b. refl) a.place 1 s.attempts is.places);
     unreset = subst (λ (xs : List Attempt). list_all is_unreset xs ≡ true) (sym changed_is) (all_changed is_unreset f (λ b e. refl) a.place s.attempts is.unreset);
     apart = apart_still s.attempts u1.attempts (ap (map key_of) changed_is ∙ map_changed key_of f (λ b. refl) a.place s.attempts) is.apart;
-    numbers = subst (λ (ls : List Link). AreCounted 1 (map (λ (l : Link). l.number) ls)) (sym links_same) is.numbers;
+    numbers = subst (λ (ls : List Link). NumbersCountUp 1 (map (λ (l : Link). l.number) ls)) (sym links_same) is.numbers;
     reads = subst (λ (ls : List Link). list_all (λ (l : Link). list_all (is_read_by (read_bytes l)) l.traffic) ls ≡ true) (sym links_same) is.reads;
   }
 
@@ -363,7 +363,7 @@ abbrev pub all_reset : List Attempt → StateSeen → StateSeen
 all_reset [] y = y
 all_reset (a ∷ cuts) y = all_reset cuts (reset_on (link_number a) a.place y)
 
-pub cuts_ahead : (cuts : List Attempt) (s t : Seen) (also : List ℕ) (y : StateSeen) → AreCutOff cuts s t → IsReady s → LinksAhead also y s → LinksAhead also (all_reset cuts y) t
+pub cuts_ahead : (cuts : List Attempt) (s t : Seen) (also : List ℕ) (y : StateSeen) → AttemptsAreCutOff cuts s t → IsReady s → LinksAhead also y s → LinksAhead also (all_reset cuts y) t
 cuts_ahead [] s t also y off is ahead = subst (LinksAhead also y) (sym off) ahead
 cuts_ahead (a ∷ cuts) s t also y off is ahead =
     cuts_ahead cuts (cut_off a s) t also (reset_on (link_number a) a.place y) off.1 (ready_still s a off.0 is) (cut_ahead s a off.0 is also y ahead)

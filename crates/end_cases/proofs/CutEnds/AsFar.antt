@@ -1,4 +1,4 @@
--- Links cannot tell two sessions apart whose attempts are the same, but for tokens and words at ends, and for how an end came that brings the same reset.
+-- Links cannot distinguish two sessions whose attempts are the same, but for tokens and words at ends, and for how an end came that brings the same reset.
 use Rattle.std.proofs.Common.{Bool, List, Option, Some, [], ap, cond, false, filter, is_none, is_some, length, map, refl, subst, sym, true, unwrap_or, ℕ, ◌&&◌, ◌==◌, ◌≤◌, ◌∙◌, ◌∷◌, ◌≡◌}
 use Rattle.std.specs.List.{list_all}
 use Rattle.std.specs.Option.{option_map_or}
@@ -7,15 +7,15 @@ use Rattle.channel_actions.proofs.Lines.{all_at_places}
 use Rattle.channel_actions.proofs.Links.Frames.Readers.{readers_still}
 use Rattle.channel_actions.proofs.Links.Frames.Streams.{streams_still}
 use Rattle.channel_actions.proofs.Stamps.{counted_at}
-use Rattle.channel_actions.specs.KeptSessions.Kept.{AreCounted}
-use Rattle.channel_actions.specs.LinkFrames.Alike.{AreAlike, IsAlike, is_on}
+use Rattle.channel_actions.specs.KeptSessions.Kept.{NumbersCountUp}
+use Rattle.channel_actions.specs.LinkFrames.Alike.{AttemptsAreAlike, IsAlike, is_on}
 use Rattle.channel_actions.specs.Links.{lines_in}
 use Rattle.channel_core.specs.States.{StateSeen}
 use Rattle.channel_core.specs.declared.state.links.LinkSlot.{LinkSlot}
 use Rattle.end_cases.proofs.CutEnds.Pairs.{owed_sorted, put_pair, sorted}
 use Rattle.end_cases.specs.AttemptEnds.Ahead.{HasLinkAhead, IsAhead, LinksAhead, is_owed_on, owed_reset, resets_owed}
 use Rattle.link_actions.specs.ResetActions.Ahead.{SeesAhead}
-use Rattle.link_actions.specs.Sees.{ArePlaced}
+use Rattle.link_actions.specs.Sees.{AttemptsStandInPlace}
 use Rattle.session_actions.specs.AttemptEnds.{reset_code_of}
 use Rattle.session_actions.specs.Attempts.{call_of}
 use Rattle.session_actions.specs.Configs.{chosen_of}
@@ -27,7 +27,7 @@ use Rattle.session_actions.specs.declared.call.Call.{Call}
 use Rattle.session_actions.specs.declared.link.Link.{Link}
 use Rattle.session_actions.specs.declared.seen.Seen.{Seen}
 
--- two sessions whose links cannot tell one from the other: the attempts are the same, but for tokens and words at ends, and for how an end came that brings the same
+-- two sessions whose links cannot distinguish one from the other: the attempts are the same, but for tokens and words at ends, and for how an end came that brings the same
 -- reset; of calls the same was accepted, with the same limits
 pub record IsSameRow (s t : Seen) (a b : Attempt) : Type 0 where
   pub place : b.place ≡ a.place
@@ -53,9 +53,9 @@ pub record IsAsFar (s t : Seen) : Type 0 where
   pub calls : (n : ℕ) (c : Call) → numbered s.calls n ≡ Some c → IsSameCall s t n c
   pub rows : AreSameRows s t s.attempts t.attempts
   pub owned : list_all (λ (a : Attempt). is_some (call_of a s)) s.attempts ≡ true
-  pub numbers : AreCounted 1 (map (λ (l : Link). l.number) s.links)
-  pub counted : AreCounted 1 (map (λ (a : Attempt). a.place) t.attempts)
-  pub places : ArePlaced 1 t.attempts
+  pub numbers : NumbersCountUp 1 (map (λ (l : Link). l.number) s.links)
+  pub counted : NumbersCountUp 1 (map (λ (a : Attempt). a.place) t.attempts)
+  pub places : AttemptsStandInPlace 1 t.attempts
 
 abbrev none_touched : ℕ → Bool
 none_touched n = false
@@ -78,13 +78,13 @@ module _ (s t : Seen) (is : IsAsFar s t) where
     };
   }
 
-  all_alike : (xs ys : List Attempt) → AreSameRows s t xs ys → AreAlike none_touched s t xs ys
+  all_alike : (xs ys : List Attempt) → AreSameRows s t xs ys → AttemptsAreAlike none_touched s t xs ys
   all_alike [] [] k = tt
   all_alike (x ∷ xs) (y ∷ ys) k = (one_alike x y k.0, all_alike xs ys k.1)
   all_alike [] (y ∷ ys) k = absurd k
   all_alike (x ∷ xs) [] k = absurd k
 
-  alike : AreAlike none_touched s t s.attempts t.attempts
+  alike : AttemptsAreAlike none_touched s t s.attempts t.attempts
   alike = all_alike s.attempts t.attempts is.rows
 
   -- what is owed

@@ -10,11 +10,11 @@ use Rattle.call_actions.specs.LastEnds.Laws.{ClosesWithCuts}
 use Rattle.call_actions.specs.Laws.{IsCounting, is_last_end}
 use Rattle.call_actions.specs.Order.{IsInOrder, IsInTurn, Keeps}
 use Rattle.call_actions.specs.Sees.{Sees, is_live, live_row}
-use Rattle.call_actions.specs.TakeActions.Cuts.{AreCut}
+use Rattle.call_actions.specs.TakeActions.Cuts.{AttemptsAreCut}
 use Rattle.call_actions.specs.TakeActions.Serves.{IsLeft, came}
 use Rattle.call_core.specs.Laws as channel_laws
 use Rattle.call_core.specs.Parts.{committed_attempts, count_of, is_row, kept_alone, read_in, read_of, stopped_attempts, without}
-use Rattle.call_core.specs.Steps.{Stepped, closed_if, commit_stamped, cut_all, end_stamped, ended_at, ended_by_row, fresh_buffer, told_all}
+use Rattle.call_core.specs.Steps.{Stepped, closed_if, commit_stamped, cut_all, end_stamped, ended_at, ended_by_row, fresh_buffer, reported_all}
 use Rattle.call_core.specs.declared.act.CallAct.TheVariants as act_of
 use Rattle.call_core.specs.declared.act.CallAct.{CallAct}
 use Rattle.call_core.specs.declared.live.LiveRow.{LiveRow}
@@ -26,9 +26,9 @@ use Rattle.channel_actions.specs.Columns.{links_noted}
 use Rattle.end_cases.proofs.AttemptEnds.After.{t_is}
 use Rattle.end_cases.proofs.AttemptEnds.Base.{books, c, has, news, sees, slot, step_is, x1, x2}
 use Rattle.end_cases.proofs.AttemptEnds.Closing as closing
-use Rattle.end_cases.proofs.AttemptEnds.Closing.{Between, Goes, Made, Steps}
+use Rattle.end_cases.proofs.AttemptEnds.Closing.{Between, Continues, Made, Steps}
 use Rattle.end_cases.proofs.AttemptEnds.LastCommits as last
-use Rattle.attempt_cases.proofs.CallCommits.Given.{cut_is, else_is, elses, told_is}
+use Rattle.attempt_cases.proofs.CallCommits.Given.{cut_is, else_is, elses, reported_is}
 use Rattle.attempt_ledger.specs.declared.row.RowEnd.{RowEnd}
 use Rattle.call_cases.proofs.ConfiguredCalls.Lists.{same_words}
 use Rattle.end_cases.proofs.CutEnds.Ends as ending_cuts
@@ -166,10 +166,10 @@ module _ (later : List (ℕ × RowEnd)) (waits : Line → Bool) (also : List ℕ
   whole =
       final_ends_cut_others s k lent_s a.place a out (ap (λ (q : Option OpenEntry). is_some q) is.current) seen_s order turn refl is.ending counting free last_end
 
-  are : AreCut n whole.cuts (f later waits also a out x o s is counting free final) whole.seen
+  are : AttemptsAreCut n whole.cuts (f later waits also a out x o s is counting free final) whole.seen
   are =
-      subst (λ (z : Seen). AreCut n whole.cuts z whole.seen) (last.f_is later waits also a out x o s is counting)
-      (subst (λ (z : Seen). AreCut n whole.cuts (call_committed a.place z) whole.seen) (t_is later waits also a out x o s is) whole.cut)
+      subst (λ (z : Seen). AttemptsAreCut n whole.cuts z whole.seen) (last.f_is later waits also a out x o s is counting)
+      (subst (λ (z : Seen). AttemptsAreCut n whole.cuts (call_committed a.place z) whole.seen) (t_is later waits also a out x o s is) whole.cut)
 
   pub done : Done later waits also a out x o s is counting free final (f later waits also a out x o s is counting free final) whole.seen
   done = walk later waits also a out x o s is counting free final whole.cuts (f later waits also a out x o s is counting free final) whole.seen (start later waits also a out x o s is counting free final) are
@@ -183,7 +183,7 @@ module _ (later : List (ℕ × RowEnd)) (waits : Line → Bool) (also : List ℕ
   abbrev pub ek : Call
   ek = closing.ended later waits also a out x o s is counting b
 
-  pub goes : Goes later waits also a out x o s is counting b
+  pub goes : Continues later waits also a out x o s is counting b
   goes = ending_cuts.goes later waits also a out x o s is counting free final whole.seen done.walked done.none
 
   keeps : Keeps w n (step_of lent_s)
@@ -276,20 +276,20 @@ module _ (later : List (ℕ × RowEnd)) (waits : Line → Bool) (also : List ℕ
     call = record before.call { live = []; buffer = fresh_buffer; attempts = stopped_attempts (committed_attempts a.place before.call.attempts); ended = Some ending_cause.Row };
     ledger = end_stamped before.call.number ending_cause.Row (now s) (cut_all None (now s) tokens kept_ ledger);
     tokens = before.tokens;
-    acts = told_all None kept_ acts ++ act_of.End ending_cause.Row ∷ [];
+    acts = reported_all None kept_ acts ++ act_of.End ending_cause.Row ∷ [];
   }
 
-  acts_are : told_all (Some a.place) live [] ≡ map given given_rows
-  acts_are = told_is a.place live [] ∙ ap (map given) else_rows
+  acts_are : reported_all (Some a.place) live [] ≡ map given given_rows
+  acts_are = reported_is a.place live [] ∙ ap (map given) else_rows
 
   cut_rows : (ledger : Ledger) → cut_all (Some a.place) (now s) tokens live ledger ≡ cut_all None (now s) tokens given_rows ledger
   cut_rows ledger = cut_is a.place (now s) tokens live ledger ∙ ap (λ (rs : List LiveRow). cut_all None (now s) tokens rs ledger) else_rows
 
-  shaped : (ledger : Ledger) → shape (kept_alone a.place live) (cut_all (Some a.place) (now s) tokens live ledger) (told_all (Some a.place) live [])
+  shaped : (ledger : Ledger) → shape (kept_alone a.place live) (cut_all (Some a.place) (now s) tokens live ledger) (reported_all (Some a.place) live [])
       ≡ shape [] (cut_all None (now s) tokens given_rows ledger) (map given given_rows)
   shaped ledger =
-      ap (λ (rs : List LiveRow). shape rs (cut_all (Some a.place) (now s) tokens live ledger) (told_all (Some a.place) live [])) (none_kept a.place (slot later waits also a out x o s is).call.live)
-      ∙ ap (λ (l : Ledger). shape [] l (told_all (Some a.place) live [])) (cut_rows ledger)
+      ap (λ (rs : List LiveRow). shape rs (cut_all (Some a.place) (now s) tokens live ledger) (reported_all (Some a.place) live [])) (none_kept a.place (slot later waits also a out x o s is).call.live)
+      ∙ ap (λ (l : Ledger). shape [] l (reported_all (Some a.place) live [])) (cut_rows ledger)
       ∙ ap (λ (acts : List CallAct). shape [] (cut_all None (now s) tokens given_rows ledger) acts) acts_are
 
   step_form : step_of lent ≡ closing.stepped later waits also a out x o s is counting made

@@ -13,7 +13,7 @@ use Rattle.channel_actions.specs.Sets.{is_in_outstanding}
 use Rattle.end_cases.proofs.AttemptEnds.After.{numbers}
 use Rattle.end_cases.proofs.AttemptEnds.Base.{c}
 use Rattle.end_cases.proofs.AttemptEnds.Closing as closing
-use Rattle.end_cases.proofs.AttemptEnds.Closing.{Between, Goes}
+use Rattle.end_cases.proofs.AttemptEnds.Closing.{Between, Continues}
 use Rattle.end_cases.proofs.AttemptEnds.Committed.{apart_places, index_of, mine_of, over_first, unended_of}
 use Rattle.call_cases.proofs.CommitsFollow.Cuts.{none_out}
 use Rattle.end_cases.proofs.CutEnds.Walk.{Walked, one}
@@ -32,7 +32,7 @@ use Rattle.session_actions.specs.declared.call.Call.{Call}
 use Rattle.session_actions.specs.declared.entry.OpenEntry.{OpenEntry}
 use Rattle.session_actions.specs.declared.response.Outcome.{Outcome}
 use Rattle.session_actions.specs.declared.seen.Seen.{Seen}
-use Rattle.session_order.specs.Calm.{IsStill}
+use Rattle.session_order.specs.Quiescent.{IsStill}
 use Rattle.session_order.specs.declared.line.Line.TheVariants as line
 use Rattle.session_order.specs.declared.line.Line.{Line}
 use Rattle.std.proofs.Common.{Bool, List, None, Option, Some, [], ap, cond, eqb-true, false, filter, is_none, is_some, nat_lt, not, refl, slice_get, subst, suc, sym, true, zero, ℕ, ◌&&◌, ◌==◌, ◌||◌, ◌∙◌, ◌∷◌, ◌≡◌}
@@ -171,7 +171,7 @@ module _ (later : List (ℕ × RowEnd)) (waits : Line → Bool) (also : List ℕ
     there_too : (P : Seen → Type 0) → P t → P mid
     there_too P holds_ = subst P form holds_
 
-    pub goes : Goes later waits also a out x o s is counting b
+    pub goes : Continues later waits also a out x o s is counting b
     goes = record {
       does = there_too (λ (z : Seen). Does h.actions v z) h.does;
       apart = h.apart;

@@ -18,7 +18,7 @@ use Rattle.h2_link.specs.declared.live.LiveStream.{LiveStream}
 use Rattle.lb_policy.specs.Table.{is_one_of}
 use Rattle.link_actions.proofs.ResponseActions.Found.{find_none}
 use Rattle.link_actions.proofs.ResponseActions.Gone.{cut_free}
-use Rattle.link_actions.specs.Sees.{AreLive, by_stream, put_by_stream}
+use Rattle.link_actions.specs.Sees.{StreamsAreLive, by_stream, put_by_stream}
 use Rattle.session_actions.specs.Attempts.{is_outstanding}
 use Rattle.session_actions.specs.Links.{stream_number}
 use Rattle.session_actions.specs.Reading.{is_outstanding_on, outstanding_on}
@@ -55,7 +55,7 @@ all_sorted : (Q : Attempt → Type 0) (xs : List Attempt) → AllByRecursion Q x
 all_sorted Q [] all = tt
 all_sorted Q (x ∷ xs) all = all_put Q x (by_stream xs) all.0 (all_sorted Q xs all.1)
 
-none_live : (l : Link) (n k : ℕ) (xs : List LiveStream) (bs : List Attempt) → AreLive l xs bs → AllByRecursion (λ (b : Attempt). (b.place == n) ≡ false) bs → found_from (is_tagged n) k xs ≡ None
+none_live : (l : Link) (n k : ℕ) (xs : List LiveStream) (bs : List Attempt) → StreamsAreLive l xs bs → AllByRecursion (λ (b : Attempt). (b.place == n) ≡ false) bs → found_from (is_tagged n) k xs ≡ None
 none_live l n k [] [] are all = refl
 none_live l n k (x ∷ xs) (b ∷ bs) are all =
     ap (λ (c : Bool). if c then Some (k, x) else found_from (is_tagged n) (k + 1) xs) (ap (λ (m : ℕ). m == n) are.0.tag ∙ all.0) ∙ none_live l n (k + 1) xs bs are.1 all.1

@@ -9,12 +9,12 @@ use Rattle.std.specs.Option.{option_map}
 use Rattle.attempt_ledger.specs.declared.row.RowCause.{RowCause}
 use Rattle.attempt_ledger.specs.declared.row.RowEnd.{RowEnd}
 use Rattle.call_actions.proofs.CallsApart.Moves.{all_changed}
-use Rattle.call_cases.proofs.CallPosts.Told.{map_changed}
+use Rattle.call_cases.proofs.CallPosts.Report.{map_changed}
 use Rattle.call_cases.proofs.EndsFollow.Codes.{ended_code}
-use Rattle.call_cases.proofs.LinkEnds.Behind.{IsKeptSlot, cut_at, cut_keeps, slots_cut}
+use Rattle.call_cases.proofs.LinkEnds.After.{IsKeptSlot, cut_at, cut_keeps, slots_cut}
 use Rattle.call_cases.proofs.LinkEnds.Cutting.{counted_places}
-use Rattle.call_cases.specs.EndsFollow.Cuts.{AreCutOff, IsOut, cut_off, is_unreset}
-use Rattle.channel_actions.specs.KeptSessions.Kept.{AreCounted}
+use Rattle.call_cases.specs.EndsFollow.Cuts.{AttemptsAreCutOff, IsOut, cut_off, is_unreset}
+use Rattle.channel_actions.specs.KeptSessions.Kept.{NumbersCountUp}
 use Rattle.channel_core.proofs.Resting.{changed_length}
 use Rattle.channel_core.specs.States.{StateSeen}
 use Rattle.channel_core.specs.Steps.{reset_on}
@@ -29,7 +29,7 @@ use Rattle.end_cases.specs.AttemptEnds.Left.{all_left, rows_ended}
 use Rattle.lb_policy.specs.Table.{is_one_of}
 use Rattle.link_actions.proofs.Ended.{changed_one, is_ended, noted_call}
 use Rattle.link_actions.proofs.Without as lists
-use Rattle.link_actions.specs.Sees.{ArePlaced}
+use Rattle.link_actions.specs.Sees.{AttemptsStandInPlace}
 use Rattle.session_actions.specs.AttemptEnds.{attempt_ended, cut_end, end_of, reset_code_of, with_end}
 use Rattle.session_actions.specs.Attempts.{call_of, is_outstanding}
 use Rattle.session_actions.specs.Configs.{chosen_of}
@@ -102,7 +102,7 @@ module _ (s t : Seen) (code : (b : Attempt) → reset_code_of t b ≡ reset_code
         (subst (λ (ys : List Attempt). AreSameRows s t (x ∷ changed (with_end d) (suc i) xs) ys) (sym (changed_down (with_end e) i x xs)) (row_self x, rows_changed (suc i) xs))
 
 -- what an end leaves
-module _ (s : Seen) (a : Attempt) (e : RowEnd) (places : ArePlaced 1 s.attempts) (there : numbered s.attempts a.place ≡ Some a) where
+module _ (s : Seen) (a : Attempt) (e : RowEnd) (places : AttemptsStandInPlace 1 s.attempts) (there : numbered s.attempts a.place ≡ Some a) where
   abbrev ends : Seen
   ends = attempt_ended a.place e s
 
@@ -143,7 +143,7 @@ owned_left (x ∷ later) s is =
     (all_changed (λ (a : Attempt). is_some (numbered s.calls a.row.call)) (with_end x.1) (λ b e. e) x.0 s.attempts is)
 
 -- each attempt is still of a call
-owned_cut : (s : Seen) (a : Attempt) → IsOut s a → ArePlaced 1 s.attempts → AreOwned s → AreOwned (cut_off a s)
+owned_cut : (s : Seen) (a : Attempt) → IsOut s a → AttemptsStandInPlace 1 s.attempts → AreOwned s → AreOwned (cut_off a s)
 owned_cut s a out places owned =
     let e : RowEnd = end_of a cut_end s in
     let f : Call → Call = noted_call (mark.Ended a.place) (now s) in
@@ -172,7 +172,7 @@ module _ (later : List (ℕ × RowEnd)) (s : Seen) (a : Attempt) (out : IsOut s 
   ready_s : IsReady s1
   ready_s = ready_left later s is
 
-  places_u : ArePlaced 1 u1.attempts
+  places_u : AttemptsStandInPlace 1 u1.attempts
   places_u = places_left later u.attempts (ready_still s a out is).places
 
   code_u : (b : Attempt) → reset_code_of u1 b ≡ reset_code_of s1 b
@@ -286,7 +286,7 @@ module _ (later : List (ℕ × RowEnd)) (s : Seen) (a : Attempt) (out : IsOut s 
           (sym (ap (rows_ended later) (rows_of s a (end_of a cut_end s) is.places out.there) ∙ rows_apart (with_end (end_of a cut_end s)) later a.place s.attempts off))
           (rows_changed v u1 code_v d (end_of a cut_end s) (λ b. code_v (with_end (end_of a cut_end s) b) ∙ code_alike v d (end_of a cut_end s) refl refl refl b) a.place s1.attempts));
       owned = owned_v;
-      numbers = subst (λ (ls : List Link). AreCounted 1 (map (λ (l : Link). l.number) ls)) (sym (links_of s1 a d ready_s.places out_s.there)) ready_s.numbers;
+      numbers = subst (λ (ls : List Link). NumbersCountUp 1 (map (λ (l : Link). l.number) ls)) (sym (links_of s1 a d ready_s.places out_s.there)) ready_s.numbers;
       counted = counted_places 1 u1.attempts places_u;
       places = places_u;
     }
@@ -302,7 +302,7 @@ module _ (later : List (ℕ × RowEnd)) (s : Seen) (a : Attempt) (out : IsOut s 
       by false off = as_far (v off) u1 (apart_far off) also (reset_on (link_number a) a.place y) (cut_ahead s1 a (out_s off) ready_s also y h)
 
 -- all of them
-pub cuts_left : (later : List (ℕ × RowEnd)) (cuts : List Attempt) (s t : Seen) (also : List ℕ) (y : StateSeen) → AreCutOff cuts s t → IsReady s → AreOwned s
+pub cuts_left : (later : List (ℕ × RowEnd)) (cuts : List Attempt) (s t : Seen) (also : List ℕ) (y : StateSeen) → AttemptsAreCutOff cuts s t → IsReady s → AreOwned s
     → LinksAhead also y (all_left later s) → LinksAhead also (all_reset cuts y) (all_left later t)
 cuts_left later [] s t also y off is owned ahead = subst (λ (v : Seen). LinksAhead also y (all_left later v)) (sym off) ahead
 cuts_left later (a ∷ cuts) s t also y off is owned ahead =

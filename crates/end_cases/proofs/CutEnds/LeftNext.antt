@@ -12,7 +12,7 @@ use Rattle.end_cases.proofs.CutEnds.LeftCuts.{AreOwned, calls_of, limit_of, link
 use Rattle.end_cases.specs.AttemptEnds.Ahead.{LinksAhead}
 use Rattle.end_cases.specs.AttemptEnds.Left.{all_left, rows_ended}
 use Rattle.link_actions.proofs.Ended.{changed_one, noted_call}
-use Rattle.link_actions.specs.Sees.{ArePlaced}
+use Rattle.link_actions.specs.Sees.{AttemptsStandInPlace}
 use Rattle.session_actions.specs.AttemptEnds.{attempt_ended, reset_code_of, with_end}
 use Rattle.session_actions.specs.Entries.{now}
 use Rattle.session_actions.specs.Words.{changed, numbered}
@@ -57,10 +57,10 @@ module _ (d e : RowEnd) (later : List (ℕ × RowEnd)) (s : Seen) (a : Attempt) 
   after_rows : u1.attempts ≡ changed (with_end e) a.place (rows_ended later s.attempts)
   after_rows = ap (rows_ended later) (rows_of s a e is.places there) ∙ rows_apart (with_end e) later a.place s.attempts apart
 
-  places_u : ArePlaced 1 u1.attempts
-  places_u = subst (ArePlaced 1) (sym after_rows) (placed_then)
+  places_u : AttemptsStandInPlace 1 u1.attempts
+  places_u = subst (AttemptsStandInPlace 1) (sym after_rows) (placed_then)
     where
-      placed_then : ArePlaced 1 (changed (with_end e) a.place (rows_ended later s.attempts))
+      placed_then : AttemptsStandInPlace 1 (changed (with_end e) a.place (rows_ended later s.attempts))
       placed_then = places_left ((a.place, e) ∷ []) (rows_ended later s.attempts) (places_left later s.attempts is.places)
 
   call_by : (n : ℕ) (c : Call) (b : Bool) → (n == a.row.call) ≡ b → numbered s.calls n ≡ Some c → IsSameCall s1 u1 n c
@@ -105,7 +105,7 @@ module _ (d e : RowEnd) (later : List (ℕ × RowEnd)) (s : Seen) (a : Attempt) 
     now_rows : t1.attempts ≡ changed (with_end e) a.place (rows_ended later s.attempts)
     now_rows = ap (rows_ended later) (sym (changed_self (with_end e) a.place s.attempts a there same_one)) ∙ rows_apart (with_end e) later a.place s.attempts apart
 
-    places_t : ArePlaced 1 t1.attempts
+    places_t : AttemptsStandInPlace 1 t1.attempts
     places_t = places_left later s.attempts is.places
 
     far_over : IsAsFar s1 t1

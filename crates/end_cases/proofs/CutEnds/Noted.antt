@@ -9,7 +9,7 @@ use Rattle.call_core.specs.declared.live.LiveRow.{LiveRow}
 use Rattle.channel_actions.proofs.ActsFollowed.Acts.{LinkIn, acts_form, given, parts_of}
 use Rattle.channel_actions.specs.Columns.{links_noted}
 use Rattle.channel_actions.specs.KeptSessions.Kept.{IsKept}
-use Rattle.channel_actions.specs.Sets.{AreExactly, AreRising, is_in_outstanding}
+use Rattle.channel_actions.specs.Sets.{PairsAreExactly, PairsAreRising, is_in_outstanding}
 use Rattle.end_cases.proofs.AttemptEnds.After.{entry_is, in_out}
 use Rattle.end_cases.proofs.AttemptEnds.Base.{books, c}
 use Rattle.end_cases.proofs.AttemptEnds.ClosedAgree as agree
@@ -18,7 +18,7 @@ use Rattle.end_cases.proofs.AttemptEnds.Gone.{Knows, gone_is}
 use Rattle.end_cases.proofs.AttemptEnds.Noted.{noted_then}
 use Rattle.end_cases.proofs.AttemptEnds.OffSets.{out_left}
 use Rattle.end_cases.proofs.AttemptEnds.OneEnded as first_end
-use Rattle.end_cases.proofs.AttemptEnds.Told.{gone_form}
+use Rattle.end_cases.proofs.AttemptEnds.Report.{gone_form}
 use Rattle.call_cases.proofs.ConfiguredCalls.Lists.{same_numbered, same_words}
 use Rattle.end_cases.proofs.CutEnds.Acts.{first, last, linked, then_}
 use Rattle.end_cases.proofs.CutEnds.Call.{b, given_rows, goes, w}
@@ -37,7 +37,7 @@ use Rattle.channel_core.specs.Tables.{is_dead_at, is_retiring_at}
 use Rattle.channel_core.specs.declared.state.links.LinkSlot.{LinkSlot}
 use Rattle.channel_net.specs.Steps.{NetSeen}
 use Rattle.ledger_stamps.specs.Steps.{changed_at, gone_link}
-use Rattle.net_actions.specs.Sees.{AreSubs}
+use Rattle.net_actions.specs.Sees.{SubchannelsAgree}
 use Rattle.session_actions.specs.Attempts.{commitment}
 use Rattle.session_actions.specs.Closing.{noted_gone}
 use Rattle.session_actions.specs.Configs.{plan_of}
@@ -107,7 +107,7 @@ module _ (later : List (ℕ × RowEnd)) (waits : Line → Bool) (also : List ℕ
   abbrev finish : StateSeen
   finish = acts_done n (map given rows1) start_
 
-  outs_v : AreExactly begin.outstanding (is_in_outstanding v)
+  outs_v : PairsAreExactly begin.outstanding (is_in_outstanding v)
   outs_v = out_left later waits also a out x o s is v (in_out later waits also a out x o s is)
 
   same_finish : gone_with a.row.placed end_ ≡ finish
@@ -147,21 +147,21 @@ module _ (later : List (ℕ × RowEnd)) (waits : Line → Bool) (also : List ℕ
         ap sub_of (was_at k ∙ ap (option_map (λ (g : Link). seen_if (is_gone_in g v) (entry v) g)) here) ∙ sub_noted (is_none l.gone && is_gone_in l v) (entry v) l
 
     knows : (z : StateSeen) (u : Seen) → z.links ≡ start_.links → z.net ≡ start_.net → z.book.ledger.links ≡ start_.book.ledger.links
-        → numbered u.links k ≡ Some l → u.subs ≡ v.subs → AreExactly z.outstanding (is_in_outstanding u) → IsKept u → Knows z u k l
+        → numbered u.links k ≡ Some l → u.subs ≡ v.subs → PairsAreExactly z.outstanding (is_in_outstanding u) → IsKept u → Knows z u k l
     knows z u links net stamps there subs outs kept = record {
       there = there;
       dead = ap (λ (ls : List LinkSlot). is_dead_at (tables.numbered ls k)) (links ∙ links_start) ∙ ap is_dead_at has_link.there ∙ sym has_link.sees.over;
       retiring = ap (λ (ls : List LinkSlot). is_retiring_at (tables.numbered ls k)) (links ∙ links_start) ∙ ap is_retiring_at has_link.there ∙ sym has_link.sees.retiring;
       sub = ap (λ (ls : List LinkSeen). sub_of (tables.numbered ls k)) stamps ∙ sub_is;
       out = outs;
-      subs = subst (λ (q : List Subchannel). AreSubs 1 q z.net.board z.net.links) (sym subs)
-          (subst (λ (q : NetSeen). AreSubs 1 v.subs q.board q.links) (sym (net ∙ net_start)) (books later waits also a out x o s is).net.subs_are);
+      subs = subst (λ (q : List Subchannel). SubchannelsAgree 1 q z.net.board z.net.links) (sym subs)
+          (subst (λ (q : NetSeen). SubchannelsAgree 1 v.subs q.board q.links) (sym (net ∙ net_start)) (books later waits also a out x o s is).net.subs_are);
       kept = kept;
     }
 
     gone_v : gone_by start_ k (has_outstanding k start_) ≡ is_gone_in l v
     gone_v =
-        gone_is start_ v k l (knows start_ v refl refl refl here refl (subst (λ (pairs : List (ℕ × ℕ)). AreExactly pairs (is_in_outstanding v)) (sym out_start) outs_v) kept_v)
+        gone_is start_ v k l (knows start_ v refl refl refl here refl (subst (λ (pairs : List (ℕ × ℕ)). PairsAreExactly pairs (is_in_outstanding v)) (sym out_start) outs_v) kept_v)
 
   noted_first : (k : ℕ) (q : Option Link) → numbered v.links k ≡ q
       → option_map (λ (l : Link). seen_if (is_gone_in l v) (entry v) l) q
@@ -178,7 +178,7 @@ module _ (later : List (ℕ × RowEnd)) (waits : Line → Bool) (also : List ℕ
     net = refl;
     dead = λ k. refl;
     retiring = λ k. refl;
-    rising = subst AreRising (sym out_start) outs_v.rising;
+    rising = subst PairsAreRising (sym out_start) outs_v.rising;
     fewer = λ k e. e;
     noted = λ k.
         was_at k ∙ noted_first k (numbered v.links k) refl
@@ -200,9 +200,9 @@ module _ (later : List (ℕ × RowEnd)) (waits : Line → Bool) (also : List ℕ
   out_finish : finish.outstanding ≡ end_.outstanding
   out_finish = sym (ap (λ (z : StateSeen). z.outstanding) same_finish) ∙ ap (λ (z : StateSeen). z.outstanding) end_form
 
-  outs_mid : AreExactly finish.outstanding (is_in_outstanding mid)
+  outs_mid : PairsAreExactly finish.outstanding (is_in_outstanding mid)
   outs_mid =
-      subst (λ (pairs : List (ℕ × ℕ)). AreExactly pairs (is_in_outstanding mid)) (sym out_finish) (outstanding_on later waits also a out x o s is counting free final last_end)
+      subst (λ (pairs : List (ℕ × ℕ)). PairsAreExactly pairs (is_in_outstanding mid)) (sym out_finish) (outstanding_on later waits also a out x o s is counting free final last_end)
 
   module _ (k : ℕ) (l : Link) (here : numbered v.links k ≡ Some l) where
     abbrev gone_then : Bool

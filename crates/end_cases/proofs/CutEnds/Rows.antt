@@ -12,15 +12,15 @@ use Rattle.channel_actions.proofs.Links.Settings.Pairs.{exactly_by}
 use Rattle.channel_actions.specs.ActsFollowed.Followed.{all_out_gone, all_queue_gone}
 use Rattle.call_cases.specs.OtherCalls.Laws.{SetsApart}
 use Rattle.call_cases.specs.OtherCalls.Others.{is_of_number}
-use Rattle.channel_actions.specs.Sets.{AreExactly, is_in_outstanding, is_in_patient, is_in_queue, is_patient, is_waiting}
+use Rattle.channel_actions.specs.Sets.{PairsAreExactly, is_in_outstanding, is_in_ready_waiters, is_in_queue, is_ready_waiter, is_waiting}
 use Rattle.end_cases.proofs.AttemptEnds.After.{in_out, in_wait}
 use Rattle.end_cases.proofs.AttemptEnds.Base.{books, c, e, x1}
 use Rattle.end_cases.proofs.AttemptEnds.ClosedLines as lines
 use Rattle.end_cases.proofs.AttemptEnds.Closing as closing
 use Rattle.end_cases.proofs.AttemptEnds.OffSets.{out_left}
 use Rattle.end_cases.proofs.AttemptEnds.OneEnded as first_end
-use Rattle.end_cases.proofs.AttemptEnds.Sets.{patient_then, queue_then}
-use Rattle.call_cases.proofs.CallPosts.Told.{map_changed}
+use Rattle.end_cases.proofs.AttemptEnds.Sets.{wait_for_ready_then, queue_then}
+use Rattle.call_cases.proofs.CallPosts.Report.{map_changed}
 use Rattle.end_cases.proofs.CutEnds.Acts.{first, is_done, last}
 use Rattle.end_cases.proofs.CutEnds.Call.{b, done, given_rows, goes, goes_else, w, whole}
 use Rattle.end_cases.proofs.CutEnds.Ends.{none_outstanding, place_of}
@@ -175,23 +175,23 @@ module _ (later : List (ℕ × RowEnd)) (waits : Line → Bool) (also : List ℕ
         subst (λ (m : ℕ). all_queue_left n rows1 test m row ≡ other m row) (sym (eqb-true i n e)) (own_pair row (test n row) refl ∙ sym (none row))
     pair_by i row false e = queue_away n rows1 test i row e ∙ sym (away i row e)
 
-    pub pairs_left : (pairs : List (ℕ × ℕ)) → AreExactly pairs test → AreExactly (all_queue_gone n rows1 pairs) other
+    pub pairs_left : (pairs : List (ℕ × ℕ)) → PairsAreExactly pairs test → PairsAreExactly (all_queue_gone n rows1 pairs) other
     pairs_left pairs h =
         exactly_by (all_queue_gone n rows1 pairs) (all_queue_left n rows1 test) other (queue_exactly n rows1 pairs test h) (λ i row. pair_by i row (i == n) refl)
 
-  pub queue_on : AreExactly end_.queue (is_in_queue closed_)
+  pub queue_on : PairsAreExactly end_.queue (is_in_queue closed_)
   queue_on =
-      subst (λ (pairs : List (ℕ × ℕ)). AreExactly pairs (is_in_queue closed_)) (sym those_done.queue)
-      (pairs_left (is_in_queue v) (is_in_queue closed_) (λ row e. (and_parts (is_waiting v n row) (not (is_patient v n)) e).0)
-      (λ row. ap (λ (g : Bool). g && not (is_patient closed_ n)) (none_waits row)) (λ i row e. others.queue i row e ∙ sym (others_v.queue i row e)) begin.queue
+      subst (λ (pairs : List (ℕ × ℕ)). PairsAreExactly pairs (is_in_queue closed_)) (sym those_done.queue)
+      (pairs_left (is_in_queue v) (is_in_queue closed_) (λ row e. (and_parts (is_waiting v n row) (not (is_ready_waiter v n)) e).0)
+      (λ row. ap (λ (g : Bool). g && not (is_ready_waiter closed_ n)) (none_waits row)) (λ i row e. others.queue i row e ∙ sym (others_v.queue i row e)) begin.queue
       (queue_then later waits also a out x o s is counting.goes_on free others_v))
 
-  pub patient_on : AreExactly end_.patient (is_in_patient closed_)
-  patient_on =
-      subst (λ (pairs : List (ℕ × ℕ)). AreExactly pairs (is_in_patient closed_)) (sym those_done.patient)
-      (pairs_left (is_in_patient v) (is_in_patient closed_) (λ row e. (and_parts (is_waiting v n row) (is_patient v n) e).0)
-      (λ row. ap (λ (g : Bool). g && is_patient closed_ n) (none_waits row)) (λ i row e. others.patient i row e ∙ sym (others_v.patient i row e)) begin.patient
-      (patient_then later waits also a out x o s is counting.goes_on free others_v))
+  pub wait_for_ready_on : PairsAreExactly end_.ready_waiters (is_in_ready_waiters closed_)
+  wait_for_ready_on =
+      subst (λ (pairs : List (ℕ × ℕ)). PairsAreExactly pairs (is_in_ready_waiters closed_)) (sym those_done.ready_waiters)
+      (pairs_left (is_in_ready_waiters v) (is_in_ready_waiters closed_) (λ row e. (and_parts (is_waiting v n row) (is_ready_waiter v n) e).0)
+      (λ row. ap (λ (g : Bool). g && is_ready_waiter closed_ n) (none_waits row)) (λ i row e. others.ready_waiters i row e ∙ sym (others_v.ready_waiters i row e)) begin.ready_waiters
+      (wait_for_ready_then later waits also a out x o s is counting.goes_on free others_v))
 
   -- those that were outstanding
   owned_alike : (row : ℕ) → is_of_number n (numbered closed_.attempts row) ≡ is_of_number n (numbered s.attempts row)
@@ -253,9 +253,9 @@ module _ (later : List (ℕ × RowEnd)) (waits : Line → Bool) (also : List ℕ
       out_rest n gone row s.attempts (is_in_outstanding v) link (λ i q at goes_. other_row row i q (q.place == row) refl at goes_ off)
       ∙ others_v.outstanding link row (owned_v row ∙ off) ∙ sym (others.outstanding link row h)
 
-  pub outstanding_on : AreExactly end_.outstanding (is_in_outstanding closed_)
+  pub outstanding_on : PairsAreExactly end_.outstanding (is_in_outstanding closed_)
   outstanding_on =
-      subst (λ (pairs : List (ℕ × ℕ)). AreExactly pairs (is_in_outstanding closed_)) (sym those_done.outstanding)
+      subst (λ (pairs : List (ℕ × ℕ)). PairsAreExactly pairs (is_in_outstanding closed_)) (sym those_done.outstanding)
       (exactly_by (all_out_gone rows1 begin.outstanding) (all_out_left rows1 (is_in_outstanding v)) (is_in_outstanding closed_)
       (out_exactly rows1 begin.outstanding (is_in_outstanding v) (out_left later waits also a out x o s is v (in_out later waits also a out x o s is)))
       (λ link row. out_pair link row (is_of_number n (numbered closed_.attempts row)) refl))

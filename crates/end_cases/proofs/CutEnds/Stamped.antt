@@ -9,7 +9,7 @@ use Rattle.call_core.specs.declared.live.LiveRow.{LiveRow}
 use Rattle.channel_actions.proofs.ActsFollowed.Acts.{given}
 use Rattle.channel_actions.proofs.Outstanding.{is_of_link, on_is}
 use Rattle.channel_actions.proofs.Links.Settings.Pairs.{rising_remove}
-use Rattle.channel_actions.specs.Sets.{AreRising}
+use Rattle.channel_actions.specs.Sets.{PairsAreRising}
 use Rattle.call_cases.proofs.ConfiguredCalls.Lists.{same_numbered, same_words}
 use Rattle.call_cases.proofs.OneCallEnds.Stamps.{again_in, dead_by, fewer, others, retiring_by}
 use Rattle.end_cases.specs.AttemptEnds.Ends.{gone_with}
@@ -115,11 +115,11 @@ still_by false true true false turn e = absurd (let bad : false ≡ true = turn 
 still_by false false p q turn e = absurd (cc)
 
 -- one row is given up on a link
-module _ (i row : ℕ) (z : StateSeen) (rising : AreRising z.outstanding) where
+module _ (i row : ℕ) (z : StateSeen) (rising : PairsAreRising z.outstanding) where
   abbrev z1 : StateSeen
   z1 = record (reset_on i row z) { outstanding = remove_key (is_same (i, row)) z.outstanding }
 
-  rising1 : AreRising z1.outstanding
+  rising1 : PairsAreRising z1.outstanding
   rising1 = rising_remove z.outstanding (i, row) rising
 
   out_z : (k : ℕ) → has_outstanding k z ≡ list_any (is_of_link k) z.outstanding
@@ -175,8 +175,8 @@ module _ (i row : ℕ) (z : StateSeen) (rising : AreRising z.outstanding) where
   out_if true = refl
   out_if false = refl
 
-  pub cut_rising : AreRising (cut_on i row z).outstanding
-  cut_rising = subst AreRising (sym (out_if (is_gone i z1))) rising1
+  pub cut_rising : PairsAreRising (cut_on i row z).outstanding
+  cut_rising = subst PairsAreRising (sym (out_if (is_gone i z1))) rising1
 
 -- a row that waits
 unqueued_if : (b : Bool) (n row j : ℕ) (z : StateSeen) → stamp_if b j (unqueued n row z) ≡ unqueued n row (stamp_if b j z)
@@ -187,23 +187,23 @@ rows_if : (b : Bool) (j : ℕ) (z : StateSeen) → (stamp_if b j z).book.ledger.
 rows_if true j z = refl
 rows_if false j z = refl
 
-one_stamped : (n row j : ℕ) (q : Option ℕ) (z : StateSeen) → AreRising z.outstanding → stamped_gone j (act_done n (given_up_act row q) z) ≡ act_done n (given_up_act row q) (stamped_gone j z)
+one_stamped : (n row j : ℕ) (q : Option ℕ) (z : StateSeen) → PairsAreRising z.outstanding → stamped_gone j (act_done n (given_up_act row q) z) ≡ act_done n (given_up_act row q) (stamped_gone j z)
 one_stamped n row j None z rising = unqueued_if (is_gone j z) n row j z
 one_stamped n row j (Some link) z rising =
     cut_stamped (link_of (tables.numbered z.book.ledger.rows row)) row z rising j
     ∙ ap (λ (rows : List Row). cut_on (link_of (tables.numbered rows row)) row (stamped_gone j z)) (sym (rows_if (is_gone j z) j z))
 
-one_rising : (n row : ℕ) (q : Option ℕ) (z : StateSeen) → AreRising z.outstanding → AreRising (act_done n (given_up_act row q) z).outstanding
+one_rising : (n row : ℕ) (q : Option ℕ) (z : StateSeen) → PairsAreRising z.outstanding → PairsAreRising (act_done n (given_up_act row q) z).outstanding
 one_rising n row None z rising = rising
 one_rising n row (Some link) z rising = cut_rising (link_of (tables.numbered z.book.ledger.rows row)) row z rising
 
-all_stamped : (n j : ℕ) (rows : List LiveRow) (z : StateSeen) → AreRising z.outstanding → stamped_gone j (acts_done n (map given rows) z) ≡ acts_done n (map given rows) (stamped_gone j z)
+all_stamped : (n j : ℕ) (rows : List LiveRow) (z : StateSeen) → PairsAreRising z.outstanding → stamped_gone j (acts_done n (map given rows) z) ≡ acts_done n (map given rows) (stamped_gone j z)
 all_stamped n j [] z rising = refl
 all_stamped n j (r ∷ rows) z rising =
     all_stamped n j rows (act_done n (given r) z) (one_rising n r.place r.link z rising)
     ∙ ap (acts_done n (map given rows)) (one_stamped n r.place j r.link z rising)
 
-pub gone_before : (n : ℕ) (p : Option Placed) (rows : List LiveRow) (z : StateSeen) → AreRising z.outstanding
+pub gone_before : (n : ℕ) (p : Option Placed) (rows : List LiveRow) (z : StateSeen) → PairsAreRising z.outstanding
     → gone_with p (acts_done n (map given rows) z) ≡ acts_done n (map given rows) (gone_with p z)
 gone_before n None rows z rising = refl
 gone_before n (Some at) rows z rising = all_stamped n at.link rows z rising

@@ -14,15 +14,15 @@ use Rattle.call_actions.specs.CallsApart.Apart.{counts_in, run_counting}
 use Rattle.call_actions.specs.CallsApart.Laws.{tokens_in_run}
 use Rattle.call_actions.specs.CallsInTurn.Turns.{StaysSteady, waits as waits_for}
 use Rattle.call_actions.specs.Laws.{IsCounting}
-use Rattle.call_actions.specs.TakeActions.Cuts.{AreCut, next_cut_of}
+use Rattle.call_actions.specs.TakeActions.Cuts.{AttemptsAreCut, next_cut_of}
 use Rattle.channel_actions.proofs.Does.{does_on, none_on}
 use Rattle.call_cases.proofs.EndsFollow.Steps.{call_number}
 use Rattle.channel_actions.proofs.KeptSessions.Along.{kept_along}
 use Rattle.channel_actions.specs.Calls.{SeesCalls}
-use Rattle.call_cases.specs.EndsFollow.Cuts.{AreCutOff, AreUnreset, cut_off, is_unreset}
+use Rattle.call_cases.specs.EndsFollow.Cuts.{AttemptsAreCutOff, NoStreamIsToReset, cut_off, is_unreset}
 use Rattle.call_cases.specs.EndsFollow.Laws.{is_late}
 use Rattle.channel_actions.specs.KeptSessions.Kept.{IsKept}
-use Rattle.call_cases.specs.OtherCalls.Others.{AreOfCall, GoesApart, IsBooked}
+use Rattle.call_cases.specs.OtherCalls.Others.{ActionsAreOfCall, GoesApart, IsBooked}
 use Rattle.end_cases.proofs.AttemptEnds.After.{attempts_are, numbers, put as end_put}
 use Rattle.end_cases.proofs.AttemptEnds.Base.{books, c, e, x1}
 use Rattle.end_cases.proofs.AttemptEnds.ClosedAgree.{of_call_on}
@@ -33,7 +33,7 @@ use Rattle.end_cases.proofs.AttemptEnds.LastCommits as last
 use Rattle.end_cases.proofs.AttemptEnds.Lists.{IsFrom, from_map}
 use Rattle.end_cases.proofs.AttemptEnds.OneEnded as first
 use Rattle.end_cases.proofs.AttemptEnds.Others.{cut_none, none_at, wants_none}
-use Rattle.call_cases.proofs.CallPosts.Told.{map_changed}
+use Rattle.call_cases.proofs.CallPosts.Report.{map_changed}
 use Rattle.call_cases.proofs.CommitsFollow.Cuts.{IsOneCut, IsTaken, none_out, one_cut}
 use Rattle.call_cases.proofs.CommitsFollow.Follow.{before_cut, first_own}
 use Rattle.call_cases.proofs.CommitsFollow.Steps.{at_by, last_changed}
@@ -63,9 +63,9 @@ use Rattle.session_actions.specs.declared.entry.OpenEntry.{OpenEntry}
 use Rattle.session_actions.specs.declared.response.Outcome.{Outcome}
 use Rattle.session_actions.specs.declared.seen.Seen.{Seen}
 use Rattle.session_order.proofs.AttemptDone.{attempt_leaves}
-use Rattle.session_order.proofs.Calms.{first_line_gives}
+use Rattle.session_order.proofs.Quiescence.{first_line_gives}
 use Rattle.session_order.proofs.Changed.{any_changed, changed_away, changed_here}
-use Rattle.session_order.specs.Calm.{IsStill}
+use Rattle.session_order.specs.Quiescent.{IsStill}
 use Rattle.session_order.specs.Stirs.{stirs}
 use Rattle.session_order.specs.declared.line.Line.TheVariants as line
 use Rattle.session_order.specs.declared.line.Line.{Line}
@@ -141,11 +141,11 @@ module _ (later : List (ℕ × RowEnd)) (waits : Line → Bool) (also : List ℕ
   pub does_from : (actions : List Action) (w : Seen) → Does actions v w → Does (first_act ∷ actions) s w
   does_from actions w does = (is.next, subst (λ (q : Seen). Does actions q w) (sym (closing.after_is later waits also a out x o s is counting)) does)
 
-  pub apart_from : (actions : List Action) (w : Seen) → Does actions v w → AreOfCall n actions v → GoesApart n s w
+  pub apart_from : (actions : List Action) (w : Seen) → Does actions v w → ActionsAreOfCall n actions v → GoesApart n s w
   apart_from actions w does apart = record {
     actions = first_act ∷ actions;
     does = does_from actions w does;
-    apart = ((first.of_call_one later waits also a out x o s is).0, subst (λ (q : Seen). AreOfCall n actions q) (sym (closing.after_is later waits also a out x o s is counting)) apart);
+    apart = ((first.of_call_one later waits also a out x o s is).0, subst (λ (q : Seen). ActionsAreOfCall n actions q) (sym (closing.after_is later waits also a out x o s is counting)) apart);
     earlier = booked s kept;
     later = booked w (kept_along actions v w kept_one does);
   }
@@ -154,7 +154,7 @@ module _ (later : List (ℕ × RowEnd)) (waits : Line → Bool) (also : List ℕ
   pub record Walked (w : Seen) : Type 0 where
     pub actions : List Action
     pub does : Does actions v w
-    pub apart : AreOfCall n actions v
+    pub apart : ActionsAreOfCall n actions v
     pub posts : posted_in actions ≡ []
     pub netless : list_any is_of_net actions ≡ false
     pub form : w ≡ record v { calls = w.calls; attempts = w.attempts }
@@ -163,7 +163,7 @@ module _ (later : List (ℕ × RowEnd)) (waits : Line → Bool) (also : List ℕ
     pub one_there : numbered w.attempts a.place ≡ Some one
     pub count : length w.calls ≡ length v.calls
     pub steady : StaysSteady w n
-    pub unreset : AreUnreset w
+    pub unreset : NoStreamIsToReset w
     -- what goes on went on before
     pub same : (i : ℕ) (q : Attempt) → slice_get w.attempts i ≡ Some q → is_outstanding q ≡ true → slice_get s.attempts i ≡ Some q
     pub unfollowed : is_followed one w ≡ false
@@ -232,7 +232,7 @@ module _ (later : List (ℕ × RowEnd)) (waits : Line → Bool) (also : List ℕ
     kept1 : IsKept w1
     kept1 = kept_along (h.actions ++ act1 ∷ []) v w1 kept_one does1
 
-    apart1 : AreOfCall n (h.actions ++ act1 ∷ []) v
+    apart1 : ActionsAreOfCall n (h.actions ++ act1 ∷ []) v
     apart1 =
         of_call_on n h.actions (act1 ∷ []) v w h.does h.apart (
           record {
@@ -303,7 +303,7 @@ module _ (later : List (ℕ × RowEnd)) (waits : Line → Bool) (also : List ℕ
         (record { own = ap (numbered w.calls) number ∙ h.steady.own; there = cut_.out.there; mine = ap (λ (m : ℕ). q.row.call == m) number ∙ cut_.own })
         (goes_not (is_some q.row.placed) (is_none q.row.ended) cut_.out.outstanding) refl h.steady.steady)
 
-    unreset1 : AreUnreset w1
+    unreset1 : NoStreamIsToReset w1
     unreset1 = subst (λ (xs : List Attempt). list_all is_unreset xs ≡ true) (sym attempts1) (all_changed is_unreset put (λ b e. refl) q.place w.attempts h.unreset)
 
     same_by : (i : ℕ) (r : Attempt) (b : Bool) → (suc i == q.place) ≡ b → numbered (changed put q.place w.attempts) (suc i) ≡ Some r → is_outstanding r ≡ true → slice_get s.attempts i ≡ Some r
@@ -319,7 +319,7 @@ module _ (later : List (ℕ × RowEnd)) (waits : Line → Bool) (also : List ℕ
     wants_by i r true at own =
         let number : steady1.call.number ≡ n = call_number n w1.calls steady1.call kept1.book.calls steady1.own in
         second (r.row.call == steady1.call.number) (wants_follower r w1) (ap (λ (m : ℕ). r.row.call == m) number ∙ own)
-        (numbered_not (waits_for w1 steady1.call) w1.attempts (suc i) r steady1.steady.calm at)
+        (numbered_not (waits_for w1 steady1.call) w1.attempts (suc i) r steady1.steady.quiescent at)
     wants_by i r false at off =
         wants_none n (x1 later waits also a out x o s is) s w1 goes1 calls_s kept kept1 i r at off (was_still line.Transparent refl refl)
 
@@ -413,16 +413,16 @@ module _ (later : List (ℕ × RowEnd)) (waits : Line → Bool) (also : List ℕ
   pub record Done (w t : Seen) : Type 0 where
     pub those : List Attempt
     pub all : those ≡ filter (is_other_out n one.row.number) w.attempts
-    pub off : AreCutOff those w t
+    pub off : AttemptsAreCutOff those w t
     pub walked : Walked t
     pub none : next_cut_of n t ≡ None
 
-  pub walk : (cuts : List Action) (w t : Seen) → Walked w → AreCut n cuts w t → Done w t
+  pub walk : (cuts : List Action) (w t : Seen) → Walked w → AttemptsAreCut n cuts w t → Done w t
   walk [] w t h are =
       subst (λ (z : Seen). Done w z) (sym are.1) (record { those = []; all = sym (none_out n one w h.taken w.attempts are.0); off = refl; walked = h; none = are.0 })
   walk (act ∷ cuts) w t h are =
       let cut_ : IsOneCut n one.row.number w act p = one_cut_is w h act are.0 in
-      let rest : Done (w1 w h act are.0) t = walk cuts (w1 w h act are.0) t (walked1 w h act are.0) (subst (λ (z : Seen). AreCut n cuts z t) cut_.does are.1) in
+      let rest : Done (w1 w h act are.0) t = walk cuts (w1 w h act are.0) t (walked1 w h act are.0) (subst (λ (z : Seen). AttemptsAreCut n cuts z t) cut_.does are.1) in
       record {
         those = cut_.attempt ∷ rest.those;
         all = ap (λ (xs : List Attempt). cut_.attempt ∷ xs) rest.all ∙ sym cut_.left;

@@ -15,12 +15,12 @@ use Rattle.end_cases.proofs.AttemptEnds.LastCommits as last_commits
 use Rattle.end_cases.proofs.AttemptEnds.OneEnded as first_end
 use Rattle.attempt_cases.proofs.CallCommits.Given.{IsPlain, given_same}
 use Rattle.attempt_ledger.specs.declared.row.RowEnd.{RowEnd}
-use Rattle.end_cases.proofs.CutEnds.Acts.{first, is_done, last, parts, then_, told_is}
+use Rattle.end_cases.proofs.CutEnds.Acts.{first, is_done, last, parts, then_, reported_is}
 use Rattle.end_cases.proofs.CutEnds.Ahead.{IsReady, all_reset, apart_still, reset_links, reset_owed}
 use Rattle.end_cases.proofs.CutEnds.Call.{b, done, given_rows, goes, goes_else, made, steps_so, w, whole}
 use Rattle.end_cases.proofs.CutEnds.Ends.{mine_is, place_of, twin}
 use Rattle.end_cases.proofs.CutEnds.Noted.{noted_on}
-use Rattle.end_cases.proofs.CutEnds.Rows.{outstanding_on, patient_on, queue_on}
+use Rattle.end_cases.proofs.CutEnds.Rows.{outstanding_on, wait_for_ready_on, queue_on}
 use Rattle.end_cases.proofs.CutEnds.Walk.{Walked, f, kept_in, start}
 use Rattle.end_cases.proofs.EndCases.Whole.{ends_by_cuts}
 use Rattle.end_cases.proofs.OwedResets.First.{stays_out}
@@ -235,10 +235,10 @@ module _ (later : List (ℕ × RowEnd)) (waits : Line → Bool) (also : List ℕ
   follows : Follows later waits also a out x o s is counting (b later waits also a out x o s is counting free final last_end) (made later waits also a out x o s is counting free final last_end)
       (parts later waits also a out x o s is counting free final last_end)
   follows = record {
-    told_is = told_is later waits also a out x o s is counting free final last_end;
+    reported_is = reported_is later waits also a out x o s is counting free final last_end;
     outs = outstanding_on later waits also a out x o s is counting free final last_end;
     queue = queue_on later waits also a out x o s is counting free final last_end;
-    patient = patient_on later waits also a out x o s is counting free final last_end;
+    ready_waiters = wait_for_ready_on later waits also a out x o s is counting free final last_end;
     noted = noted_on later waits also a out x o s is counting free final last_end;
     ahead = ahead_alike also (all_reset cuts x) then_now (all_left later (w later waits also a out x o s is counting free final last_end)) links_are resets_are ahead_closed;
   }

@@ -13,13 +13,13 @@ use Rattle.attempt_ledger.specs.declared.row.RowEnd.{RowEnd}
 use Rattle.attempt_ledger.specs.declared.row.RowKind.TheVariants as kind
 use Rattle.call_core.specs.Parts.{count_of, find_live, is_followed, names, row_end}
 use Rattle.call_core.specs.Steps as step
-use Rattle.call_core.specs.Steps.{Stepped, ended_at, heard_news, lent}
+use Rattle.call_core.specs.Steps.{Stepped, ended_at, received_news, lent}
 use Rattle.call_core.specs.declared.judge.Judged.{Judged}
 use Rattle.call_core.specs.declared.live.LiveRow.{LiveRow}
 use Rattle.call_core.specs.declared.state.CallState.{CallState}
 use Rattle.channel_actions.proofs.ActsFollowed.Acts.{acts_form}
 use Rattle.channel_actions.proofs.KeptSessions.Lists.{all_filter, all_wide}
-use Rattle.end_cases.proofs.AttemptEnds.Told.{gone_form, off_book}
+use Rattle.end_cases.proofs.AttemptEnds.Report.{gone_form, off_book}
 use Rattle.channel_actions.proofs.Calls.Sound.Steps.{counts}
 use Rattle.channel_actions.proofs.SoundBuffers.Slots.{AllAre, all_acted, all_beside, all_numbered}
 use Rattle.end_cases.specs.AttemptEnds.Ends.{AreHeld, IsHeld, ended_in, gone_with, taken_off}
@@ -27,7 +27,7 @@ use Rattle.end_cases.specs.AttemptEnds.Laws.{EndsStayHeld}
 use Rattle.channel_core.proofs.Resting.{changed_length}
 use Rattle.channel_core.specs.Books.{BookActs, book_acted, bucket_at, call_of, deadline_of, due_at, has_drawn, row_at, slot_at}
 use Rattle.channel_core.specs.States.{StateSeen}
-use Rattle.channel_core.specs.Steps.{acts_done, drawn_if, next_word, told}
+use Rattle.channel_core.specs.Steps.{acts_done, drawn_if, next_word, reported}
 use Rattle.channel_core.specs.Tables.{Acted, acted, acted_at, acted_on, tokens_in, with_timers}
 use Rattle.channel_core.specs.declared.state.book.Book.{Book}
 use Rattle.channel_core.specs.declared.state.slots.CallSlot.{CallSlot}
@@ -154,7 +154,7 @@ module _ (row : ℕ) (end : EndNews) (x : StateSeen) (all : AllHeld x) where
   n = call_of (row_at x.book row)
 
   abbrev f : Stepped → Stepped
-  f s = heard_news row (news.Ended row end) x.book.moment (next_word x) s
+  f s = received_news row (news.Ended row end) x.book.moment (next_word x) s
 
   abbrev tokens : Option Bucket
   tokens = tokens_in x.book.buckets (bucket_at (slot_at x.book n))
@@ -187,8 +187,8 @@ module _ (row : ℕ) (end : EndNews) (x : StateSeen) (all : AllHeld x) where
   y_all : AllHeld y
   y_all = subst AllHeld (sym (acts_form n b.acts begun)) acted_all
 
-  told_all : AllHeld (told row (news.Ended row end) x)
-  told_all =
+  reported_all : AllHeld (reported row (news.Ended row end) x)
+  reported_all =
       all_beside (Held (length y.book.ledger.rows)) (with_timers (due_at (slot_at y.book n)) (deadline_of (slot_at y.book n))) (λ slot. refl) y.book.calls n y_all
 
 gone_all : (p : Option Placed) (z : StateSeen) → AllHeld z → AllHeld (gone_with p z)
@@ -198,4 +198,4 @@ pub ends_stay_held : EndsStayHeld
 ends_stay_held a end x h =
     let off : StateSeen = taken_off a.row.call a.place a.row.placed x in
     let all : AllHeld off = subst (λ (b : Book). AllAre (Held (length b.ledger.rows)) b.calls) (sym (off_book a.row.call a.place a.row.placed x)) (from_held x h) in
-    to_held (ended_in a end x) (gone_all a.row.placed (told a.place (news.Ended a.place end) off) (told_all a.place end off all))
+    to_held (ended_in a end x) (gone_all a.row.placed (reported a.place (news.Ended a.place end) off) (reported_all a.place end off all))

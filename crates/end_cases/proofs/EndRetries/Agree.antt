@@ -32,11 +32,11 @@ use Rattle.channel_actions.specs.Calls.{HasSlot, SeesCall, SeesCalls, deadline_o
 use Rattle.channel_actions.specs.Clock.{DrawsAlike, SeesClock}
 use Rattle.channel_actions.specs.Columns.{SeesColumns, links_noted}
 use Rattle.channel_actions.specs.Configs.{SeesBuckets, bucket_in, bucket_place}
-use Rattle.call_cases.specs.EndsFollow.Cuts.{AreUnreset, is_unreset}
+use Rattle.call_cases.specs.EndsFollow.Cuts.{NoStreamIsToReset, is_unreset}
 use Rattle.channel_actions.specs.KeptSessions.Kept.{IsKept}
 use Rattle.call_cases.specs.OtherCalls.Laws.{SetsApart}
 use Rattle.call_cases.specs.OtherCalls.Others.{BooksApart, GoesApart}
-use Rattle.channel_actions.specs.Sets.{AreExactly, is_in_outstanding}
+use Rattle.channel_actions.specs.Sets.{PairsAreExactly, is_in_outstanding}
 use Rattle.end_cases.proofs.AttemptEnds.After.{entry_is, runs}
 use Rattle.end_cases.proofs.AttemptEnds.Base.{books, c, call_is, e, has, here, moment_is, news, off_is, row_is, slot, slot_there, x1, x2, z}
 use Rattle.end_cases.proofs.AttemptEnds.Buckets.{buckets_set}
@@ -50,8 +50,8 @@ use Rattle.end_cases.proofs.EndRetries.Next as retry
 use Rattle.end_cases.proofs.EndRetries.Next.{Leads, Retry}
 use Rattle.end_cases.proofs.EndRetries.Sets as sets
 use Rattle.end_cases.proofs.EndRetries.Step.{acts_are, aft, r_is, step_form}
-use Rattle.end_cases.proofs.AttemptEnds.Told.{gone_form, slot_after}
-use Rattle.end_cases.proofs.EndRetries.ToldQueue.{queued_form, told_queue}
+use Rattle.end_cases.proofs.AttemptEnds.Report.{gone_form, slot_after}
+use Rattle.end_cases.proofs.EndRetries.ReportedQueue.{queued_form, reported_queue}
 use Rattle.call_cases.proofs.ConfiguredCalls.Lists.{changed_length, same_numbered, same_words, set_length}
 use Rattle.attempt_cases.proofs.DialEvents.Words.{draw_by}
 use Rattle.attempt_ledger.specs.declared.row.RowEnd.{RowEnd}
@@ -61,7 +61,7 @@ use Rattle.channel_core.proofs.BookLaws.{number_other}
 use Rattle.channel_core.proofs.Places.{put_there}
 use Rattle.channel_core.specs.Books.{has_drawn}
 use Rattle.channel_core.specs.States.{StateSeen}
-use Rattle.channel_core.specs.Steps.{told, with_ledger_links}
+use Rattle.channel_core.specs.Steps.{reported, with_ledger_links}
 use Rattle.channel_core.specs.Tables.{tokens_in, with_tokens}
 use Rattle.channel_core.specs.declared.state.slots.CallSlot.{CallSlot}
 use Rattle.end_cases.specs.AttemptEnds.Left.{all_left}
@@ -173,16 +173,16 @@ module _ (later : List (ℕ × RowEnd)) (waits : Line → Bool) (also : List ℕ
   abbrev y : StateSeen
   y = with_ledger_links stamps y1
 
-  told_so : told a.place (news_of_link.Ended a.place (news later waits also a out x o s is)) z0 ≡ y1
-  told_so =
-      told_queue a.place (news later waits also a out x o s is) n z0 was a.row (row_is later waits also a out x o s is) (call_is later waits also a out x o s is) (slot_there later waits also a out x o s is)
+  reported_so : reported a.place (news_of_link.Ended a.place (news later waits also a out x o s is)) z0 ≡ y1
+  reported_so =
+      reported_queue a.place (news later waits also a out x o s is) n z0 was a.row (row_is later waits also a out x o s is) (call_is later waits also a out x o s is) (slot_there later waits also a out x o s is)
       (length v.attempts + 1) (ap (λ (q : Stepped). q.acts) (r_is later waits also a out x o s is follows) ∙ acts_are later waits also a out x o s is follows)
       ∙ ap (λ (q : Stepped). queued_form a.place n (length v.attempts + 1) q was z0) (r_is later waits also a out x o s is follows)
 
   ended_is : ended_in a (news later waits also a out x o s is) x ≡ y
   ended_is =
-      ap (λ (q : StateSeen). gone_with a.row.placed (told a.place (news_of_link.Ended a.place (news later waits also a out x o s is)) q)) (off_is a.row.call a.place a.row.placed x)
-      ∙ ap (gone_with a.row.placed) told_so ∙ gone_form a.row.placed y1
+      ap (λ (q : StateSeen). gone_with a.row.placed (reported a.place (news_of_link.Ended a.place (news later waits also a out x o s is)) q)) (off_is a.row.call a.place a.row.placed x)
+      ∙ ap (gone_with a.row.placed) reported_so ∙ gone_form a.row.placed y1
 
   -- the clock
   one_then : numbered w.attempts a.place ≡ Some then_
@@ -314,11 +314,11 @@ module _ (later : List (ℕ × RowEnd)) (waits : Line → Bool) (also : List ℕ
   sets_now : SetsAgree y w
   sets_now = record {
     queue = sets.queue_then later waits also a out x o s is going follows r leads others made sees_then;
-    patient = sets.patient_then later waits also a out x o s is going follows r leads others made sees_then;
+    ready_waiters = sets.wait_for_ready_then later waits also a out x o s is going follows r leads others made sees_then;
     dues = sets.dues_then later waits also a out x o s is going follows r leads others own_slot own_due;
     deadlines = sets.deadlines_then later waits also a out x o s is going follows r leads others own_slot own_deadline;
-    bare = sets.bare_then later waits also a out x o s is going follows r leads others;
-    impatient = sets.impatient_then later waits also a out x o s is going follows r leads others;
+    awaiting_config = sets.unconfigured_then later waits also a out x o s is going follows r leads others;
+    fail_fast = sets.fail_fast_then later waits also a out x o s is going follows r leads others;
     outstanding = sets.outs_then later waits also a out x o s is going follows r leads others;
   }
 
@@ -342,7 +342,7 @@ module _ (later : List (ℕ × RowEnd)) (waits : Line → Bool) (also : List ℕ
       (λ l. ap (λ (g : Bool). link_seen (if is_none l.gone && (is_some l.over || ((is_retiring l || is_shutdown_sub v l.sub) && not g)) then record l { gone = Some (entry v) } else l))
       (any_more (is_outstanding_on l) v.attempts new refl)) v.links
 
-  outs_one : AreExactly y1.outstanding (is_in_outstanding v)
+  outs_one : PairsAreExactly y1.outstanding (is_in_outstanding v)
   outs_one =
       exactly_by y1.outstanding (is_in_outstanding w) (is_in_outstanding v) (sets.outs_then later waits also a out x o s is going follows r leads others)
       (sets.out_more later waits also a out x o s is going follows r leads others)
@@ -403,7 +403,7 @@ module _ (later : List (ℕ × RowEnd)) (waits : Line → Bool) (also : List ℕ
     closing = λ i l at off. ahead.closing i l at off;
   }
 
-  unreset_then : AreUnreset w
+  unreset_then : NoStreamIsToReset w
   unreset_then = list_all-append is_unreset v.attempts (new ∷ []) ∙ ap (λ (g : Bool). g && true) (first.unreset_one later waits also a out x o s is)
 
   agrees_then : AgreesAhead later also (ended_in a (news later waits also a out x o s is) x) w

@@ -5,7 +5,7 @@ use Rattle.std.proofs.lemmas.List.Elements.{filter-append}
 use Rattle.std.specs.Prelude.{option_and_then, unwrap_or}
 use Rattle.attempt_ledger.specs.declared.row.RowKind.TheVariants as kind
 use Rattle.call_cases.proofs.EndsFollow.Codes.{response_by_limit}
-use Rattle.call_cases.proofs.LinkEnds.Behind.{of_readers, readers_of}
+use Rattle.call_cases.proofs.LinkEnds.After.{of_readers, readers_of}
 use Rattle.call_cases.proofs.LinkEnds.Cutting.{filter_same}
 use Rattle.call_cases.proofs.LinkEnds.Resets.{relined}
 use Rattle.channel_actions.proofs.Stamps.{map_same}

@@ -231,10 +231,10 @@ module _ (later : List (ℕ × RowEnd)) (waits : Line → Bool) (also : List ℕ
       netless = refl;
       here = retry.dt_here later waits also a out x o s is going follows;
       count = changed_length (retry.noted later waits also a out x o s is going follows) n v.calls;
-      told = λ l off h. marked_still added n (λ (g : Call). g.marks ++ record { what = mark.Made (length v.attempts + 1); moment = retry.at later waits also a out x o s is going follows } ∷ [])
+      reported = λ l off h. marked_still added n (λ (g : Call). g.marks ++ record { what = mark.Made (length v.attempts + 1); moment = retry.at later waits also a out x o s is going follows } ∷ [])
           l (retry.p later waits also a out x o s is going follows) off h;
       turn = retry.turn_two later waits also a out x o s is going follows;
-      calm = retry.calm_two later waits also a out x o s is going follows;
+      quiescent = retry.quiescent_two later waits also a out x o s is going follows;
       over = over_same;
       free = λ g. ap (λ (r : Option Attempt). is_none r) (commitment_same g);
       long = λ g h. long_same g ∙ h;

@@ -7,7 +7,7 @@ use Rattle.std.specs.List.{AllByRecursion}
 use Rattle.std.specs.Option.{option_map_or}
 use Rattle.attempt_buffer.specs.Buffers.{Buffered, Committed, Cursor, closed, is_committed_row, shut, taken_by, taken_from, taken_uncommitted, text_of}
 use Rattle.attempt_ledger.specs.TransparentRows.{is_by_peer, is_unsent}
-use Rattle.call_actions.specs.TakeActions.Serves.{AreFed, Holds, IsAt, IsFed, Serves, came, drained_so_far, passed}
+use Rattle.call_actions.specs.TakeActions.Serves.{AttemptsAreFed, Holds, IsAt, IsFed, Serves, came, drained_so_far, passed}
 use Rattle.channel_actions.specs.Calls.{lent_to}
 use Rattle.end_cases.proofs.AttemptEnds.After.{free_then}
 use Rattle.end_cases.proofs.AttemptEnds.Base.{c, e, has, slot, slot_there, x1}
@@ -66,8 +66,8 @@ own_at P p (x ∷ xs) (suc i) q at pass all = own_at P p xs i q at pass (rest_of
     rest_of true h = h.1
     rest_of false h = h
 
-behind : (m k : ℕ) → m ≤ k → (k + 1 == m) ≡ false
-behind m k e = grind (arith, nat_tests, e)
+afterwards : (m k : ℕ) → m ≤ k → (k + 1 == m) ≡ false
+afterwards m k e = grind (arith, nat_tests, e)
 
 none_of : {X : Type 0} (o : Option X) → is_some o ≡ false → o ≡ None
 none_of None e = refl
@@ -145,7 +145,7 @@ module _ (later : List (ℕ × RowEnd)) (waits : Line → Bool) (also : List ℕ
     none_then : taken_by place z ≡ None
     none_then =
         taken_kept b a.place (free_buffer later waits also a out x o s is going free) place
-        (behind a.place (length v.attempts) (within v.attempts a.place (with_end (e later waits also a out x o s is) a) (first.one_there later waits also a out x o s is)))
+        (afterwards a.place (length v.attempts) (within v.attempts a.place (with_end (e later waits also a out x o s is) a) (first.one_there later waits also a out x o s is)))
         ∙ none_before
 
     fed_new : IsFed (taken_by place z) (text_of z) false (drained new t) all
@@ -156,7 +156,7 @@ module _ (later : List (ℕ × RowEnd)) (waits : Line → Bool) (also : List ℕ
 
     holds_more : Holds t dt z
     holds_more = record {
-      fed = subst (λ (l : List Attempt). AreFed t dt z l) (sym (own_more new (eq-eqb n n refl)))
+      fed = subst (λ (l : List Attempt). AttemptsAreFed t dt z l) (sym (own_more new (eq-eqb n n refl)))
           (all_snoc (λ (q : Attempt). IsFed (taken_by q.place z) (text_of z) (is_outstanding q) (drained q t) all) (filter (is_of k) v.attempts) new held_then.fed fed_new);
       held = subst (λ (m : ℕ). IsAt (passed z) (text_of z) m all)
           (ap (λ (q : Option Attempt). option_map_or (λ (g : Attempt). drained g v) q 0) (free_then later waits also a out x o s is going free)

@@ -43,7 +43,7 @@ use Rattle.session_order.proofs.Aside.{aside_request}
 use Rattle.session_order.proofs.Begun.{numbered_more}
 use Rattle.session_order.proofs.Changed.{none_more}
 use Rattle.session_order.proofs.Lists.{any_same, holds_same}
-use Rattle.session_order.specs.Calm.{IsStill, can_follow, has_outstanding, is_overflowing, is_to_cut, is_to_end, is_to_follow_pick, is_unplaced}
+use Rattle.session_order.specs.Quiescent.{IsStill, can_follow, has_outstanding, is_overflowing, is_to_cut, is_to_end, is_to_follow_pick, is_unplaced}
 use Rattle.session_order.specs.Stirs.{stirs}
 use Rattle.session_order.specs.declared.line.Line.{Line}
 use Rattle.session_order.specs.declared.line.Line.TheVariants as line
@@ -143,7 +143,7 @@ module _ (later : List (ℕ × RowEnd)) (waits : Line → Bool) (also : List ℕ
 
   -- of other calls, and of this one
   wants_two : (i : ℕ) (q : Attempt) (g : Bool) → slice_get t.attempts i ≡ Some q → (q.row.call == n) ≡ g → wants_follower q t ≡ false
-  wants_two i q true at mine = ap (λ (b : Bool). b && wants_follower q t) (sym mine) ∙ numbered_not (waits_to_follow t dt) t.attempts (suc i) q leads.calm at
+  wants_two i q true at mine = ap (λ (b : Bool). b && wants_follower q t) (sym mine) ∙ numbered_not (waits_to_follow t dt) t.attempts (suc i) q leads.quiescent at
   wants_two i q false at off =
       wants_none n (x1 later waits also a out x o s is) s t apart_two (books later waits also a out x o s is).calls kept kept_two i q at off
       (first.was_still later waits also a out x o s is line.Transparent refl refl)
@@ -163,23 +163,23 @@ module _ (later : List (ℕ × RowEnd)) (waits : Line → Bool) (also : List ℕ
 
   pub still_two : (l : Line) → may_wait l ≡ false → IsStill l p t
   still_two line.Cut may =
-      leads.told line.Cut refl
+      leads.reported line.Cut refl
       (none_more (is_to_cut added) v.attempts new
       (any_same (is_to_cut added) (is_to_cut v) (λ q. ap (λ (b : Bool). is_outstanding q && b) (leads.over q)) v.attempts ∙ gone_on line.Cut refl refl refl) refl)
   still_two line.Transparent may = none_at (λ (q : Attempt). wants_follower q t) t.attempts (λ i q at. wants_two i q (q.row.call == n) at refl)
-  still_two line.Inherited may = leads.told line.Inherited refl leads.inherited
+  still_two line.Inherited may = leads.reported line.Inherited refl leads.inherited
   still_two line.Row may = none_at (is_over_by_row t) t.calls (λ i g at. row_two i g (suc i == n) at refl)
   still_two line.Final may = none_at (is_final_end t) t.attempts (λ i q at. final_two i q (q.row.call == n) at refl)
-  still_two line.Pick may = leads.told line.Pick refl (pick_by (last_of v.asks) refl (unpicked later waits also a out x o s is p))
-  still_two line.Cancelled may = leads.told line.Cancelled refl (gone_on line.Cancelled refl refl refl)
-  still_two line.Request may = leads.told line.Request refl (aside_request p v added ∙ gone_on line.Request refl refl refl)
+  still_two line.Pick may = leads.reported line.Pick refl (pick_by (last_of v.asks) refl (unpicked later waits also a out x o s is p))
+  still_two line.Cancelled may = leads.reported line.Cancelled refl (gone_on line.Cancelled refl refl refl)
+  still_two line.Request may = leads.reported line.Request refl (aside_request p v added ∙ gone_on line.Request refl refl refl)
   still_two line.Response may =
-      leads.told line.Response refl (none_at (has_long_response added) v.calls (λ i g at. long_by i g at (gone_on line.Response refl refl refl)))
+      leads.reported line.Response refl (none_at (has_long_response added) v.calls (λ i g at. long_by i g at (gone_on line.Response refl refl refl)))
   still_two line.Overflow may =
-      leads.told line.Overflow refl (any_same (is_overflowing added) (is_overflowing v) overflow_one v.calls ∙ gone_on line.Overflow refl refl refl)
+      leads.reported line.Overflow refl (any_same (is_overflowing added) (is_overflowing v) overflow_one v.calls ∙ gone_on line.Overflow refl refl refl)
   still_two line.Head may =
-      leads.told line.Head refl (none_more (is_headed added) v.attempts new (any_same (is_headed added) (is_headed v) head_one v.attempts ∙ gone_on line.Head refl refl refl) refl)
-  still_two line.Link may = leads.told line.Link refl (gone_on line.Link refl refl refl)
+      leads.reported line.Head refl (none_more (is_headed added) v.attempts new (any_same (is_headed added) (is_headed v) head_one v.attempts ∙ gone_on line.Head refl refl refl) refl)
+  still_two line.Link may = leads.reported line.Link refl (gone_on line.Link refl refl refl)
   still_two line.WireEnd may = absurd (cc)
   still_two line.Reset may = absurd (cc)
   still_two line.Shut may = absurd (cc)
@@ -191,7 +191,7 @@ module _ (later : List (ℕ × RowEnd)) (waits : Line → Bool) (also : List ℕ
 
   pub wire_two : IsStill line.WireEnd o s → IsStill line.WireEnd p t
   wire_two h =
-      leads.told line.WireEnd refl
+      leads.reported line.WireEnd refl
       (none_more (is_to_end added) v.attempts new
       (any_same (is_to_end added) (is_to_end v) (λ q. ap (λ (b : Bool). (is_outstanding q && not b) && is_some (outcome_of q v)) (leads.over q)) v.attempts
       ∙ first.plain later waits also a out x o s is line.WireEnd refl h) refl)
@@ -200,12 +200,12 @@ module _ (later : List (ℕ × RowEnd)) (waits : Line → Bool) (also : List ℕ
   late_one l off ends wait = first.plain later waits also a out x o s is l off (is.still l ends wait)
 
   pub late_two : (l : Line) → is_late l ≡ true → waits l ≡ false → IsStill l p t
-  late_two line.Shut late off = leads.told line.Shut refl (late_one line.Shut refl refl off)
-  late_two line.Retire late off = leads.told line.Retire refl (late_one line.Retire refl refl off)
-  late_two line.Begin late off = leads.told line.Begin refl (late_one line.Begin refl refl off)
-  late_two line.Give late off = leads.told line.Give refl (late_one line.Give refl refl off)
-  late_two line.Drop late off = leads.told line.Drop refl (late_one line.Drop refl refl off)
-  late_two line.Add late off = leads.told line.Add refl (late_one line.Add refl refl off)
+  late_two line.Shut late off = leads.reported line.Shut refl (late_one line.Shut refl refl off)
+  late_two line.Retire late off = leads.reported line.Retire refl (late_one line.Retire refl refl off)
+  late_two line.Begin late off = leads.reported line.Begin refl (late_one line.Begin refl refl off)
+  late_two line.Give late off = leads.reported line.Give refl (late_one line.Give refl refl off)
+  late_two line.Drop late off = leads.reported line.Drop refl (late_one line.Drop refl refl off)
+  late_two line.Add late off = leads.reported line.Add refl (late_one line.Add refl refl off)
   late_two line.Transparent late off = absurd (cc)
   late_two line.Row late off = absurd (cc)
   late_two line.Final late off = absurd (cc)

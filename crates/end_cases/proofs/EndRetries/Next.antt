@@ -20,7 +20,7 @@ use Rattle.call_actions.specs.CallsInTurn.Turns.{IsSteady, StaysSteady, waits as
 use Rattle.call_actions.specs.Order.{IsInTurn}
 use Rattle.channel_actions.proofs.KeptSessions.Along.{kept_along}
 use Rattle.channel_actions.specs.KeptSessions.Kept.{IsKept}
-use Rattle.call_cases.specs.OtherCalls.Others.{AreOfCall, GoesApart, IsBooked}
+use Rattle.call_cases.specs.OtherCalls.Others.{ActionsAreOfCall, GoesApart, IsBooked}
 use Rattle.end_cases.proofs.AttemptEnds.After.{attempts_are, commitment_is, d, d_here, put, put_place, t_is, u}
 use Rattle.end_cases.proofs.AttemptEnds.Agreeing.{none_of}
 use Rattle.end_cases.proofs.AttemptEnds.Base.{books, c, call_is, e, has, here, x1}
@@ -53,8 +53,8 @@ use Rattle.session_actions.specs.declared.call.MarkKind.TheVariants as mark
 use Rattle.session_actions.specs.declared.entry.OpenEntry.{OpenEntry}
 use Rattle.session_actions.specs.declared.response.Outcome.{Outcome}
 use Rattle.session_actions.specs.declared.seen.Seen.{Seen}
-use Rattle.session_order.proofs.Calms.{first_line_gives}
-use Rattle.session_order.specs.Calm.{IsStill}
+use Rattle.session_order.proofs.Quiescence.{first_line_gives}
+use Rattle.session_order.specs.Quiescent.{IsStill}
 use Rattle.session_order.specs.Lines.{rank}
 use Rattle.session_order.specs.Stirs.{stirs}
 use Rattle.session_order.specs.declared.line.Line.{Line}
@@ -174,11 +174,11 @@ module _ (later : List (ℕ × RowEnd)) (waits : Line → Bool) (also : List ℕ
   unfollowed : is_followed a s ≡ false
   unfollowed = unfollowed_of s k a.place a own unended turn.unfollowed
 
-  pub calm : list_any (waits_to_follow s k) s.attempts ≡ false
-  calm = none_of (is_of k) (λ (q : Attempt). wants_follower q s) s.attempts (first.was_still later waits also a out x o s is line.Transparent refl refl)
+  pub quiescent : list_any (waits_to_follow s k) s.attempts ≡ false
+  quiescent = none_of (is_of k) (λ (q : Attempt). wants_follower q s) s.attempts (first.was_still later waits also a out x o s is line.Transparent refl refl)
 
   steady : IsSteady s k
-  steady = record { turn = turn; calm = calm }
+  steady = record { turn = turn; quiescent = quiescent }
 
   abbrev pl : Attempt → Option Placed
   pl q = q.row.placed
@@ -237,7 +237,7 @@ module _ (later : List (ℕ × RowEnd)) (waits : Line → Bool) (also : List ℕ
   wants_else : (i : ℕ) (q : Attempt) (g : Bool) → slice_get v.attempts i ≡ Some q → (suc i == a.place) ≡ false → (q.row.call == n) ≡ g → wants_follower q v ≡ false
   wants_else i q true at off mine =
       let away : (q.place == a.place) ≡ false = ap (λ (m : ℕ). m == a.place) (place_is (suc i) v.attempts q kept_one.book.places at) ∙ off in
-      ap (λ (b : Bool). b && wants_follower q v) (sym mine) ∙ waits_so q (numbered_not (waits_to_follow s k) s.attempts (suc i) q calm (was_there i q at away))
+      ap (λ (b : Bool). b && wants_follower q v) (sym mine) ∙ waits_so q (numbered_not (waits_to_follow s k) s.attempts (suc i) q quiescent (was_there i q at away))
   wants_else i q false at off other =
       wants_none n (x1 later waits also a out x o s is) s v (first.apart_one later waits also a out x o s is) (books later waits also a out x o s is).calls kept kept_one i q at other
       (first.was_still later waits also a out x o s is line.Transparent refl refl)
@@ -258,7 +258,7 @@ module _ (later : List (ℕ × RowEnd)) (waits : Line → Bool) (also : List ℕ
   pub kept_two : IsKept t
   kept_two = kept_along (makes ∷ []) v t kept_one does_two
 
-  pub of_call_two : AreOfCall n (makes ∷ []) v
+  pub of_call_two : ActionsAreOfCall n (makes ∷ []) v
   of_call_two = (record { acts = eq-eqb n n refl; passes = λ g at off. refl }, tt)
 
   booked : (q : Seen) → IsKept q → IsBooked q
@@ -297,8 +297,8 @@ module _ (later : List (ℕ × RowEnd)) (waits : Line → Bool) (also : List ℕ
   pub turn_two : IsInTurn t dt
   turn_two = subst (λ (g : Call). IsInTurn t g) same_turned turned.steady.turn
 
-  pub calm_two : list_any (waits_to_follow t dt) t.attempts ≡ false
-  calm_two = subst (λ (g : Call). list_any (waits_to_follow t g) t.attempts ≡ false) same_turned turned.steady.calm
+  pub quiescent_two : list_any (waits_to_follow t dt) t.attempts ≡ false
+  quiescent_two = subst (λ (g : Call). list_any (waits_to_follow t g) t.attempts ≡ false) same_turned turned.steady.quiescent
 
   pub uninherited : IsStill line.Inherited p v
   uninherited = first.plain later waits also a out x o s is line.Inherited refl (first.was_still later waits also a out x o s is line.Inherited refl refl)
@@ -331,14 +331,14 @@ module _ (later : List (ℕ × RowEnd)) (waits : Line → Bool) (also : List ℕ
   -- what each case has to show
   pub record Leads (r : Retry) : Type 0 where
     pub does : Does r.actions v (done r)
-    pub of_call : AreOfCall n r.actions v
+    pub of_call : ActionsAreOfCall n r.actions v
     pub posts : posted_in r.actions ≡ []
     pub netless : list_any is_of_net r.actions ≡ false
     pub here : numbered r.calls n ≡ Some (its r)
     pub count : length r.calls ≡ length v.calls
-    pub told : (l : Line) → stirs (action.HedgeWithheld n) l ≡ false → IsStill l p (grown r) → IsStill l p (done r)
+    pub reported : (l : Line) → stirs (action.HedgeWithheld n) l ≡ false → IsStill l p (grown r) → IsStill l p (done r)
     pub turn : IsInTurn (done r) (its r)
-    pub calm : list_any (waits_to_follow (done r) (its r)) (attempts r) ≡ false
+    pub quiescent : list_any (waits_to_follow (done r) (its r)) (attempts r) ≡ false
     pub over : (q : Attempt) → is_over q (grown r) ≡ is_over q v
     pub free : (g : Call) → is_none (commitment g (grown r)) ≡ is_none (commitment g v)
     pub long : (g : Call) → has_long_response v g ≡ false → has_long_response (grown r) g ≡ false

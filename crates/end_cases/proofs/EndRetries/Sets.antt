@@ -13,7 +13,7 @@ use Rattle.channel_actions.proofs.Links.Settings.Pairs.{exactly_by, exactly_inse
 use Rattle.channel_actions.proofs.Links.Settings.Timers.{timers_exactly}
 use Rattle.channel_actions.specs.Calls.{deadline_of, due_of}
 use Rattle.call_cases.specs.OtherCalls.Laws.{SetsApart}
-use Rattle.channel_actions.specs.Sets.{AreExactly, is_in_bare, is_in_deadlines, is_in_dues, is_in_impatient, is_in_outstanding, is_in_patient, is_in_queue, is_patient, is_waiting}
+use Rattle.channel_actions.specs.Sets.{PairsAreExactly, is_awaiting_config, is_in_deadlines, is_in_dues, is_in_fail_fast, is_in_outstanding, is_in_ready_waiters, is_in_queue, is_ready_waiter, is_waiting}
 use Rattle.end_cases.proofs.AttemptEnds.After.{attempt_at, commitment_is, d_here, in_out, put, put_call, put_ended, put_placed, waits_by}
 use Rattle.end_cases.proofs.AttemptEnds.Committed.{going_over}
 use Rattle.end_cases.proofs.AttemptEnds.Base.{books, c, e, has, here, out_off, queue_off, slot}
@@ -21,7 +21,7 @@ use Rattle.end_cases.proofs.AttemptEnds.OffSets.{and_on, away_pair, out_left, ow
 use Rattle.end_cases.proofs.AttemptEnds.OneEnded as first
 use Rattle.end_cases.proofs.EndRetries.Next as retry
 use Rattle.end_cases.proofs.EndRetries.Next.{Leads, Retry}
-use Rattle.attempt_cases.proofs.MakingSteps.MadeKinds.{patient_of}
+use Rattle.attempt_cases.proofs.MakingSteps.MadeKinds.{wait_for_ready_of}
 use Rattle.end_cases.specs.AttemptEnds.Ends.{EndNext}
 use Rattle.channel_core.specs.States.{StateSeen}
 use Rattle.channel_core.specs.Timing.{timer_moved}
@@ -200,8 +200,8 @@ module _ (later : List (ℕ × RowEnd)) (waits : Line → Bool) (also : List ℕ
       ∙ ap (λ (g : Bool). g && not (is_over new w)) (eq-eqb n n refl) ∙ ap not over_new
 
   -- whether the call waits for ready
-  patient_same : is_patient w n ≡ is_patient s n
-  patient_same = ap (holds (λ (g : Call). waits_for_ready g w)) leads.here ∙ sym (ap (holds (λ (g : Call). waits_for_ready g s)) (here later waits also a out x o s is))
+  wait_for_ready_same : is_ready_waiter w n ≡ is_ready_waiter s n
+  wait_for_ready_same = ap (holds (λ (g : Call). waits_for_ready g w)) leads.here ∙ sym (ap (holds (λ (g : Call). waits_for_ready g s)) (here later waits also a out x o s is))
 
   -- it was placed, and did not wait; or it waited
   not_waiting : is_some a.row.placed ≡ true → (row : ℕ) (g : Bool) → (row == a.place) ≡ g → is_waiting s n row ≡ true → (row == a.place) ≡ false
@@ -215,7 +215,7 @@ module _ (later : List (ℕ × RowEnd)) (waits : Line → Bool) (also : List ℕ
 
   -- a queue of those calls that wait for ready, or of the others
   module _ (waits_so : Bool) (before after : ℕ → ℕ → Bool) (was : (row : ℕ) → before n row ≡ (is_waiting s n row && waits_so)) (now_ : (row : ℕ) → after n row ≡ (is_waiting w n row && waits_so))
-      (away : (i row : ℕ) → (i == n) ≡ false → after i row ≡ before i row) (pairs : List (ℕ × ℕ)) (exact : AreExactly pairs before) where
+      (away : (i row : ℕ) → (i == n) ≡ false → after i row ≡ before i row) (pairs : List (ℕ × ℕ)) (exact : PairsAreExactly pairs before) where
     abbrev rest : ℕ → ℕ → Bool
     rest i row = after i row && not (is_same (n, place) (i, row))
 
@@ -228,7 +228,7 @@ module _ (later : List (ℕ × RowEnd)) (waits : Line → Bool) (also : List ℕ
     rest_away : (i row : ℕ) → (i == n) ≡ false → rest i row ≡ before i row
     rest_away i row off = ap (λ (g : Bool). after i row && not g) (away_pair n place i row off) ∙ and_on (after i row) ∙ away i row off
 
-    left : AreExactly (queue_off a.row.call a.place a.row.placed pairs) rest
+    left : PairsAreExactly (queue_off a.row.call a.place a.row.placed pairs) rest
     left =
         queue_left later waits also a out x o s is before rest rest_own rest_away
         (λ some row passes. not_waiting some row (row == a.place) refl (and_parts (is_waiting s n row) waits_so (sym (was row) ∙ passes)).0) pairs exact
@@ -238,89 +238,89 @@ module _ (later : List (ℕ × RowEnd)) (waits : Line → Bool) (also : List ℕ
         let both = pair_parts n place i row e in
         ap (λ (j : ℕ). after j row) both.0 ∙ ap (after n) both.1 ∙ now_ place ∙ ap (λ (g : Bool). g && waits_so) waits_new
 
-    pub put_in : waits_so ≡ true → AreExactly (insert_key pair_cmp (queue_off a.row.call a.place a.row.placed pairs) (n, place)) after
+    pub put_in : waits_so ≡ true → PairsAreExactly (insert_key pair_cmp (queue_off a.row.call a.place a.row.placed pairs) (n, place)) after
     put_in yes_ =
         exactly_by (insert_key pair_cmp (queue_off a.row.call a.place a.row.placed pairs) (n, place)) (λ i row. is_same (i, row) (n, place) || rest i row) after
         (exactly_insert (queue_off a.row.call a.place a.row.placed pairs) rest (n, place) left)
         (λ i row. ap (λ (g : Bool). is_same (i, row) (n, place) || (after i row && not g)) (turn_pair n place i row)
         ∙ put_back (after i row) (is_same (i, row) (n, place)) (λ e. here_after i row e ∙ yes_))
 
-    pub left_out : waits_so ≡ false → AreExactly (queue_off a.row.call a.place a.row.placed pairs) after
+    pub left_out : waits_so ≡ false → PairsAreExactly (queue_off a.row.call a.place a.row.placed pairs) after
     left_out no_ =
         exactly_by (queue_off a.row.call a.place a.row.placed pairs) rest after left
         (λ i row. ap (λ (g : Bool). after i row && not g) (turn_pair n place i row)
         ∙ kept_out (after i row) (is_same (i, row) (n, place)) (λ e. here_after i row e ∙ no_))
 
   module _ (z : Stepped) (sees : Sees w dw z) where
-    patient_is : is_patient w n ≡ waits_for z.call
-    patient_is = patient_of w dw z sees
+    wait_for_ready_is : is_ready_waiter w n ≡ waits_for z.call
+    wait_for_ready_is = wait_for_ready_of w dw z sees
 
     queue_by : (g : Bool) → waits_for z.call ≡ g
-        → AreExactly (if g then queue_off a.row.call a.place a.row.placed x.queue else insert_key pair_cmp (queue_off a.row.call a.place a.row.placed x.queue) (n, place)) (is_in_queue w)
+        → PairsAreExactly (if g then queue_off a.row.call a.place a.row.placed x.queue else insert_key pair_cmp (queue_off a.row.call a.place a.row.placed x.queue) (n, place)) (is_in_queue w)
     queue_by true e =
-        left_out (not (is_patient w n)) (is_in_queue s) (is_in_queue w) (λ row. ap (λ (g : Bool). is_waiting s n row && not g) (sym patient_same)) (λ row. refl)
-        (λ i row off. others.queue i row off) x.queue (books later waits also a out x o s is).sets.queue (ap not (patient_is ∙ e))
+        left_out (not (is_ready_waiter w n)) (is_in_queue s) (is_in_queue w) (λ row. ap (λ (g : Bool). is_waiting s n row && not g) (sym wait_for_ready_same)) (λ row. refl)
+        (λ i row off. others.queue i row off) x.queue (books later waits also a out x o s is).sets.queue (ap not (wait_for_ready_is ∙ e))
     queue_by false e =
-        put_in (not (is_patient w n)) (is_in_queue s) (is_in_queue w) (λ row. ap (λ (g : Bool). is_waiting s n row && not g) (sym patient_same)) (λ row. refl)
-        (λ i row off. others.queue i row off) x.queue (books later waits also a out x o s is).sets.queue (ap not (patient_is ∙ e))
+        put_in (not (is_ready_waiter w n)) (is_in_queue s) (is_in_queue w) (λ row. ap (λ (g : Bool). is_waiting s n row && not g) (sym wait_for_ready_same)) (λ row. refl)
+        (λ i row off. others.queue i row off) x.queue (books later waits also a out x o s is).sets.queue (ap not (wait_for_ready_is ∙ e))
 
-    patient_by : (g : Bool) → waits_for z.call ≡ g
-        → AreExactly (if g then insert_key pair_cmp (queue_off a.row.call a.place a.row.placed x.patient) (n, place) else queue_off a.row.call a.place a.row.placed x.patient) (is_in_patient w)
-    patient_by true e =
-        put_in (is_patient w n) (is_in_patient s) (is_in_patient w) (λ row. ap (λ (g : Bool). is_waiting s n row && g) (sym patient_same)) (λ row. refl)
-        (λ i row off. others.patient i row off) x.patient (books later waits also a out x o s is).sets.patient (patient_is ∙ e)
-    patient_by false e =
-        left_out (is_patient w n) (is_in_patient s) (is_in_patient w) (λ row. ap (λ (g : Bool). is_waiting s n row && g) (sym patient_same)) (λ row. refl)
-        (λ i row off. others.patient i row off) x.patient (books later waits also a out x o s is).sets.patient (patient_is ∙ e)
+    wait_for_ready_by : (g : Bool) → waits_for z.call ≡ g
+        → PairsAreExactly (if g then insert_key pair_cmp (queue_off a.row.call a.place a.row.placed x.ready_waiters) (n, place) else queue_off a.row.call a.place a.row.placed x.ready_waiters) (is_in_ready_waiters w)
+    wait_for_ready_by true e =
+        put_in (is_ready_waiter w n) (is_in_ready_waiters s) (is_in_ready_waiters w) (λ row. ap (λ (g : Bool). is_waiting s n row && g) (sym wait_for_ready_same)) (λ row. refl)
+        (λ i row off. others.ready_waiters i row off) x.ready_waiters (books later waits also a out x o s is).sets.ready_waiters (wait_for_ready_is ∙ e)
+    wait_for_ready_by false e =
+        left_out (is_ready_waiter w n) (is_in_ready_waiters s) (is_in_ready_waiters w) (λ row. ap (λ (g : Bool). is_waiting s n row && g) (sym wait_for_ready_same)) (λ row. refl)
+        (λ i row off. others.ready_waiters i row off) x.ready_waiters (books later waits also a out x o s is).sets.ready_waiters (wait_for_ready_is ∙ e)
 
     abbrev queue_with : Bool → List (ℕ × ℕ)
     queue_with g = if g then queue_off a.row.call a.place a.row.placed x.queue else insert_key pair_cmp (queue_off a.row.call a.place a.row.placed x.queue) (n, place)
 
-    abbrev patient_with : Bool → List (ℕ × ℕ)
-    patient_with g = if g then insert_key pair_cmp (queue_off a.row.call a.place a.row.placed x.patient) (n, place) else queue_off a.row.call a.place a.row.placed x.patient
+    abbrev wait_for_ready_with : Bool → List (ℕ × ℕ)
+    wait_for_ready_with g = if g then insert_key pair_cmp (queue_off a.row.call a.place a.row.placed x.ready_waiters) (n, place) else queue_off a.row.call a.place a.row.placed x.ready_waiters
 
-    pub queue_then : AreExactly (queue_with (waits_for z.call)) (is_in_queue w)
+    pub queue_then : PairsAreExactly (queue_with (waits_for z.call)) (is_in_queue w)
     queue_then = queue_by (waits_for z.call) refl
 
-    pub patient_then : AreExactly (patient_with (waits_for z.call)) (is_in_patient w)
-    patient_then = patient_by (waits_for z.call) refl
+    pub wait_for_ready_then : PairsAreExactly (wait_for_ready_with (waits_for z.call)) (is_in_ready_waiters w)
+    wait_for_ready_then = wait_for_ready_by (waits_for z.call) refl
 
   -- the outstanding ones
   pub out_more : (link row : ℕ) → is_in_outstanding w link row ≡ is_in_outstanding v link row
   out_more link row = more_looks (λ (q : Attempt). is_outstanding q && (link_number q == link)) v.attempts new row refl
 
-  pub outs_then : AreExactly (out_off a.place a.row.placed x.outstanding) (is_in_outstanding w)
+  pub outs_then : PairsAreExactly (out_off a.place a.row.placed x.outstanding) (is_in_outstanding w)
   outs_then = out_left later waits also a out x o s is w (λ link row. out_more link row ∙ in_out later waits also a out x o s is link row)
 
   -- calls without a config
-  bare_by : (z j : ℕ) (g : Bool) → (j == n) ≡ g → is_in_bare s z j ≡ is_in_bare w z j
-  bare_by z j true e =
-      subst (λ (m : ℕ). is_in_bare s z m ≡ is_in_bare w z m) (sym (eqb-true j n e))
+  unconfigured_by : (z j : ℕ) (g : Bool) → (j == n) ≡ g → is_awaiting_config s z j ≡ is_awaiting_config w z j
+  unconfigured_by z j true e =
+      subst (λ (m : ℕ). is_awaiting_config s z m ≡ is_awaiting_config w z m) (sym (eqb-true j n e))
       (ap (λ (q : Option Call). (z == 0) && holds (λ (g : Call). is_open_call g && is_none g.config) q) (here later waits also a out x o s is)
       ∙ sym (ap (λ (q : Option Call). (z == 0) && holds (λ (g : Call). is_open_call g && is_none g.config) q) leads.here))
-  bare_by z j false e = sym (others.bare z j e)
+  unconfigured_by z j false e = sym (others.awaiting_config z j e)
 
-  impatient_by : (z j : ℕ) (g : Bool) → (j == n) ≡ g → is_in_impatient s z j ≡ is_in_impatient w z j
-  impatient_by z j true e =
-      subst (λ (m : ℕ). is_in_impatient s z m ≡ is_in_impatient w z m) (sym (eqb-true j n e))
-      (ap (λ (g : Bool). g && not (is_patient s n)) (bare_by z n true (eq-eqb n n refl)) ∙ ap (λ (g : Bool). is_in_bare w z n && not g) (sym patient_same))
-  impatient_by z j false e = sym (others.impatient z j e)
+  fail_fast_by : (z j : ℕ) (g : Bool) → (j == n) ≡ g → is_in_fail_fast s z j ≡ is_in_fail_fast w z j
+  fail_fast_by z j true e =
+      subst (λ (m : ℕ). is_in_fail_fast s z m ≡ is_in_fail_fast w z m) (sym (eqb-true j n e))
+      (ap (λ (g : Bool). g && not (is_ready_waiter s n)) (unconfigured_by z n true (eq-eqb n n refl)) ∙ ap (λ (g : Bool). is_awaiting_config w z n && not g) (sym wait_for_ready_same))
+  fail_fast_by z j false e = sym (others.fail_fast z j e)
 
-  pub bare_then : AreExactly x.bare (is_in_bare w)
-  bare_then = exactly_by x.bare (is_in_bare s) (is_in_bare w) (books later waits also a out x o s is).sets.bare (λ z j. bare_by z j (j == n) refl)
+  pub unconfigured_then : PairsAreExactly x.awaiting_config (is_awaiting_config w)
+  unconfigured_then = exactly_by x.awaiting_config (is_awaiting_config s) (is_awaiting_config w) (books later waits also a out x o s is).sets.awaiting_config (λ z j. unconfigured_by z j (j == n) refl)
 
-  pub impatient_then : AreExactly x.impatient (is_in_impatient w)
-  impatient_then = exactly_by x.impatient (is_in_impatient s) (is_in_impatient w) (books later waits also a out x o s is).sets.impatient (λ z j. impatient_by z j (j == n) refl)
+  pub fail_fast_then : PairsAreExactly x.fail_fast (is_in_fail_fast w)
+  fail_fast_then = exactly_by x.fail_fast (is_in_fail_fast s) (is_in_fail_fast w) (books later waits also a out x o s is).sets.fail_fast (λ z j. fail_fast_by z j (j == n) refl)
 
   -- the timers of the call
   module _ (then_slot : CallSlot) where
-    pub dues_then : due_of w dw ≡ then_slot.due → AreExactly (timer_moved n (slot later waits also a out x o s is).due then_slot.due x.dues) (is_in_dues w)
+    pub dues_then : due_of w dw ≡ then_slot.due → PairsAreExactly (timer_moved n (slot later waits also a out x o s is).due then_slot.due x.dues) (is_in_dues w)
     dues_then due =
         timers_exactly n x.dues (is_in_dues s) (slot later waits also a out x o s is).due then_slot.due (books later waits also a out x o s is).sets.dues
         (λ m. ap (holds (λ (g : Call). is_number m (due_of s g))) (here later waits also a out x o s is) ∙ ap (is_number m) (has later waits also a out x o s is).sees.due)
         (is_in_dues w) (λ m j e. others.dues m j e) (λ m. ap (holds (λ (g : Call). is_number m (due_of w g))) leads.here ∙ ap (is_number m) due)
 
-    pub deadlines_then : deadline_of w dw ≡ then_slot.deadline → AreExactly (timer_moved n (slot later waits also a out x o s is).deadline then_slot.deadline x.deadlines) (is_in_deadlines w)
+    pub deadlines_then : deadline_of w dw ≡ then_slot.deadline → PairsAreExactly (timer_moved n (slot later waits also a out x o s is).deadline then_slot.deadline x.deadlines) (is_in_deadlines w)
     deadlines_then past =
         timers_exactly n x.deadlines (is_in_deadlines s) (slot later waits also a out x o s is).deadline then_slot.deadline (books later waits also a out x o s is).sets.deadlines
         (λ m. ap (holds (λ (g : Call). is_number m (deadline_of s g))) (here later waits also a out x o s is) ∙ ap (is_number m) (has later waits also a out x o s is).sees.deadline_is)

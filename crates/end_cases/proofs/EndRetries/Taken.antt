@@ -17,7 +17,7 @@ use Rattle.call_actions.specs.CallsInTurn.Turns.{StaysSteady, waits as waits_to_
 use Rattle.call_actions.specs.Order.{IsInTurn}
 use Rattle.channel_actions.proofs.KeptSessions.Along.{kept_along}
 use Rattle.channel_actions.specs.KeptSessions.Kept.{IsKept}
-use Rattle.call_cases.specs.OtherCalls.Others.{AreOfCall}
+use Rattle.call_cases.specs.OtherCalls.Others.{ActionsAreOfCall}
 use Rattle.end_cases.proofs.AttemptEnds.After.{commitment_is, placed_from, put}
 use Rattle.end_cases.proofs.AttemptEnds.Base.{books, c, e, x1}
 use Rattle.end_cases.proofs.AttemptEnds.LastCommits.{found_one}
@@ -30,7 +30,7 @@ use Rattle.end_cases.proofs.EndRetries.Next.{Leads, Retry}
 use Rattle.call_cases.proofs.ConfiguredCalls.Lists.{changed_length}
 use Rattle.end_cases.specs.AttemptEnds.Ends.{EndNext}
 use Rattle.channel_core.specs.States.{StateSeen}
-use Rattle.link_actions.specs.Sees.{ArePlaced}
+use Rattle.link_actions.specs.Sees.{AttemptsStandInPlace}
 use Rattle.session_actions.specs.Actions.{after as after_action, after_if, following}
 use Rattle.session_actions.specs.AttemptEnds.{with_end}
 use Rattle.session_actions.specs.Attempts.{commitment, is_commitment, is_counted, is_of, is_outstanding, is_over, is_over_in, is_to_follow, wants_follower}
@@ -52,11 +52,11 @@ use Rattle.session_actions.specs.declared.call.MarkKind.TheVariants as mark
 use Rattle.session_actions.specs.declared.entry.OpenEntry.{OpenEntry}
 use Rattle.session_actions.specs.declared.response.Outcome.{Outcome}
 use Rattle.session_actions.specs.declared.seen.Seen.{Seen}
-use Rattle.session_order.proofs.Calms.{first_line_gives}
+use Rattle.session_order.proofs.Quiescence.{first_line_gives}
 use Rattle.session_order.proofs.Changed.{lookup, none_more}
 use Rattle.session_order.proofs.Lists.{any_same, holds_same}
 use Rattle.session_order.proofs.Queues.{marked_still}
-use Rattle.session_order.specs.Calm.{IsStill, is_to_cut}
+use Rattle.session_order.specs.Quiescent.{IsStill, is_to_cut}
 use Rattle.session_order.specs.Lines.{rank}
 use Rattle.session_order.specs.declared.line.Line.{Line}
 use Rattle.session_order.specs.declared.line.Line.TheVariants as line
@@ -85,8 +85,8 @@ before_taking loses line.Give e X a b = absurd (cc)
 before_taking loses line.Drop e X a b = absurd (cc)
 before_taking loses line.Add e X a b = absurd (cc)
 
-not_behind : (m i : ℕ) → i ≤ m → nat_lt (m + 1) i ≡ false
-not_behind m i e = grind (arith, nat_tests, e)
+not_after : (m i : ℕ) → i ≤ m → nat_lt (m + 1) i ≡ false
+not_after m i e = grind (arith, nat_tests, e)
 
 module _ (later : List (ℕ × RowEnd)) (waits : Line → Bool) (also : List ℕ) (a : Attempt) (out : Outcome) (x : StateSeen) (o : OpenEntry) (s : Seen) (is : EndNext later waits also a out x o s)
     (going : (c later waits also a out x o s is).end ≡ None) (follows : is_to_follow (c later waits also a out x o s is) out.cause out.unseen s ≡ true)
@@ -137,7 +137,7 @@ module _ (later : List (ℕ × RowEnd)) (waits : Line → Bool) (also : List ℕ
   pub new_there : numbered t.attempts place ≡ Some new
   new_there = numbered_last v.attempts new
 
-  pub places : ArePlaced 1 t.attempts
+  pub places : AttemptsStandInPlace 1 t.attempts
   places = placed_from 1 t.attempts kept_two.book.places
 
   held_one : commitment k v ≡ Some then_
@@ -183,7 +183,7 @@ module _ (later : List (ℕ × RowEnd)) (waits : Line → Bool) (also : List ℕ
   wants_two : (i : ℕ) (q : Attempt) (g : Bool) → slice_get t.attempts i ≡ Some q → (q.row.call == n) ≡ g → wants_follower q t ≡ false
   wants_two i q true at mine =
       ap (λ (b : Bool). b && wants_follower q t) (sym mine)
-      ∙ numbered_not (waits_to_follow t dt) t.attempts (suc i) q (retry.calm_two later waits also a out x o s is going follows) at
+      ∙ numbered_not (waits_to_follow t dt) t.attempts (suc i) q (retry.quiescent_two later waits also a out x o s is going follows) at
   wants_two i q false at off =
       wants_none n (x1 later waits also a out x o s is) s t (retry.apart_two later waits also a out x o s is going follows) (books later waits also a out x o s is).calls
       (first.kept later waits also a out x o s is) kept_two i q at off (first.was_still later waits also a out x o s is line.Transparent refl refl)
@@ -276,7 +276,7 @@ module _ (later : List (ℕ × RowEnd)) (waits : Line → Bool) (also : List ℕ
       let low : i ≤ length v.attempts = within v.attempts i q at in
       ap (λ (r : Option Attempt). is_none g.end && holds (is_inherited_by q) r) (own_commitment g own)
       ∙ ap (λ (m : ℕ). is_none g.end && ((a.row.number == q.row.number) && nat_lt (length v.attempts + 1) m)) (place_is i v.attempts q kept_one.book.places at)
-      ∙ ap (λ (b : Bool). is_none g.end && ((a.row.number == q.row.number) && b)) (not_behind (length v.attempts) i low)
+      ∙ ap (λ (b : Bool). is_none g.end && ((a.row.number == q.row.number) && b)) (not_after (length v.attempts) i low)
       ∙ ap (λ (b : Bool). is_none g.end && b) (and_right (a.row.number == q.row.number) false refl) ∙ and_right (is_none g.end) false refl
   heir_in i q g false at off h = ap (λ (r : Option Attempt). is_none g.end && holds (is_inherited_by q) r) (other_commitment g off) ∙ h
 
@@ -310,14 +310,14 @@ module _ (later : List (ℕ × RowEnd)) (waits : Line → Bool) (also : List ℕ
       subst (λ (q : Seen). StaysSteady q n) committed_is
       (committing_keeps t dt place new (subst IsBook (sym committed_is) kept_three.book)
       (record { own = retry.dt_here later waits also a out x o s is going follows; there = new_there; mine = eq-eqb n n refl })
-      (record { turn = retry.turn_two later waits also a out x o s is going follows; calm = retry.calm_two later waits also a out x o s is going follows }))
+      (record { turn = retry.turn_two later waits also a out x o s is going follows; quiescent = retry.quiescent_two later waits also a out x o s is going follows }))
 
   same_turned : turned.call ≡ dw
   same_turned =
       let two : Some turned.call ≡ Some dw = sym turned.own ∙ dw_here in
       (cc)
 
-  of_call_three : AreOfCall n (takes ∷ []) t
+  of_call_three : ActionsAreOfCall n (takes ∷ []) t
   of_call_three = (
     record {
       acts = ap (λ (q : Option Attempt). option_map_or (λ (i : ℕ). i == n) (option_map (λ (g : Attempt). g.row.call) q) true) new_there ∙ eq-eqb n n refl;
@@ -337,16 +337,16 @@ module _ (later : List (ℕ × RowEnd)) (waits : Line → Bool) (also : List ℕ
   pub leads : Leads later waits also a out x o s is going follows r
   leads = record {
     does = (retry.next_two later waits also a out x o s is going follows, subst (λ (q : Seen). Does (takes ∷ []) q w) (sym (retry.after_two later waits also a out x o s is going follows)) does_three);
-    of_call = ((retry.of_call_two later waits also a out x o s is going follows).0, subst (λ (q : Seen). AreOfCall n (takes ∷ []) q) (sym (retry.after_two later waits also a out x o s is going follows)) of_call_three);
+    of_call = ((retry.of_call_two later waits also a out x o s is going follows).0, subst (λ (q : Seen). ActionsAreOfCall n (takes ∷ []) q) (sym (retry.after_two later waits also a out x o s is going follows)) of_call_three);
     posts = refl;
     netless = refl;
     here = dw_here;
     count = changed_length also_noted n t.calls ∙ changed_length noted n v.calls;
-    told = λ l off h.
+    reported = λ l off h.
         marked_still (record added { calls = t.calls }) n (λ (g : Call). g.marks ++ record { what = mark.Committed; moment = now t } ∷ []) l p off
         (marked_still added n (λ (g : Call). g.marks ++ record { what = mark.Made place; moment = now v } ∷ []) l p off h);
     turn = subst (λ (g : Call). IsInTurn w g) same_turned turned.steady.turn;
-    calm = subst (λ (g : Call). list_any (waits_to_follow w g) w.attempts ≡ false) same_turned turned.steady.calm;
+    quiescent = subst (λ (g : Call). list_any (waits_to_follow w g) w.attempts ≡ false) same_turned turned.steady.quiescent;
     over = λ q. holds_same (λ (g : Call). is_over_in g q added) (λ (g : Call). is_over_in g q v) (λ g. over_in q g (n == g.number) refl) (numbered v.calls q.row.call);
     free = λ g. free_in g (n == g.number) refl;
     long = λ g h. long_in g (n == g.number) refl h;

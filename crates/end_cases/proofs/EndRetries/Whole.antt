@@ -73,7 +73,7 @@ module _ (later : List (ℕ × RowEnd)) (waits : Line → Bool) (also : List ℕ
         subst (λ (q : Seen). Keeps (made_of (now v) q) n step) (t_is later waits also a out x o s is)
         (subst (λ (m : ℕ). Keeps (made_of m (attempt_ended a.place (e later waits also a out x o s is) s)) n step) moment_same
         (refused_are_retried s k (x2 later waits also a out x o s is) a.place a out (sees later waits also a out x o s is) (has later waits also a out x o s is).sees.order
-        (has later waits also a out x o s is).sees.turn is.ending case.going free case.follows (retry.calm later waits also a out x o s is case.going case.follows)))
+        (has later waits also a out x o s is).sees.turn is.ending case.going free case.follows (retry.quiescent later waits also a out x o s is case.going case.follows)))
 
     free_ended : HasEnded later waits also a out x o s
     free_ended =
@@ -92,7 +92,7 @@ module _ (later : List (ℕ × RowEnd)) (waits : Line → Bool) (also : List ℕ
         (subst (λ (q : Seen). Keeps (call_committed (length s.attempts + 1) (made_of (now v) q)) n step) (t_is later waits also a out x o s is)
         (subst (λ (m : ℕ). Keeps (call_committed (length s.attempts + 1) (made_of m (attempt_ended a.place (e later waits also a out x o s is) s))) n step) moment_same
         (committed_are_retried s k (x2 later waits also a out x o s is) a.place a out (sees later waits also a out x o s is) (has later waits also a out x o s is).sees.order
-        (has later waits also a out x o s is).sees.turn is.ending case.going held case.follows (retry.calm later waits also a out x o s is case.going case.follows)))))
+        (has later waits also a out x o s is).sees.turn is.ending case.going held case.follows (retry.quiescent later waits also a out x o s is case.going case.follows)))))
 
     ahead_taken : LinksAhead also x (all_left later (taken_retry.w later waits also a out x o s is case.going case.follows held))
     ahead_taken =

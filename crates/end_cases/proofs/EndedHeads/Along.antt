@@ -8,10 +8,10 @@ use Rattle.channel_actions.proofs.KeptSessions.Lists.{all_at}
 use Rattle.channel_actions.specs.FewCalls.Reached.{IsReached}
 use Rattle.channel_actions.specs.KeptCalls.Early.{IsEarlyKept}
 use Rattle.channel_actions.specs.KeptSessions.Kept.{IsKept}
-use Rattle.end_cases.proofs.EndedHeads.Lines.{heard_fits}
-use Rattle.end_cases.proofs.EndedHeads.Parts.{Unheard, head_in, heads, is_committed_of, is_ended_call, is_unheard, settles}
+use Rattle.end_cases.proofs.EndedHeads.Lines.{received_fits}
+use Rattle.end_cases.proofs.EndedHeads.Parts.{Unreceived, head_in, heads, is_committed_of, is_ended_call, is_unreceived, settles}
 use Rattle.end_cases.proofs.EndedHeads.Responses.{any_length}
-use Rattle.end_cases.proofs.EndedHeads.Steps.{unheard_after}
+use Rattle.end_cases.proofs.EndedHeads.Steps.{unreceived_after}
 use Rattle.session_actions.specs.Actions.{after}
 use Rattle.session_actions.specs.Attempts.{commitment, is_commitment, is_of}
 use Rattle.session_actions.specs.Links.{link_of}
@@ -27,13 +27,13 @@ use Rattle.std.proofs.Common.{Bool, List, None, Option, Some, [], ap, eqb-true, 
 use Rattle.std.specs.List.{list_any}
 use Rattle.std.specs.Option.{option_map_or}
 
-unheard_along : (actions : List Action) (s t : Seen) → IsKept s → IsEarlyKept s → Unheard s → Does actions s t → Unheard t
-unheard_along [] s t kept early h does = subst Unheard (sym does) h
-unheard_along (a ∷ actions) s t kept early h does =
-    unheard_along actions (after a s) t (kept_stays s a kept does.0) (early_stays s a kept early does.0) (unheard_after s a (heard_fits s kept early a does.0) h) does.1
+unreceived_along : (actions : List Action) (s t : Seen) → IsKept s → IsEarlyKept s → Unreceived s → Does actions s t → Unreceived t
+unreceived_along [] s t kept early h does = subst Unreceived (sym does) h
+unreceived_along (a ∷ actions) s t kept early h does =
+    unreceived_along actions (after a s) t (kept_stays s a kept does.0) (early_stays s a kept early does.0) (unreceived_after s a (received_fits s kept early a does.0) h) does.1
 
-reached_unheard : (s : Seen) → IsReached s → Unheard s
-reached_unheard s r = unheard_along r.actions (new_session r.setup) s (kept_begins r.setup) (early_begins r.setup) refl r.does
+reached_unreceived : (s : Seen) → IsReached s → Unreceived s
+reached_unreceived s r = unreceived_along r.actions (new_session r.setup) s (kept_begins r.setup) (early_begins r.setup) refl r.does
 
 unsettled : (p q x : Bool) → p ≡ false → q ≡ false → ((p || q) || not x) ≡ true → x ≡ false
 unsettled false false true e f h = absurd (cc)
@@ -62,7 +62,7 @@ module _ (s : Seen) (reached : IsReached s) (c : Call) (place : ℕ) (a : Attemp
   none_came =
       unsettled (holds is_ended_call (numbered s.calls a.row.call)) (list_any (is_committed_of a.row.call) s.attempts) (heads s.links a e) unended uncommitted
       (sym (ap (λ (o : Option RowEnd). option_map_or (λ (z : RowEnd). settles s.calls s.attempts a.row.call || not (heads s.links a z)) o true) over)
-      ∙ all_at (is_unheard s.calls s.attempts s.links) s.attempts place a (reached_unheard s reached) there)
+      ∙ all_at (is_unreceived s.calls s.attempts s.links) s.attempts place a (reached_unreceived s reached) there)
 
   on_link : (stream : ℕ) (o : Option Link) → holds (head_in e.seen stream) o ≡ false → is_some (option_map_or (response_on a stream s) o no_response).head ≡ false
   on_link stream None h = refl

@@ -11,9 +11,9 @@ use Rattle.channel_actions.proofs.Quiet.{or_parts_none}
 use Rattle.channel_actions.proofs.Stamps.{counted_at}
 use Rattle.channel_actions.specs.KeptCalls.Early.{IsEarlyKept}
 use Rattle.channel_actions.specs.KeptSessions.Kept.{IsKept}
-use Rattle.end_cases.proofs.EndedHeads.Parts.{head_in, heads, is_committed_of, is_ended_call, is_unheard, link_at, settles}
+use Rattle.end_cases.proofs.EndedHeads.Parts.{head_in, heads, is_committed_of, is_ended_call, is_unreceived, link_at, settles}
 use Rattle.end_cases.proofs.EndedHeads.Responses.{any_length, seen_is_there}
-use Rattle.end_cases.proofs.EndedHeads.Steps.{FitsHeard}
+use Rattle.end_cases.proofs.EndedHeads.Steps.{FitsReceived}
 use Rattle.attempt_cases.proofs.MakingSteps.Withheld.{any_none, unmapped}
 use Rattle.grpc_base.specs.declared.event.EndCause.TheVariants as ending
 use Rattle.grpc_base.specs.declared.event.EndCause.{EndCause}
@@ -150,9 +150,9 @@ none_headed o s e =
     let e8 = or_parts_none (next_overflow s) _ e7.1 in
     (or_parts_none (next_headed s) _ e8.1).0
 
-cut_or_calm : (o : OpenEntry) (s : Seen) (row : ℕ) (e : RowEnd) → following_in s o ≡ Some (action.AttemptEnds row e)
+cut_or_quiescent : (o : OpenEntry) (s : Seen) (row : ℕ) (e : RowEnd) → following_in s o ≡ Some (action.AttemptEnds row e)
     → (next_cut s ≡ Some (action.AttemptEnds row e)) ⊎ (next_headed s ≡ None)
-cut_or_calm o s row e next =
+cut_or_quiescent o s row e next =
     by_calls (skip (of_calls o s) (option_or (of_links o s) (option_or (of_policies o s) (option_or (of_stage o s o.stage) None))) (action.AttemptEnds row e) next)
   where
     by_calls : (of_calls o s ≡ Some (action.AttemptEnds row e))
@@ -209,15 +209,15 @@ module _ (s : Seen) (kept : IsKept s) where
 
   -- of an attempt that goes on what an end would see is in its response
   module _ (q : Attempt) (e : RowEnd) (goes : q.row.ended ≡ None) where
-    heard_link : (stream : ℕ) (o : Option Link) → holds (head_in e.seen stream) o ≡ true → is_some (option_map_or (response_on q stream s) o no_response).head ≡ true
-    heard_link stream None h = absurd (cc)
-    heard_link stream (Some l) h =
+    received_link : (stream : ℕ) (o : Option Link) → holds (head_in e.seen stream) o ≡ true → is_some (option_map_or (response_on q stream s) o no_response).head ≡ true
+    received_link stream None h = absurd (cc)
+    received_link stream (Some l) h =
         ap (λ (r : Option RowEnd). is_some (response_in (limit_of_attempt q s) stream (option_map_or (λ (z : RowEnd). traffic_by z.seen l.traffic) r l.traffic)).head) goes
         ∙ any_length 0 (limit_of_attempt q s) stream l.traffic (seen_is_there 0 stream e.seen l.traffic h)
 
-    heard_stream : (r : Option ℕ) → holds (λ (stream : ℕ). holds (head_in e.seen stream) (link_of q s)) r ≡ true → is_some (response_by q s r).head ≡ true
-    heard_stream None h = absurd (cc)
-    heard_stream (Some stream) h = heard_link stream (link_of q s) h
+    received_stream : (r : Option ℕ) → holds (λ (stream : ℕ). holds (head_in e.seen stream) (link_of q s)) r ≡ true → is_some (response_by q s r).head ≡ true
+    received_stream None h = absurd (cc)
+    received_stream (Some stream) h = received_link stream (link_of q s) h
 
     is_placed : (p : Option Placed) (stream : ℕ) → holds (head_in e.seen stream) (link_at s.links p) ≡ true → is_some p ≡ true
     is_placed None stream h = absurd (cc)
@@ -238,15 +238,15 @@ module _ (s : Seen) (kept : IsKept s) where
         → settles s.calls s.attempts q.row.call ≡ true
     settled_by row there none h =
         taken_by q (numbered s.calls q.row.call) refl (all_at (λ (a : Attempt). is_some (call_of a s)) s.attempts row q kept.owned there)
-        (free_off (numbered s.calls q.row.call) refl (placed_by q.row.stream h) (heard_stream q.row.stream h)
+        (free_off (numbered s.calls q.row.call) refl (placed_by q.row.stream h) (received_stream q.row.stream h)
         (numbered_not (is_headed s) s.attempts row q none there))
 
-    unheard_by : (b : Bool) → heads s.links (with_end e q) e ≡ b → (b ≡ true → settles s.calls s.attempts q.row.call ≡ true)
+    unreceived_by : (b : Bool) → heads s.links (with_end e q) e ≡ b → (b ≡ true → settles s.calls s.attempts q.row.call ≡ true)
         → (settles s.calls s.attempts q.row.call || not (heads s.links (with_end e q) e)) ≡ true
-    unheard_by true is settled = ap (λ (b : Bool). b || not (heads s.links (with_end e q) e)) (settled refl)
-    unheard_by false is settled = or_right (settles s.calls s.attempts q.row.call) (not (heads s.links (with_end e q) e)) (ap not is)
+    unreceived_by true is settled = ap (λ (b : Bool). b || not (heads s.links (with_end e q) e)) (settled refl)
+    unreceived_by false is settled = or_right (settles s.calls s.attempts q.row.call) (not (heads s.links (with_end e q) e)) (ap not is)
 
-  end_fits : (row : ℕ) (e : RowEnd) → following s ≡ Some (action.AttemptEnds row e) → FitsHeard (action.AttemptEnds row e) s
+  end_fits : (row : ℕ) (e : RowEnd) → following s ≡ Some (action.AttemptEnds row e) → FitsReceived (action.AttemptEnds row e) s
   end_fits row e next a q there at =
       let place : a.place ≡ row = counted_at (λ (z : Attempt). z.place) s.attempts row a kept.attempts there in
       let here : numbered s.attempts row ≡ Some q = ap (numbered s.attempts) (sym place) ∙ at in
@@ -267,26 +267,26 @@ module _ (s : Seen) (kept : IsKept s) where
       cut_by false k is given = absurd (cc)
 
       from_either : (z : Attempt) → numbered s.attempts row ≡ Some z → z.row.ended ≡ None → (next_cut s ≡ Some (action.AttemptEnds row e)) ⊎ (next_headed s ≡ None)
-          → is_unheard s.calls s.attempts s.links (with_end e z) ≡ true
+          → is_unreceived s.calls s.attempts s.links (with_end e z) ≡ true
       from_either z here goes (inl given) =
           let g : Gave (cut s) s.attempts (action.AttemptEnds row e) = gave_one (cut s) s.attempts (action.AttemptEnds row e) given in
           let two : (g.one.place ≡ row) × (is_over g.one s ≡ true) = cut_by (is_outstanding g.one && is_over g.one s) g.one refl g.gave in
           let place : g.one.place ≡ suc g.index = counted_at (λ (z : Attempt). z.place) s.attempts (suc g.index) g.one kept.attempts g.at in
           let same : g.one ≡ z = one_of (numbered s.attempts row) g.one z (ap (numbered s.attempts) (sym two.0 ∙ place) ∙ g.at) here in
-          unheard_by z e goes (heads s.links (with_end e z) e) refl (λ h. over_settles z (ap (λ (k : Attempt). is_over k s) (sym same) ∙ two.1))
-      from_either z here goes (inr calm) =
-          unheard_by z e goes (heads s.links (with_end e z) e) refl
-          (λ h. settled_by z e goes row here (any_none (is_headed s) s.attempts (unmapped (committing commit.Head) (find (is_headed s) s.attempts) calm)) h)
+          unreceived_by z e goes (heads s.links (with_end e z) e) refl (λ h. over_settles z (ap (λ (k : Attempt). is_over k s) (sym same) ∙ two.1))
+      from_either z here goes (inr quiescent) =
+          unreceived_by z e goes (heads s.links (with_end e z) e) refl
+          (λ h. settled_by z e goes row here (any_none (is_headed s) s.attempts (unmapped (committing commit.Head) (find (is_headed s) s.attempts) quiescent)) h)
 
       by_open : (o : Option OpenEntry) → s.current ≡ o → (z : Attempt) → numbered s.attempts row ≡ Some z → z.row.ended ≡ None
-          → is_unheard s.calls s.attempts s.links (with_end e z) ≡ true
+          → is_unreceived s.calls s.attempts s.links (with_end e z) ≡ true
       by_open None at z here goes =
           let bad : None ≡ Some (action.AttemptEnds row e) = sym (ap (option_and_then (following_in s)) at) ∙ next in absurd (cc)
       by_open (Some o) at z here goes =
-          from_either z here goes (cut_or_calm o s row e (sym (ap (option_and_then (following_in s)) at) ∙ next))
+          from_either z here goes (cut_or_quiescent o s row e (sym (ap (option_and_then (following_in s)) at) ∙ next))
 
   -- a stream is opened for an attempt that goes on
-  stream_fits : (link : ℕ) (x : Sent) → FitsHeard (action.FrameWritten link x) s
+  stream_fits : (link : ℕ) (x : Sent) → FitsReceived (action.FrameWritten link x) s
   stream_fits link x l a q on waits at =
       let two : IsIn (λ (k : Attempt). is_none k.row.stream) (outstanding_on l s) a = from_filter (λ (k : Attempt). is_none k.row.stream) (outstanding_on l s) 0 a waits in
       let one : IsIn (is_outstanding_on l) s.attempts a = from_filter (is_outstanding_on l) s.attempts two.index a two.at in
@@ -300,16 +300,16 @@ module _ (s : Seen) (kept : IsKept s) where
       goes_on false q r e = absurd (cc)
 
   -- nothing that is read later was seen
-  read_fits : (early : IsEarlyKept s) (link : ℕ) (r : ReadFrame) → following s ≡ Some (action.FrameRead link r) → FitsHeard (action.FrameRead link r) s
+  read_fits : (early : IsEarlyKept s) (link : ℕ) (r : ReadFrame) → following s ≡ Some (action.FrameRead link r) → FitsReceived (action.FrameRead link r) s
   read_fits early link r next = by_open s.current refl
     where
-      by_open : (o : Option OpenEntry) → s.current ≡ o → FitsHeard (action.FrameRead link r) s
+      by_open : (o : Option OpenEntry) → s.current ≡ o → FitsReceived (action.FrameRead link r) s
       by_open None at = let bad : None ≡ Some (action.FrameRead link r) = sym (ap (option_and_then (following_in s)) at) ∙ next in absurd (cc)
       by_open (Some o) at = next_actions_fit o s (action.FrameRead link r) kept early at next
 
-  pub heard_fits : (early : IsEarlyKept s) (x : Action) → IsNext x s → FitsHeard x s
-  heard_fits early (action.AttemptPlaced row at) next = next_fits s (action.AttemptPlaced row at) kept early next
-  heard_fits early (action.AttemptEnds row e) next = end_fits row e next
-  heard_fits early (action.FrameRead link r) next = read_fits early link r next
-  heard_fits early (action.FrameWritten link x) next = stream_fits link x
-  heard_fits early _ next = tt
+  pub received_fits : (early : IsEarlyKept s) (x : Action) → IsNext x s → FitsReceived x s
+  received_fits early (action.AttemptPlaced row at) next = next_fits s (action.AttemptPlaced row at) kept early next
+  received_fits early (action.AttemptEnds row e) next = end_fits row e next
+  received_fits early (action.FrameRead link r) next = read_fits early link r next
+  received_fits early (action.FrameWritten link x) next = stream_fits link x
+  received_fits early _ next = tt

@@ -41,19 +41,19 @@ link_at links p = option_and_then (λ at. numbered links at.link) p
 abbrev pub heads : List Link → Attempt → RowEnd → Bool
 heads links a e = holds (λ stream. holds (head_in e.seen stream) (link_at links a.row.placed)) a.row.stream
 
-abbrev pub is_unheard : List Call → List Attempt → List Link → Attempt → Bool
-is_unheard calls attempts links a = option_map_or (λ e. settles calls attempts a.row.call || not (heads links a e)) a.row.ended true
+abbrev pub is_unreceived : List Call → List Attempt → List Link → Attempt → Bool
+is_unreceived calls attempts links a = option_map_or (λ e. settles calls attempts a.row.call || not (heads links a e)) a.row.ended true
 
-abbrev pub UnheardOf : List Call → List Attempt → List Link → Type 0
-UnheardOf calls attempts links = list_all (is_unheard calls attempts links) attempts ≡ true
+abbrev pub UnreceivedOf : List Call → List Attempt → List Link → Type 0
+UnreceivedOf calls attempts links = list_all (is_unreceived calls attempts links) attempts ≡ true
 
-abbrev pub Unheard : Seen → Type 0
-Unheard s = UnheardOf s.calls s.attempts s.links
+abbrev pub Unreceived : Seen → Type 0
+Unreceived s = UnreceivedOf s.calls s.attempts s.links
 
-pub beside : (s t : Seen) → t.calls ≡ s.calls → t.attempts ≡ s.attempts → t.links ≡ s.links → Unheard s → Unheard t
+pub beside : (s t : Seen) → t.calls ≡ s.calls → t.attempts ≡ s.attempts → t.links ≡ s.links → Unreceived s → Unreceived t
 beside s t a b d h =
-    subst (λ (z : List Call). UnheardOf z t.attempts t.links) (sym a)
-    (subst (λ (z : List Attempt). UnheardOf s.calls z t.links) (sym b) (subst (λ (z : List Link). UnheardOf s.calls s.attempts z) (sym d) h))
+    subst (λ (z : List Call). UnreceivedOf z t.attempts t.links) (sym a)
+    (subst (λ (z : List Attempt). UnreceivedOf s.calls z t.links) (sym b) (subst (λ (z : List Link). UnreceivedOf s.calls s.attempts z) (sym d) h))
 
 -- what more is settled, and of which no more heads came
 wide : (p q x y : Bool) → (p ≡ true → q ≡ true) → (y ≡ true → x ≡ true) → (p || not x) ≡ true → (q || not y) ≡ true
@@ -69,10 +69,10 @@ map_wide (Some e) f g each h = each e refl h
 
 one_wide : (calls more : List Call) (attempts others : List Attempt) (links ls : List Link) (a : Attempt)
     → ((n : ℕ) → settles calls attempts n ≡ true → settles more others n ≡ true)
-    → ((e : RowEnd) → a.row.ended ≡ Some e → heads ls a e ≡ true → heads links a e ≡ true) → is_unheard calls attempts links a ≡ true → is_unheard more others ls a ≡ true
-one_wide calls more attempts others links ls a settled heard h =
+    → ((e : RowEnd) → a.row.ended ≡ Some e → heads ls a e ≡ true → heads links a e ≡ true) → is_unreceived calls attempts links a ≡ true → is_unreceived more others ls a ≡ true
+one_wide calls more attempts others links ls a settled handled h =
     map_wide a.row.ended (λ (e : RowEnd). settles calls attempts a.row.call || not (heads links a e)) (λ (e : RowEnd). settles more others a.row.call || not (heads ls a e))
-    (λ e got k. wide (settles calls attempts a.row.call) (settles more others a.row.call) (heads links a e) (heads ls a e) (settled a.row.call) (heard e got) k) h
+    (λ e got k. wide (settles calls attempts a.row.call) (settles more others a.row.call) (heads links a e) (heads ls a e) (settled a.row.call) (handled e got) k) h
 
 or_wide : (p q x y : Bool) → (p ≡ true → q ≡ true) → (x ≡ true → y ≡ true) → (p || x) ≡ true → (q || y) ≡ true
 or_wide p true x y f g e = refl
@@ -105,23 +105,23 @@ more_by calls ys (suc i) (Some c) got e = ap (holds is_ended_call) (get_more cal
 pub ended_more : (calls ys : List Call) → StayEnded calls (calls ++ ys)
 ended_more calls ys k e = more_by calls ys k (numbered calls k) refl e
 
-pub calls_now : (s : Seen) (cs : List Call) → StayEnded s.calls cs → Unheard s → Unheard (record s { calls = cs })
+pub calls_now : (s : Seen) (cs : List Call) → StayEnded s.calls cs → Unreceived s → Unreceived (record s { calls = cs })
 calls_now s cs stay h =
-    all_wide (is_unheard s.calls s.attempts s.links) (is_unheard cs s.attempts s.links)
+    all_wide (is_unreceived s.calls s.attempts s.links) (is_unreceived cs s.attempts s.links)
     (λ a k. one_wide s.calls cs s.attempts s.attempts s.links s.links a
     (λ n settled. or_wide (holds is_ended_call (numbered s.calls n)) (holds is_ended_call (numbered cs n)) (list_any (is_committed_of n) s.attempts)
     (list_any (is_committed_of n) s.attempts) (stay n) (λ e. e) settled)
-    (λ e got heard. heard) k)
+    (λ e got handled. handled) k)
     s.attempts h
 
-pub call_now : (f : Call → Call) (n : ℕ) (s : Seen) → ((c : Call) → is_ended_call c ≡ true → is_ended_call (f c) ≡ true) → Unheard s
-    → Unheard (record s { calls = changed f n s.calls })
+pub call_now : (f : Call → Call) (n : ℕ) (s : Seen) → ((c : Call) → is_ended_call c ≡ true → is_ended_call (f c) ≡ true) → Unreceived s
+    → Unreceived (record s { calls = changed f n s.calls })
 call_now f n s keeps h = calls_now s (changed f n s.calls) (λ k e. ended_at f keeps n k s.calls (k == n) refl e) h
 
-pub marked_now : (what : MarkKind) (n : ℕ) (s : Seen) → Unheard s → Unheard (marked what n s)
+pub marked_now : (what : MarkKind) (n : ℕ) (s : Seen) → Unreceived s → Unreceived (marked what n s)
 marked_now what n s h = call_now (λ (c : Call). record c { marks = c.marks ++ record { what = what; moment = now s } ∷ [] }) n s (λ c e. e) h
 
-pub row_marked : (what : MarkKind) (s : Seen) (o : Option Attempt) → Unheard s → Unheard (option_map_or (λ (a : Attempt). marked what a.row.call s) o s)
+pub row_marked : (what : MarkKind) (s : Seen) (o : Option Attempt) → Unreceived s → Unreceived (option_map_or (λ (a : Attempt). marked what a.row.call s) o s)
 row_marked what s None h = h
 row_marked what s (Some a) h = marked_now what a.row.call s h
 
@@ -156,31 +156,31 @@ settled_too calls attempts others keeps n e =
     (keeps n) e
 
 pub attempt_now : (f : Attempt → Attempt) (place : ℕ) (s : Seen) → ((n : ℕ) (a : Attempt) → is_committed_of n a ≡ true → is_committed_of n (f a) ≡ true)
-    → ((a : Attempt) → numbered s.attempts place ≡ Some a → is_unheard s.calls s.attempts s.links a ≡ true → is_unheard s.calls s.attempts s.links (f a) ≡ true) → Unheard s
-    → Unheard (record s { attempts = changed f place s.attempts })
+    → ((a : Attempt) → numbered s.attempts place ≡ Some a → is_unreceived s.calls s.attempts s.links a ≡ true → is_unreceived s.calls s.attempts s.links (f a) ≡ true) → Unreceived s
+    → Unreceived (record s { attempts = changed f place s.attempts })
 attempt_now f place s commits one h =
-    all_wide (is_unheard s.calls s.attempts s.links) (is_unheard s.calls (changed f place s.attempts) s.links)
+    all_wide (is_unreceived s.calls s.attempts s.links) (is_unreceived s.calls (changed f place s.attempts) s.links)
     (λ a k. one_wide s.calls s.calls s.attempts (changed f place s.attempts) s.links s.links a
-    (settled_too s.calls s.attempts (changed f place s.attempts) (λ n e. any_still (is_committed_of n) f place s.attempts (commits n) e)) (λ e got heard. heard) k)
-    (changed f place s.attempts) (all_changed (is_unheard s.calls s.attempts s.links) f place s.attempts h one)
+    (settled_too s.calls s.attempts (changed f place s.attempts) (λ n e. any_still (is_committed_of n) f place s.attempts (commits n) e)) (λ e got handled. handled) k)
+    (changed f place s.attempts) (all_changed (is_unreceived s.calls s.attempts s.links) f place s.attempts h one)
 
-pub attempts_more : (a : Attempt) (s : Seen) → is_unheard s.calls (s.attempts ++ a ∷ []) s.links a ≡ true → Unheard s → Unheard (record s { attempts = s.attempts ++ a ∷ [] })
+pub attempts_more : (a : Attempt) (s : Seen) → is_unreceived s.calls (s.attempts ++ a ∷ []) s.links a ≡ true → Unreceived s → Unreceived (record s { attempts = s.attempts ++ a ∷ [] })
 attempts_more a s one h =
-    all_more (is_unheard s.calls (s.attempts ++ a ∷ []) s.links) s.attempts (a ∷ [])
-    (all_wide (is_unheard s.calls s.attempts s.links) (is_unheard s.calls (s.attempts ++ a ∷ []) s.links)
+    all_more (is_unreceived s.calls (s.attempts ++ a ∷ []) s.links) s.attempts (a ∷ [])
+    (all_wide (is_unreceived s.calls s.attempts s.links) (is_unreceived s.calls (s.attempts ++ a ∷ []) s.links)
     (λ q k. one_wide s.calls s.calls s.attempts (s.attempts ++ a ∷ []) s.links s.links q
-    (settled_too s.calls s.attempts (s.attempts ++ a ∷ []) (λ n e. any_more (is_committed_of n) s.attempts (a ∷ []) e)) (λ e got heard. heard) k)
+    (settled_too s.calls s.attempts (s.attempts ++ a ∷ []) (λ n e. any_more (is_committed_of n) s.attempts (a ∷ []) e)) (λ e got handled. handled) k)
     s.attempts h)
-    (and_from (is_unheard s.calls (s.attempts ++ a ∷ []) s.links a) true one refl)
+    (and_from (is_unreceived s.calls (s.attempts ++ a ∷ []) s.links a) true one refl)
 
 -- links: of no attempt that ended came a head that had not come
 pub links_now : (s : Seen) (ls : List Link)
-    → ((i : ℕ) (a : Attempt) (e : RowEnd) → slice_get s.attempts i ≡ Some a → a.row.ended ≡ Some e → heads ls a e ≡ true → heads s.links a e ≡ true) → Unheard s
-    → Unheard (record s { links = ls })
+    → ((i : ℕ) (a : Attempt) (e : RowEnd) → slice_get s.attempts i ≡ Some a → a.row.ended ≡ Some e → heads ls a e ≡ true → heads s.links a e ≡ true) → Unreceived s
+    → Unreceived (record s { links = ls })
 links_now s ls less h =
-    all_each (is_unheard s.calls s.attempts ls) s.attempts
-    (λ i a at. one_wide s.calls s.calls s.attempts s.attempts s.links ls a (λ n e. e) (λ e got heard. less i a e at got heard)
-    (all_get (is_unheard s.calls s.attempts s.links) s.attempts i a h at))
+    all_each (is_unreceived s.calls s.attempts ls) s.attempts
+    (λ i a at. one_wide s.calls s.calls s.attempts s.attempts s.links ls a (λ n e. e) (λ e got handled. less i a e at got handled)
+    (all_get (is_unreceived s.calls s.attempts s.links) s.attempts i a h at))
 
 -- a stream of an attempt, by the link on which it is placed
 by_stream : (o : Option ℕ) (f g : ℕ → Bool) → ((stream : ℕ) → f stream ≡ true → g stream ≡ true) → holds f o ≡ true → holds g o ≡ true
@@ -218,7 +218,7 @@ changed_by f n k seen stream links false same each h = sym (ap (holds (head_in s
 pub link_now : (f : Link → Link) (n : ℕ) (s : Seen)
     → ((i : ℕ) (a : Attempt) (e : RowEnd) (at : Placed) (l : Link) (stream : ℕ) → numbered s.attempts (suc i) ≡ Some a → a.row.ended ≡ Some e → a.row.placed ≡ Some at
     → at.link ≡ n → numbered s.links n ≡ Some l → head_in e.seen stream (f l) ≡ true → head_in e.seen stream l ≡ true)
-    → Unheard s → Unheard (record s { links = changed f n s.links })
+    → Unreceived s → Unreceived (record s { links = changed f n s.links })
 link_now f n s each h =
     links_now s (changed f n s.links)
     (λ i a e there got k.
@@ -226,7 +226,7 @@ link_now f n s each h =
     (λ at stream is j. changed_by f n at.link e.seen stream s.links (at.link == n) refl (λ same l on m. each i a e at l stream there got is same on m) j) k)
     h
 
-pub link_same : (f : Link → Link) (n : ℕ) (s : Seen) → ((l : Link) → (f l).traffic ≡ l.traffic) → Unheard s → Unheard (record s { links = changed f n s.links })
+pub link_same : (f : Link → Link) (n : ℕ) (s : Seen) → ((l : Link) → (f l).traffic ≡ l.traffic) → Unreceived s → Unreceived (record s { links = changed f n s.links })
 link_same f n s same h =
     link_now f n s
     (λ i a e at l stream there got is here on m. sym (ap (λ (ts : List Traffic). is_some (response_in 0 stream (traffic_by e.seen ts)).head) (same l)) ∙ m) h
@@ -255,7 +255,7 @@ more_at links l seen stream (suc i) None blank at h = absurd (none_new links l s
 more_at links l seen stream zero (Some x) blank at h = absurd (cc)
 more_at links l seen stream (suc i) (Some x) blank at h = sym (ap (holds (head_in seen stream)) (get_more links (l ∷ []) i x at)) ∙ h
 
-pub links_more : (l : Link) (s : Seen) → l.traffic ≡ [] → Unheard s → Unheard (record s { links = s.links ++ l ∷ [] })
+pub links_more : (l : Link) (s : Seen) → l.traffic ≡ [] → Unreceived s → Unreceived (record s { links = s.links ++ l ∷ [] })
 links_more l s blank h =
     links_now s (s.links ++ l ∷ [])
     (λ i a e there got k. less_by (s.links ++ l ∷ []) s.links a e (λ at stream is j. more_at s.links l e.seen stream at.link (numbered s.links at.link) blank refl j) k) h
@@ -265,7 +265,7 @@ mapped_by : (f : Link → Link) (seen stream : ℕ) (o : Option Link) → ((l : 
 mapped_by f seen stream None same h = h
 mapped_by f seen stream (Some l) same h = sym (ap (λ (ts : List Traffic). is_some (response_in 0 stream (traffic_by seen ts)).head) (same l)) ∙ h
 
-pub links_mapped : (f : Link → Link) (s : Seen) → ((l : Link) → (f l).traffic ≡ l.traffic) → Unheard s → Unheard (record s { links = map f s.links })
+pub links_mapped : (f : Link → Link) (s : Seen) → ((l : Link) → (f l).traffic ≡ l.traffic) → Unreceived s → Unreceived (record s { links = map f s.links })
 links_mapped f s same h =
     links_now s (map f s.links)
     (λ i a e there got k.

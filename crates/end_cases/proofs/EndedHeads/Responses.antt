@@ -1,4 +1,4 @@
--- Heads of responses. A head that came stays, whatever comes behind it; whether one came does not depend on how long messages may be; and nothing that is written
+-- Heads of responses. A head that came stays, whatever comes after it; whether one came does not depend on how long messages may be; and nothing that is written
 -- brings one (gRPC over HTTP/2, "Responses").
 use Rattle.attempt_ledger.specs.declared.row.RowCause.TheVariants as cause
 use Rattle.grpc_base.specs.ErrorCodes.{cancel, protocol_error}
@@ -106,22 +106,22 @@ module _ (limit stream : ℕ) where
   written_head q (sent.Frame f) =
       if_head (is_some q.end || q.large) _ _ q.head refl (if_head ((f.kind == data_type) && (f.stream == stream)) _ _ q.head refl refl)
 
-  behind_by : (seen : ℕ) (x : Sent) (t : Traffic) (ts : List Traffic) (q : Response) (b : Bool)
+  afterwards_by : (seen : ℕ) (x : Sent) (t : Traffic) (ts : List Traffic) (q : Response) (b : Bool)
       → ((k : Response) → is_some (fold (response_after limit stream) k (traffic_by seen (ts ++ traffic.Written x ∷ []))).head
       ≡ is_some (fold (response_after limit stream) k (traffic_by seen ts)).head)
       → is_some (fold (response_after limit stream) q (if b then t ∷ traffic_by seen (ts ++ traffic.Written x ∷ []) else [])).head
       ≡ is_some (fold (response_after limit stream) q (if b then t ∷ traffic_by seen ts else [])).head
-  behind_by seen x t ts q true rest = rest (response_after limit stream q t)
-  behind_by seen x t ts q false rest = refl
+  afterwards_by seen x t ts q true rest = rest (response_after limit stream q t)
+  afterwards_by seen x t ts q false rest = refl
 
-  behind : (seen : ℕ) (x : Sent) (ts : List Traffic) (q : Response)
+  afterwards : (seen : ℕ) (x : Sent) (ts : List Traffic) (q : Response)
       → is_some (fold (response_after limit stream) q (traffic_by seen (ts ++ traffic.Written x ∷ []))).head ≡ is_some (fold (response_after limit stream) q (traffic_by seen ts)).head
-  behind seen x [] q = ap (λ (o : Option (List Field)). is_some o) (written_head q x)
-  behind seen x (t ∷ ts) q = behind_by seen x t ts q (is_read_by seen t) (λ k. behind seen x ts k)
+  afterwards seen x [] q = ap (λ (o : Option (List Field)). is_some o) (written_head q x)
+  afterwards seen x (t ∷ ts) q = afterwards_by seen x t ts q (is_read_by seen t) (λ k. afterwards seen x ts k)
 
   pub written_brings_none : (seen : ℕ) (x : Sent) (ts : List Traffic)
       → is_some (response_in limit stream (traffic_by seen (ts ++ traffic.Written x ∷ []))).head ≡ is_some (response_in limit stream (traffic_by seen ts)).head
-  written_brings_none seen x ts = behind seen x ts no_response
+  written_brings_none seen x ts = afterwards seen x ts no_response
 
 -- what is read later was not seen
 pub read_is_later : (seen : ℕ) (t : Traffic) (ts : List Traffic) → is_read_by seen t ≡ false → traffic_by seen (ts ++ t ∷ []) ≡ traffic_by seen ts

@@ -1,9 +1,9 @@
--- So it is after each action, where its line says of it what it does (`FitsHeard`).
+-- So it is after each action, where its line says of it what it does (`FitsReceived`).
 use Rattle.attempt_ledger.specs.Ends.{is_cut}
 use Rattle.attempt_ledger.specs.Numbering.{is_transparent}
 use Rattle.attempt_ledger.specs.declared.row.RowEnd.{RowEnd}
 use Rattle.call_actions.proofs.ReadsInOrder.Order.{links_of_run}
-use Rattle.end_cases.proofs.EndedHeads.Parts.{Unheard, attempt_now, attempts_more, beside, call_now, calls_now, ended_more, heads, is_committed_of, is_ended_call, is_unheard, link_now, link_same, links_mapped, links_more, marked_now, row_marked, settles}
+use Rattle.end_cases.proofs.EndedHeads.Parts.{Unreceived, attempt_now, attempts_more, beside, call_now, calls_now, ended_more, heads, is_committed_of, is_ended_call, is_unreceived, link_now, link_same, links_mapped, links_more, marked_now, row_marked, settles}
 use Rattle.end_cases.proofs.EndedHeads.Responses.{read_is_later, written_brings_none}
 use Rattle.grpc_base.specs.declared.address.Address.{Address}
 use Rattle.grpc_base.specs.declared.event.ConfigFault.{ConfigFault}
@@ -60,21 +60,21 @@ use Rattle.std.specs.Option.{option_map_or}
 use Rattle.std.specs.Prelude.{option_and_then}
 
 -- what is asked of the line of an action
-abbrev pub FitsHeard : Action → Seen → Type 0
-FitsHeard (action.AttemptPlaced row at) s = holds (λ a. is_none a.row.ended) (numbered s.attempts row) ≡ true
-FitsHeard (action.AttemptEnds row e) s =
-    (a q : Attempt) → numbered s.attempts row ≡ Some a → numbered s.attempts a.place ≡ Some q → is_unheard s.calls s.attempts s.links (with_end e q) ≡ true
-FitsHeard (action.FrameRead link r) s = (l : Link) → numbered s.links link ≡ Some l → SawLess l.number r s
-FitsHeard (action.FrameWritten link x) s =
+abbrev pub FitsReceived : Action → Seen → Type 0
+FitsReceived (action.AttemptPlaced row at) s = holds (λ a. is_none a.row.ended) (numbered s.attempts row) ≡ true
+FitsReceived (action.AttemptEnds row e) s =
+    (a q : Attempt) → numbered s.attempts row ≡ Some a → numbered s.attempts a.place ≡ Some q → is_unreceived s.calls s.attempts s.links (with_end e q) ≡ true
+FitsReceived (action.FrameRead link r) s = (l : Link) → numbered s.links link ≡ Some l → SawLess l.number r s
+FitsReceived (action.FrameWritten link x) s =
     (l : Link) (a q : Attempt) → numbered s.links link ≡ Some l → slice_get (waiting_on l s) 0 ≡ Some a → numbered s.attempts a.place ≡ Some q → is_none q.row.ended ≡ true
-FitsHeard _ s = Unit {0}
+FitsReceived _ s = Unit {0}
 
 -- of an attempt that goes on nothing is asked
 unended_by : (o : Option RowEnd) (f : RowEnd → Bool) → is_none o ≡ true → option_map_or f o true ≡ true
 unended_by None f e = refl
 unended_by (Some end) f e = absurd (cc)
 
-unended : (calls : List Call) (attempts : List Attempt) (links : List Link) (q : Attempt) → is_none q.row.ended ≡ true → is_unheard calls attempts links q ≡ true
+unended : (calls : List Call) (attempts : List Attempt) (links : List Link) (q : Attempt) → is_none q.row.ended ≡ true → is_unreceived calls attempts links q ≡ true
 unended calls attempts links q e = unended_by q.row.ended (λ (e : RowEnd). settles calls attempts q.row.call || not (heads links q e)) e
 
 -- links
@@ -86,13 +86,13 @@ gone_same : (s : Seen) (b : Bool) (l : Link) → (if b then record l { gone = So
 gone_same s true l = refl
 gone_same s false l = refl
 
-over_now : (why : LinkOver) (link : ℕ) (s : Seen) → Unheard s → Unheard (link_over why link s)
+over_now : (why : LinkOver) (link : ℕ) (s : Seen) → Unreceived s → Unreceived (link_over why link s)
 over_now why link s h = link_same (λ (l : Link). record l { over = Some why }) link s (λ l. refl) h
 
 later_off : (m n : ℕ) → m < n → nat_le n m ≡ false
 later_off m n e = grind (arith, nat_tests, e)
 
-frame_now : (r : ReadFrame) (s : Seen) (o : Option Link) → ((l : Link) → o ≡ Some l → SawLess l.number r s) → Unheard s → Unheard (option_map_or (frame_read_on r s) o s)
+frame_now : (r : ReadFrame) (s : Seen) (o : Option Link) → ((l : Link) → o ≡ Some l → SawLess l.number r s) → Unreceived s → Unreceived (option_map_or (frame_read_on r s) o s)
 frame_now r s None saw h = h
 frame_now r s (Some l) saw h =
     link_now (with_frame_read r (owed_for r.frame l s)) l.number s
@@ -100,27 +100,27 @@ frame_now r s (Some l) saw h =
     (let later : is_read_by e.seen (traffic.Read r) ≡ false = later_off e.seen r.end (saw l refl (suc i) a e at there got is here) in
     sym (ap (λ (ts : List Traffic). is_some (response_in 0 stream ts).head) (read_is_later e.seen (traffic.Read r) k.traffic later)) ∙ m)) h
 
-stream_now : (f : FrameSeen) (s : Seen) (o : Option Attempt) → ((a q : Attempt) → o ≡ Some a → numbered s.attempts a.place ≡ Some q → is_none q.row.ended ≡ true) → Unheard s
-    → Unheard (option_map_or (λ (a : Attempt). with_attempt (with_stream f.stream) a.place s) o s)
+stream_now : (f : FrameSeen) (s : Seen) (o : Option Attempt) → ((a q : Attempt) → o ≡ Some a → numbered s.attempts a.place ≡ Some q → is_none q.row.ended ≡ true) → Unreceived s
+    → Unreceived (option_map_or (λ (a : Attempt). with_attempt (with_stream f.stream) a.place s) o s)
 stream_now f s None goes h = h
 stream_now f s (Some a) goes h =
     attempt_now (with_stream f.stream) a.place s (λ n q k. k) (λ q at ok. unended s.calls s.attempts s.links (with_stream f.stream q) (goes a q refl at)) h
 
 opened_if : (f : FrameSeen) (l : Link) (s : Seen) (b : Bool)
-    → ((a q : Attempt) → slice_get (waiting_on l s) 0 ≡ Some a → numbered s.attempts a.place ≡ Some q → is_none q.row.ended ≡ true) → Unheard s
-    → Unheard (if b then stream_opened f l s else s)
+    → ((a q : Attempt) → slice_get (waiting_on l s) 0 ≡ Some a → numbered s.attempts a.place ≡ Some q → is_none q.row.ended ≡ true) → Unreceived s
+    → Unreceived (if b then stream_opened f l s else s)
 opened_if f l s true goes h = stream_now f s (slice_get (waiting_on l s) 0) goes h
 opened_if f l s false goes h = h
 
 opened_now : (x : Sent) (l : Link) (s : Seen)
-    → ((a q : Attempt) → slice_get (waiting_on l s) 0 ≡ Some a → numbered s.attempts a.place ≡ Some q → is_none q.row.ended ≡ true) → Unheard s
-    → Unheard (stream_opened_by x l s)
+    → ((a q : Attempt) → slice_get (waiting_on l s) 0 ≡ Some a → numbered s.attempts a.place ≡ Some q → is_none q.row.ended ≡ true) → Unreceived s
+    → Unreceived (stream_opened_by x l s)
 opened_now sent.Preface l s goes h = h
 opened_now (sent.Frame f) l s goes h = opened_if f l s (f.kind == headers_type) goes h
 
 written_now : (x : Sent) (s : Seen) (o : Option Link)
-    → ((l : Link) (a q : Attempt) → o ≡ Some l → slice_get (waiting_on l s) 0 ≡ Some a → numbered s.attempts a.place ≡ Some q → is_none q.row.ended ≡ true) → Unheard s
-    → Unheard (option_map_or (frame_written_on x s) o s)
+    → ((l : Link) (a q : Attempt) → o ≡ Some l → slice_get (waiting_on l s) 0 ≡ Some a → numbered s.attempts a.place ≡ Some q → is_none q.row.ended ≡ true) → Unreceived s
+    → Unreceived (option_map_or (frame_written_on x s) o s)
 written_now x s None goes h = h
 written_now x s (Some l) goes h =
     let u : Seen = stream_opened_by x l s in
@@ -131,11 +131,11 @@ written_now x s (Some l) goes h =
     (opened_now x l s (λ a q waits at. goes l a q refl waits at) h))
 
 -- calls
-told : (e : Event) (c : Call) → is_ended_call c ≡ true → is_ended_call (with_message e c) ≡ true
-told (event.Send call message) c h = h
-told _ c h = h
+reported : (e : Event) (c : Call) → is_ended_call c ≡ true → is_ended_call (with_message e c) ≡ true
+reported (event.Send call message) c h = h
+reported _ c h = h
 
-begun_now : (e : Event) (s : Seen) → Unheard s → Unheard (call_begun_by e s)
+begun_now : (e : Event) (s : Seen) → Unreceived s → Unreceived (call_begun_by e s)
 begun_now (event.Begin request) s h =
     let c : Call = begun_call (length s.calls + 1) (entry s) (now s) request in
     let u : Seen = record s { calls = s.calls ++ c ∷ [] } in
@@ -143,32 +143,32 @@ begun_now (event.Begin request) s h =
 begun_now _ s h = h
 
 -- configs
-throttled_now : (config : Config) (t : Throttle) (run : Option ℕ) (s : Seen) → Unheard s → Unheard (with_throttled config t run s)
+throttled_now : (config : Config) (t : Throttle) (run : Option ℕ) (s : Seen) → Unreceived s → Unreceived (with_throttled config t run s)
 throttled_now config t (Some run) s h = beside s (with_config config (Some run) s) refl refl refl h
 throttled_now config t None s h = beside s (with_config config (Some (length s.runs + 1)) (with_run t s)) refl refl refl h
 
-held_now : (config : Config) (t : Option Throttle) (s : Seen) → Unheard s → Unheard (with_held config t s)
+held_now : (config : Config) (t : Option Throttle) (s : Seen) → Unreceived s → Unreceived (with_held config t s)
 held_now config None s h = beside s (with_config config None s) refl refl refl h
 held_now config (Some t) s h = throttled_now config t (run_to_join t s) s h
 
-read_now : (x : Result Config ConfigFault) (s : Seen) → Unheard s → Unheard (config_read x s)
+read_now : (x : Result Config ConfigFault) (s : Seen) → Unreceived s → Unreceived (config_read x s)
 read_now (Ok config) s h =
     held_now config config.throttle (replied reply.Done (resolver_answered s)) (beside s (replied reply.Done (resolver_answered s)) refl refl refl h)
 read_now (Err fault) s h = beside s (replied (reply.BadConfig fault) (resolver_answered s)) refl refl refl h
 
 -- attempts
-turned_now : (b : Bool) (s : Seen) → Unheard s → Unheard (without_turn_unless b s)
+turned_now : (b : Bool) (s : Seen) → Unreceived s → Unreceived (without_turn_unless b s)
 turned_now true s h = h
 turned_now false s h = beside s (without_turn_unless false s) refl refl refl h
 
-run_by : (s : Seen) (a : Attempt) (b : Bool) (run : Option ℕ) → Unheard s
-    → Unheard (if b then option_map_or (λ (k : ℕ). record s { runs = changed (λ (u : ThrottleRun). record u { ends = u.ends ++ a.place ∷ [] }) k s.runs }) run s else s)
+run_by : (s : Seen) (a : Attempt) (b : Bool) (run : Option ℕ) → Unreceived s
+    → Unreceived (if b then option_map_or (λ (k : ℕ). record s { runs = changed (λ (u : ThrottleRun). record u { ends = u.ends ++ a.place ∷ [] }) k s.runs }) run s else s)
 run_by s a true None h = h
 run_by s a true (Some k) h =
     beside s (record s { runs = changed (λ (u : ThrottleRun). record u { ends = u.ends ++ a.place ∷ [] }) k s.runs }) refl refl refl h
 run_by s a false run h = h
 
-counted_in : (s : Seen) (a : Attempt) (e : RowEnd) (c : Option Call) → Unheard s → Unheard (option_map_or (with_end_in_run a e s) c s)
+counted_in : (s : Seen) (a : Attempt) (e : RowEnd) (c : Option Call) → Unreceived s → Unreceived (option_map_or (with_end_in_run a e s) c s)
 counted_in s a e None h = h
 counted_in s a e (Some c) h =
     run_by s a (not (is_cut e.cause) && not (is_to_follow c e.cause e.unseen s)) (option_and_then (λ (x : HeldConfig). x.run) (config_of_call c s)) h
@@ -196,8 +196,8 @@ counted_attempts s a e (Some c) =
     run_attempts s a (not (is_cut e.cause) && not (is_to_follow c e.cause e.unseen s)) (option_and_then (λ (x : HeldConfig). x.run) (config_of_call c s))
 
 ended_now : (e : RowEnd) (row : ℕ) (s : Seen) (o : Option Attempt) → numbered s.attempts row ≡ o
-    → ((a q : Attempt) → numbered s.attempts row ≡ Some a → numbered s.attempts a.place ≡ Some q → is_unheard s.calls s.attempts s.links (with_end e q) ≡ true) → Unheard s
-    → Unheard (option_map_or (attempt_ended_as e s) o s)
+    → ((a q : Attempt) → numbered s.attempts row ≡ Some a → numbered s.attempts a.place ≡ Some q → is_unreceived s.calls s.attempts s.links (with_end e q) ≡ true) → Unreceived s
+    → Unreceived (option_map_or (attempt_ended_as e s) o s)
 ended_now e row s None got less h = h
 ended_now e row s (Some a) got less h =
     let u : Seen = option_map_or (with_end_in_run a e s) (call_of a s) s in
@@ -207,13 +207,13 @@ ended_now e row s (Some a) got less h =
     (marked_now (mark.Ended a.place) a.row.call v
     (attempt_now (with_end e) a.place u (λ n q k. k)
     (λ q at ok.
-    ap (λ (cs : List Call). is_unheard cs u.attempts u.links (with_end e q)) (counted_calls s a e (call_of a s))
-    ∙ ap (λ (xs : List Attempt). is_unheard s.calls xs u.links (with_end e q)) (counted_attempts s a e (call_of a s))
-    ∙ ap (λ (ls : List Link). is_unheard s.calls s.attempts ls (with_end e q)) (links_of_run s a e (call_of a s))
+    ap (λ (cs : List Call). is_unreceived cs u.attempts u.links (with_end e q)) (counted_calls s a e (call_of a s))
+    ∙ ap (λ (xs : List Attempt). is_unreceived s.calls xs u.links (with_end e q)) (counted_attempts s a e (call_of a s))
+    ∙ ap (λ (ls : List Link). is_unreceived s.calls s.attempts ls (with_end e q)) (links_of_run s a e (call_of a s))
     ∙ less a q got (sym (ap (λ (rows : List Attempt). numbered rows a.place) (counted_attempts s a e (call_of a s))) ∙ at))
     (counted_in s a e (call_of a s) h)))
 
-reset_now : (number : ℕ) (s : Seen) (o : Option Attempt) → Unheard s → Unheard (option_map_or (stream_reset_of number s) o s)
+reset_now : (number : ℕ) (s : Seen) (o : Option Attempt) → Unreceived s → Unreceived (option_map_or (stream_reset_of number s) o s)
 reset_now number s None h = h
 reset_now number s (Some a) h =
     let u : Seen = with_attempt with_reset_queued a.place s in
@@ -221,57 +221,57 @@ reset_now number s (Some a) h =
     (attempt_now with_reset_queued a.place s (λ n q k. k) (λ q at ok. ok) h)
 
 -- subchannels
-noted_now : (s : Seen) (o : Option Subchannel) → Unheard s → Unheard (option_map_or (λ (b : Subchannel). noted_by_policies b s) o s)
+noted_now : (s : Seen) (o : Option Subchannel) → Unreceived s → Unreceived (option_map_or (λ (b : Subchannel). noted_by_policies b s) o s)
 noted_now s None h = h
 noted_now s (Some b) h = beside s (noted_by_policies b s) refl refl refl h
 
-board_now : (f : Subchannel → Subchannel) (n : ℕ) (s : Seen) → Unheard s → Unheard (with_sub f n s)
+board_now : (f : Subchannel → Subchannel) (n : ℕ) (s : Seen) → Unreceived s → Unreceived (with_sub f n s)
 board_now f n s h =
     let u : Seen = record s { subs = changed f n s.subs } in
     noted_now u (numbered (changed f n s.subs) n) (beside s u refl refl refl h)
 
-dialled_now : (again until : ℕ) (s : Seen) (o : Option Subchannel) → Unheard s → Unheard (option_map_or (dial_taken_of again until s) o s)
+dialled_now : (again until : ℕ) (s : Seen) (o : Option Subchannel) → Unreceived s → Unreceived (option_map_or (dial_taken_of again until s) o s)
 dialled_now again until s None h = h
 dialled_now again until s (Some b) h =
     let u : Seen = with_sub (with_dial again until) b.number s in
     beside u (dial_taken_of again until s b) refl refl refl (board_now (with_dial again until) b.number s h)
 
-late_by : (n : ℕ) (s : Seen) (o : Option ℕ) → Unheard s
-    → Unheard (with_sub (without_link conn.Failure) n (wants_resolution (option_map_or (λ (link : ℕ). link_over over.TimedOut link s) o s)))
+late_by : (n : ℕ) (s : Seen) (o : Option ℕ) → Unreceived s
+    → Unreceived (with_sub (without_link conn.Failure) n (wants_resolution (option_map_or (λ (link : ℕ). link_over over.TimedOut link s) o s)))
 late_by n s None h = board_now (without_link conn.Failure) n (wants_resolution s) (beside s (wants_resolution s) refl refl refl h)
 late_by n s (Some link) h =
     let u : Seen = link_over over.TimedOut link s in
     board_now (without_link conn.Failure) n (wants_resolution u) (beside u (wants_resolution u) refl refl refl (over_now over.TimedOut link s h))
 
-late_now : (n : ℕ) (s : Seen) (o : Option Subchannel) → Unheard s
-    → Unheard (with_sub (without_link conn.Failure) n (wants_resolution (option_map_or (λ (b : Subchannel). link_timed_out b s) o s)))
+late_now : (n : ℕ) (s : Seen) (o : Option Subchannel) → Unreceived s
+    → Unreceived (with_sub (without_link conn.Failure) n (wants_resolution (option_map_or (λ (b : Subchannel). link_timed_out b s) o s)))
 late_now n s None h = board_now (without_link conn.Failure) n (wants_resolution s) (beside s (wants_resolution s) refl refl refl h)
 late_now n s (Some b) h = late_by n s b.link h
 
-up_now : (n : ℕ) (s : Seen) → Unheard s → Unheard (link_up n s)
+up_now : (n : ℕ) (s : Seen) → Unreceived s → Unreceived (link_up n s)
 up_now n s h =
     let link : ℕ = length s.links + 1 in
     let u : Seen = record s { links = s.links ++ new_link link n s ∷ [] } in
     let f : Subchannel → Subchannel = λ (b : Subchannel). record b { link = Some link } in
     beside (with_sub f n u) (link_up n s) refl refl refl (board_now f n u (links_more (new_link link n s) s refl h))
 
-given_now : (g : ℕ) (s : Seen) (o : Option (List Address)) → Unheard s
-    → Unheard (option_map_or (λ (addresses : List Address). with_policy (given_addresses addresses s) g s) o s)
+given_now : (g : ℕ) (s : Seen) (o : Option (List Address)) → Unreceived s
+    → Unreceived (option_map_or (λ (addresses : List Address). with_policy (given_addresses addresses s) g s) o s)
 given_now g s None h = h
 given_now g s (Some addresses) h = beside s (with_policy (given_addresses addresses s) g s) refl refl refl h
 
-replaced_now : (s : Seen) (o : Option PolicyUse) → Unheard s → Unheard (option_map_or (λ (g : PolicyUse). policy_retired g.number s) o s)
+replaced_now : (s : Seen) (o : Option PolicyUse) → Unreceived s → Unreceived (option_map_or (λ (g : PolicyUse). policy_retired g.number s) o s)
 replaced_now s None h = h
 replaced_now s (Some g) h = beside s (policy_retired g.number s) refl refl refl h
 
 commits : (n : ℕ) (q : Attempt) (z : ℕ) → is_committed_of n q ≡ true → is_committed_of n (with_commitment z q) ≡ true
 commits n q z k = ap (λ (b : Bool). b && true) (and_parts (q.row.call == n) (is_some q.row.committed) k).0
 
-module _ (o : OpenEntry) (s : Seen) (h : Unheard s) where
-  abbrev same_as : (t : Seen) → t.calls ≡ s.calls → t.attempts ≡ s.attempts → t.links ≡ s.links → Unheard t
+module _ (o : OpenEntry) (s : Seen) (h : Unreceived s) where
+  abbrev same_as : (t : Seen) → t.calls ≡ s.calls → t.attempts ≡ s.attempts → t.links ≡ s.links → Unreceived t
   same_as t a b d = beside s t a b d h
 
-  act : (x : Action) → FitsHeard x s → Unheard (after_in o x s)
+  act : (x : Action) → FitsReceived x s → Unreceived (after_in o x s)
   act (action.EntryOpens posted word e) fits = h
   act (action.EventRefused why) fits = same_as (replied (reply.Refused why) s) refl refl refl
   act (action.EventAnswered r) fits = same_as (replied r s) refl refl refl
@@ -281,7 +281,7 @@ module _ (o : OpenEntry) (s : Seen) (h : Unheard s) where
       (links_mapped (noted_gone s) s (λ l. gone_same s (is_none l.gone && is_gone l s) l) h)
   act action.CallBegins fits = begun_now o.event s h
   act (action.MessageAccepted call) fits =
-      beside (with_call (with_message o.event) call s) (message_accepted call o.event s) refl refl refl (call_now (with_message o.event) call s (told o.event) h)
+      beside (with_call (with_message o.event) call s) (message_accepted call o.event s) refl refl refl (call_now (with_message o.event) call s (reported o.event) h)
   act (action.RequestFinished call) fits =
       let f : Call → Call = λ (c : Call). record c { finished = true } in
       beside (with_call f call s) (request_finished call s) refl refl refl (call_now f call s (λ c e. e) h)
@@ -344,10 +344,10 @@ module _ (o : OpenEntry) (s : Seen) (h : Unheard s) where
   act (action.FrameWritten link x) fits = written_now x s (numbered s.links link) fits h
   act action.ChannelShuts fits = same_as (replied reply.Done (record s { shut = true })) refl refl refl
 
-act_if : (c : Option OpenEntry) (x : Action) (s : Seen) → FitsHeard x s → Unheard s → Unheard (after_if c x s)
+act_if : (c : Option OpenEntry) (x : Action) (s : Seen) → FitsReceived x s → Unreceived s → Unreceived (after_if c x s)
 act_if (Some o) x s fits h = act o s h x fits
 act_if None (action.EntryOpens posted word e) s fits h = beside s (opened posted word e s) refl refl refl h
 act_if None x s fits h = h
 
-pub unheard_after : (s : Seen) (x : Action) → FitsHeard x s → Unheard s → Unheard (after x s)
-unheard_after s x fits h = act_if s.current x s fits h
+pub unreceived_after : (s : Seen) (x : Action) → FitsReceived x s → Unreceived s → Unreceived (after x s)
+unreceived_after s x fits h = act_if s.current x s fits h

@@ -26,12 +26,12 @@ use Rattle.channel_actions.specs.Calls.{HasSlot, SeesCall, deadline_of, due_of, 
 use Rattle.channel_actions.specs.Columns.{SeesColumns, links_noted}
 use Rattle.channel_actions.specs.Configs.{SeesBuckets, bucket_in, runs_in_turn}
 use Rattle.channel_actions.specs.KeptSessions.Kept.{IsKept}
-use Rattle.channel_actions.specs.LinkFrames.Alike.{CannotTell}
+use Rattle.channel_actions.specs.LinkFrames.Alike.{CannotDistinguish}
 use Rattle.channel_actions.specs.LinkFrames.Bears.{bear_on}
 use Rattle.channel_actions.specs.Links.{SeesLinks}
 use Rattle.call_cases.specs.OtherCalls.Laws.{SetsApart}
-use Rattle.call_cases.specs.OtherCalls.Others.{AreOfCall, BooksApart, GoesApart, IsBooked}
-use Rattle.channel_actions.specs.Sets.{SeesSets, is_in_bare, is_in_deadlines, is_in_dues, is_in_impatient, is_in_outstanding, is_in_patient, is_in_queue, is_patient}
+use Rattle.call_cases.specs.OtherCalls.Others.{ActionsAreOfCall, BooksApart, GoesApart, IsBooked}
+use Rattle.channel_actions.specs.Sets.{SeesSets, is_awaiting_config, is_in_deadlines, is_in_dues, is_in_fail_fast, is_in_outstanding, is_in_ready_waiters, is_in_queue, is_ready_waiter}
 use Rattle.end_cases.proofs.AttemptEnds.ClosedAgree.{of_call_on}
 use Rattle.end_cases.proofs.AttemptEnds.Closing.{placed_by}
 use Rattle.end_cases.proofs.AttemptEnds.OffSets.{and_on}
@@ -165,7 +165,7 @@ module _ (x : StateSeen) (o : OpenEntry) (s0 : Seen) (k : LastHedge x o (with_op
   booked : (q : Seen) → IsKept q → IsBooked q
   booked q kept = record { book = kept.book; owned = kept.owned; reads = kept.reads }
 
-  of_one : AreOfCall n (one ∷ []) s
+  of_one : ActionsAreOfCall n (one ∷ []) s
   of_one = (record { acts = eq-eqb n n refl; passes = λ g at off. refl }, tt)
 
   pub apart_one : GoesApart n s u1
@@ -187,7 +187,7 @@ module _ (x : StateSeen) (o : OpenEntry) (s0 : Seen) (k : LastHedge x o (with_op
     pub kept_two : IsKept u2
     kept_two = kept_along start s u2 h.kept does_start
 
-    of_two : AreOfCall n (two ∷ []) u1
+    of_two : ActionsAreOfCall n (two ∷ []) u1
     of_two = (
       record {
         acts = ap (λ (q : Option Attempt). option_map_or (λ (i : ℕ). i == n) (option_map (λ (g : Attempt). g.row.call) q) true) (step.a_there x o s0 k)
@@ -197,7 +197,7 @@ module _ (x : StateSeen) (o : OpenEntry) (s0 : Seen) (k : LastHedge x o (with_op
       tt,
     )
 
-    of_start : AreOfCall n start s
+    of_start : ActionsAreOfCall n start s
     of_start = of_call_on n (one ∷ []) (two ∷ []) s u1 does_one of_one of_two
 
     pub apart_two : GoesApart n s u2
@@ -353,7 +353,7 @@ module _ (x : StateSeen) (o : OpenEntry) (s0 : Seen) (k : LastHedge x o (with_op
           ∙ sym (set_length x.book.calls (n - 1) slot2)
 
       -- the links
-      cannot : CannotTell (bear_on all s) s t
+      cannot : CannotDistinguish (bear_on all s) s t
       cannot = lists_are_untold all s t (all_kept all s t h.kept does) (tt, (tt, (tt, tt))) does
 
       links : SeesLinks y t
@@ -382,42 +382,42 @@ module _ (x : StateSeen) (o : OpenEntry) (s0 : Seen) (k : LastHedge x o (with_op
 
       own_queue : (row : ℕ) → is_in_queue s n row ≡ is_in_queue t n row
       own_queue row =
-          ap (λ (b : Bool). b && not (is_patient s n)) (none_was row (numbered s.attempts row) refl)
-          ∙ sym (ap (λ (b : Bool). b && not (is_patient t n)) (none_then (numbered t.attempts row)))
+          ap (λ (b : Bool). b && not (is_ready_waiter s n)) (none_was row (numbered s.attempts row) refl)
+          ∙ sym (ap (λ (b : Bool). b && not (is_ready_waiter t n)) (none_then (numbered t.attempts row)))
 
-      own_patient : (row : ℕ) → is_in_patient s n row ≡ is_in_patient t n row
-      own_patient row =
-          ap (λ (b : Bool). b && is_patient s n) (none_was row (numbered s.attempts row) refl)
-          ∙ sym (ap (λ (b : Bool). b && is_patient t n) (none_then (numbered t.attempts row)))
+      own_wait_for_ready : (row : ℕ) → is_in_ready_waiters s n row ≡ is_in_ready_waiters t n row
+      own_wait_for_ready row =
+          ap (λ (b : Bool). b && is_ready_waiter s n) (none_was row (numbered s.attempts row) refl)
+          ∙ sym (ap (λ (b : Bool). b && is_ready_waiter t n) (none_then (numbered t.attempts row)))
 
       queue_by : (i row : ℕ) (b : Bool) → (i == n) ≡ b → is_in_queue s i row ≡ is_in_queue t i row
       queue_by i row true e = subst (λ (j : ℕ). is_in_queue s j row ≡ is_in_queue t j row) (sym (eqb-true i n e)) (own_queue row)
       queue_by i row false e = sym (others.queue i row e)
 
-      patient_by : (i row : ℕ) (b : Bool) → (i == n) ≡ b → is_in_patient s i row ≡ is_in_patient t i row
-      patient_by i row true e = subst (λ (j : ℕ). is_in_patient s j row ≡ is_in_patient t j row) (sym (eqb-true i n e)) (own_patient row)
-      patient_by i row false e = sym (others.patient i row e)
+      wait_for_ready_by : (i row : ℕ) (b : Bool) → (i == n) ≡ b → is_in_ready_waiters s i row ≡ is_in_ready_waiters t i row
+      wait_for_ready_by i row true e = subst (λ (j : ℕ). is_in_ready_waiters s j row ≡ is_in_ready_waiters t j row) (sym (eqb-true i n e)) (own_wait_for_ready row)
+      wait_for_ready_by i row false e = sym (others.ready_waiters i row e)
 
       -- calls without a config
-      none_bare : (j : ℕ) → is_in_bare t j n ≡ false
-      none_bare j =
+      none_unconfigured : (j : ℕ) → is_awaiting_config t j n ≡ false
+      none_unconfigured j =
           ap (λ (q : Option Call). (j == 0) && holds (λ (g : Call). is_open_call g && is_none g.config) q) here3 ∙ and_right (j == 0) (false && is_none c.config) refl
 
       zero_key : (j : ℕ) → (j == 0) ≡ is_same (0, n) (j, n)
       zero_key j = zero_turns j ∙ sym (own_key 0 j n)
 
-      bare_by : (j i : ℕ) (q : Bool) → (i == n) ≡ q → (is_in_bare s j i && not (is_same (0, n) (j, i))) ≡ is_in_bare t j i
-      bare_by j i true e =
-          subst (λ (q : ℕ). (is_in_bare s j q && not (is_same (0, n) (j, q))) ≡ is_in_bare t j q) (sym (eqb-true i n e))
-          (gone_by (j == 0) (is_same (0, n) (j, n)) (holds (λ (g : Call). is_open_call g && is_none g.config) (numbered s.calls n)) (zero_key j) ∙ sym (none_bare j))
-      bare_by j i false e = ap (λ (q : Bool). is_in_bare s j i && not q) (other_key 0 j i n e) ∙ and_on (is_in_bare s j i) ∙ sym (others.bare j i e)
+      unconfigured_by : (j i : ℕ) (q : Bool) → (i == n) ≡ q → (is_awaiting_config s j i && not (is_same (0, n) (j, i))) ≡ is_awaiting_config t j i
+      unconfigured_by j i true e =
+          subst (λ (q : ℕ). (is_awaiting_config s j q && not (is_same (0, n) (j, q))) ≡ is_awaiting_config t j q) (sym (eqb-true i n e))
+          (gone_by (j == 0) (is_same (0, n) (j, n)) (holds (λ (g : Call). is_open_call g && is_none g.config) (numbered s.calls n)) (zero_key j) ∙ sym (none_unconfigured j))
+      unconfigured_by j i false e = ap (λ (q : Bool). is_awaiting_config s j i && not q) (other_key 0 j i n e) ∙ and_on (is_awaiting_config s j i) ∙ sym (others.awaiting_config j i e)
 
-      impatient_by : (j i : ℕ) (q : Bool) → (i == n) ≡ q → (is_in_impatient s j i && not (is_same (0, n) (j, i))) ≡ is_in_impatient t j i
-      impatient_by j i true e =
-          subst (λ (q : ℕ). (is_in_impatient s j q && not (is_same (0, n) (j, q))) ≡ is_in_impatient t j q) (sym (eqb-true i n e))
-          (gone_too (j == 0) (is_same (0, n) (j, n)) (holds (λ (g : Call). is_open_call g && is_none g.config) (numbered s.calls n)) (not (is_patient s n)) (zero_key j)
-          ∙ sym (ap (λ (q : Bool). q && not (is_patient t n)) (none_bare j)))
-      impatient_by j i false e = ap (λ (q : Bool). is_in_impatient s j i && not q) (other_key 0 j i n e) ∙ and_on (is_in_impatient s j i) ∙ sym (others.impatient j i e)
+      fail_fast_by : (j i : ℕ) (q : Bool) → (i == n) ≡ q → (is_in_fail_fast s j i && not (is_same (0, n) (j, i))) ≡ is_in_fail_fast t j i
+      fail_fast_by j i true e =
+          subst (λ (q : ℕ). (is_in_fail_fast s j q && not (is_same (0, n) (j, q))) ≡ is_in_fail_fast t j q) (sym (eqb-true i n e))
+          (gone_too (j == 0) (is_same (0, n) (j, n)) (holds (λ (g : Call). is_open_call g && is_none g.config) (numbered s.calls n)) (not (is_ready_waiter s n)) (zero_key j)
+          ∙ sym (ap (λ (q : Bool). q && not (is_ready_waiter t n)) (none_unconfigured j)))
+      fail_fast_by j i false e = ap (λ (q : Bool). is_in_fail_fast s j i && not q) (other_key 0 j i n e) ∙ and_on (is_in_fail_fast s j i) ∙ sym (others.fail_fast j i e)
 
       -- the timers of the call
       own_dues : (u : Seen) (d : Call) (at : Option ℕ) → numbered u.calls n ≡ Some d → due_of u d ≡ at → (m : ℕ) → is_in_dues u m n ≡ is_number m at
@@ -429,7 +429,7 @@ module _ (x : StateSeen) (o : OpenEntry) (s0 : Seen) (k : LastHedge x o (with_op
       sets : SeesSets y t
       sets = record {
         queue = exactly_by x.queue (is_in_queue s) (is_in_queue t) h.sets.queue (λ i row. queue_by i row (i == n) refl);
-        patient = exactly_by x.patient (is_in_patient s) (is_in_patient t) h.sets.patient (λ i row. patient_by i row (i == n) refl);
+        ready_waiters = exactly_by x.ready_waiters (is_in_ready_waiters s) (is_in_ready_waiters t) h.sets.ready_waiters (λ i row. wait_for_ready_by i row (i == n) refl);
         dues =
             timers_exactly n x.dues (is_in_dues s) was.due slot2.due h.sets.dues (own_dues s c was.due k.there (step.own x o s0 k).sees.due) (is_in_dues t)
             (λ m i e. others.dues m i e) (own_dues t c3 slot2.due here3 own_call.due);
@@ -437,12 +437,12 @@ module _ (x : StateSeen) (o : OpenEntry) (s0 : Seen) (k : LastHedge x o (with_op
             timers_exactly n x.deadlines (is_in_deadlines s) was.deadline slot2.deadline h.sets.deadlines
             (own_deadlines s c was.deadline k.there (step.own x o s0 k).sees.deadline_is) (is_in_deadlines t) (λ m i e. others.deadlines m i e)
             (own_deadlines t c3 slot2.deadline here3 own_call.deadline_is);
-        bare =
-            exactly_by (remove_key (is_same (0, n)) x.bare) (λ j i. is_in_bare s j i && not (is_same (0, n) (j, i))) (is_in_bare t)
-            (exactly_remove x.bare (is_in_bare s) (0, n) h.sets.bare) (λ j i. bare_by j i (i == n) refl);
-        impatient =
-            exactly_by (remove_key (is_same (0, n)) x.impatient) (λ j i. is_in_impatient s j i && not (is_same (0, n) (j, i))) (is_in_impatient t)
-            (exactly_remove x.impatient (is_in_impatient s) (0, n) h.sets.impatient) (λ j i. impatient_by j i (i == n) refl);
+        awaiting_config =
+            exactly_by (remove_key (is_same (0, n)) x.awaiting_config) (λ j i. is_awaiting_config s j i && not (is_same (0, n) (j, i))) (is_awaiting_config t)
+            (exactly_remove x.awaiting_config (is_awaiting_config s) (0, n) h.sets.awaiting_config) (λ j i. unconfigured_by j i (i == n) refl);
+        fail_fast =
+            exactly_by (remove_key (is_same (0, n)) x.fail_fast) (λ j i. is_in_fail_fast s j i && not (is_same (0, n) (j, i))) (is_in_fail_fast t)
+            (exactly_remove x.fail_fast (is_in_fail_fast s) (0, n) h.sets.fail_fast) (λ j i. fail_fast_by j i (i == n) refl);
         outstanding =
             exactly_by x.outstanding (is_in_outstanding s) (is_in_outstanding t) h.sets.outstanding
             (λ link row. sym (lookup (holds (λ (q : Attempt). is_outstanding q && (link_number q == link))) (with_commitment (entry s)) (λ q. refl) a.place s.attempts row));

@@ -58,8 +58,8 @@ module _ (n place due : ℕ) (slot : CallSlot) (x : StateSeen) (there : slot_at 
 
   abbrev cleared : StateSeen
   cleared = record x {
-    bare = remove_key (is_same (0, n)) x.bare;
-    impatient = remove_key (is_same (0, n)) x.impatient;
+    awaiting_config = remove_key (is_same (0, n)) x.awaiting_config;
+    fail_fast = remove_key (is_same (0, n)) x.fail_fast;
     book = record x.book { calls = calls1; ledger = st.ledger };
   }
 
@@ -69,8 +69,8 @@ module _ (n place due : ℕ) (slot : CallSlot) (x : StateSeen) (there : slot_at 
 
   abbrev pub y : StateSeen
   y = record x {
-    bare = remove_key (is_same (0, n)) x.bare;
-    impatient = remove_key (is_same (0, n)) x.impatient;
+    awaiting_config = remove_key (is_same (0, n)) x.awaiting_config;
+    fail_fast = remove_key (is_same (0, n)) x.fail_fast;
     dues = timer_moved n slot.due (due_at (Some slot1)) x.dues;
     deadlines = timer_moved n slot.deadline (deadline_of (Some slot1)) x.deadlines;
     book = record x.book { calls = slice_set x.book.calls (n - 1) slot2; ledger = st.ledger };

@@ -7,7 +7,7 @@ use Rattle.attempt_ledger.specs.declared.row.RowEnd.{RowEnd}
 use Rattle.attempt_ledger.specs.declared.row.RowKind.TheVariants as kind
 use Rattle.call_actions.proofs.Frames.{counted_rows_same, due_same, live_same}
 use Rattle.call_actions.proofs.Lists.{numbered_not}
-use Rattle.call_actions.proofs.Told.{fold_last}
+use Rattle.call_actions.proofs.Report.{fold_last}
 use Rattle.call_actions.specs.Sees.{is_live}
 use Rattle.call_core.specs.Going.{hedges}
 use Rattle.call_cases.proofs.EndsFollow.Steps.{call_number}
@@ -34,7 +34,7 @@ use Rattle.grpc_base.specs.declared.event.EndCause.TheVariants as ending_cause
 use Rattle.grpc_base.specs.declared.plan.CallPlan.TheVariants as plans
 use Rattle.grpc_base.specs.declared.plan.CallPlan.{CallPlan}
 use Rattle.link_actions.proofs.Without.{at_place, changed_at}
-use Rattle.link_actions.specs.Sees.{ArePlaced as ArePlacedOn}
+use Rattle.link_actions.specs.Sees.{AttemptsStandInPlace as ArePlacedOn}
 use Rattle.session_actions.specs.Actions.{following}
 use Rattle.session_actions.specs.Attempts.{commitment, counts_by, is_commitment, is_counted, is_followed, is_later_of, is_of, is_outstanding, is_over, is_queued, is_to_follow, wants_follower, wants_follower_by}
 use Rattle.session_actions.specs.CallEnds.{ending_call, is_over_by_row}
@@ -55,12 +55,12 @@ use Rattle.session_actions.specs.declared.call.MarkKind.TheVariants as mark
 use Rattle.session_actions.specs.declared.due.DueState.{DueState}
 use Rattle.session_actions.specs.declared.entry.OpenEntry.{OpenEntry}
 use Rattle.session_actions.specs.declared.seen.Seen.{Seen}
-use Rattle.session_order.proofs.Calms.{first_line_gives}
+use Rattle.session_order.proofs.Quiescence.{first_line_gives}
 use Rattle.session_order.proofs.Changed.{any_changed}
 use Rattle.session_order.proofs.Commits.{committed_leaves}
 use Rattle.session_order.proofs.Ended.{ended_leaves}
 use Rattle.session_order.proofs.Queues.{withheld_leaves}
-use Rattle.session_order.specs.Calm.{IsStill, is_to_cut}
+use Rattle.session_order.specs.Quiescent.{IsStill, is_to_cut}
 use Rattle.session_order.specs.Lines.{is_line}
 use Rattle.session_order.specs.Stirs.{IsCommittable, stirs}
 use Rattle.session_order.specs.declared.line.Line.TheVariants as line
@@ -169,7 +169,7 @@ module _ (x : StateSeen) (o : OpenEntry) (s0 : Seen) (k : LastHedge x o (with_op
 
   -- once the hedge is withheld
   still_one : (l : Line) → stirs one l ≡ false → IsStill l p u1
-  still_one l unstirred = withheld_leaves n o s refl tt l p refl unstirred (k.calm l)
+  still_one l unstirred = withheld_leaves n o s refl tt l p refl unstirred (k.quiescent l)
 
   abbrev kept_one : IsKept u1
   kept_one = agree.kept_one x o s0 k
@@ -249,7 +249,7 @@ module _ (x : StateSeen) (o : OpenEntry) (s0 : Seen) (k : LastHedge x o (with_op
       ∙ ap (λ (g : Bool). g && is_none (next_due c1 u1) && not (has_going c1 u1)) off
 
   was_final : (i : ℕ) (q : Attempt) → slice_get s.attempts i ≡ Some q → is_final_end s q ≡ false
-  was_final i q at = numbered_not (is_final_end s) s.attempts (suc i) q (k.calm line.Final) at
+  was_final i q at = numbered_not (is_final_end s) s.attempts (suc i) q (k.quiescent line.Final) at
 
   own_final : (i : ℕ) (q : Attempt) → slice_get s.attempts i ≡ Some q → q.row.call ≡ n → (a.place == q.place) ≡ false → (b : Bool) → is_counted q s ≡ b → is_final_in q u1 c1 ≡ false
   own_final i q at own off false counts =
@@ -268,7 +268,7 @@ module _ (x : StateSeen) (o : OpenEntry) (s0 : Seen) (k : LastHedge x o (with_op
       ap (holds (λ (g : Call). is_final_in q u1 g)) (ap (numbered u1.calls) same ∙ step.here1 x o s0 k)
       ∙ own_final i q at same (other_place q.place a.place (suc i) place off) (is_counted q s) refl
   final_other i q false at off own =
-      final_none n x s u1 (agree.apart_one x o s0 k) h.calls h.kept kept_one i q at own (k.calm line.Final)
+      final_none n x s u1 (agree.apart_one x o s0 k) h.calls h.kept kept_one i q at own (k.quiescent line.Final)
 
   pub next_two : following u1 ≡ Some two
   next_two =
@@ -331,13 +331,13 @@ module _ (x : StateSeen) (o : OpenEntry) (s0 : Seen) (k : LastHedge x o (with_op
 
   cut_by : (i : ℕ) (q : Attempt) (g : Bool) → slice_get u2.attempts i ≡ Some q → (q.row.call == n) ≡ g → is_to_cut u2 q ≡ false
   cut_by i q true at own = ap (λ (g : Bool). g && is_over q u2) (none_out i q at own)
-  cut_by i q false at off = cut_none n x s u2 apart_two h.calls h.kept kept_two i q at off (k.calm line.Cut)
+  cut_by i q false at off = cut_none n x s u2 apart_two h.calls h.kept kept_two i q at off (k.quiescent line.Cut)
 
   uncut_two : IsStill line.Cut p u2
   uncut_two = none_at (is_to_cut u2) u2.attempts (λ i q at. cut_by i q (q.row.call == n) at refl)
 
-  calm_two : IsStill line.Transparent p u2
-  calm_two = moves line.Transparent refl refl (still_one line.Transparent refl)
+  quiescent_two : IsStill line.Transparent p u2
+  quiescent_two = moves line.Transparent refl refl (still_one line.Transparent refl)
 
   -- the end of the call is next
   has_it : commitment c2 u2 ≡ Some a2
@@ -347,7 +347,7 @@ module _ (x : StateSeen) (o : OpenEntry) (s0 : Seen) (k : LastHedge x o (with_op
   counted_two =
       ap (holds (counts_by a2 u2)) a_over
       ∙ ap (λ (g : Bool). (not (is_cut e.cause) && not (is_followed a2 u2)) && not g)
-      (sym (ap (holds (wants_follower_by a2 u2)) a_over) ∙ numbered_not (λ (q : Attempt). wants_follower q u2) u2.attempts a.place a2 calm_two (step.a2_there x o s0 k))
+      (sym (ap (holds (wants_follower_by a2 u2)) a_over) ∙ numbered_not (λ (q : Attempt). wants_follower q u2) u2.attempts a.place a2 quiescent_two (step.a2_there x o s0 k))
       ∙ ap (λ (g : Bool). (not (is_cut e.cause) && not g) && true) (any_changed (is_later_of a) (with_commitment (entry s)) (λ q. refl) a.place s.attempts ∙ its_parts.1)
       ∙ ap (λ (g : Bool). (g && true) && true) its_parts.0
 
@@ -357,7 +357,7 @@ module _ (x : StateSeen) (o : OpenEntry) (s0 : Seen) (k : LastHedge x o (with_op
       ∙ ap (holds (λ (g : Attempt). is_counted g u2)) has_it ∙ counted_two
 
   row_else : (i : ℕ) (g : Call) → slice_get u2.calls i ≡ Some g → (suc i == n) ≡ false → is_over_by_row u2 g ≡ false
-  row_else i g at off = row_none n x s u2 apart_two h.calls h.kept kept_two (suc i) g off at (k.calm line.Row)
+  row_else i g at off = row_none n x s u2 apart_two h.calls h.kept kept_two (suc i) g off at (k.quiescent line.Row)
 
   found_by : (j : ℕ) → n ≡ j → numbered u2.calls j ≡ Some c2 → find (is_over_by_row u2) u2.calls ≡ Some c2
   found_by zero same at = absurd (cc)
@@ -367,7 +367,7 @@ module _ (x : StateSeen) (o : OpenEntry) (s0 : Seen) (k : LastHedge x o (with_op
   pub next_three : following u2 ≡ Some three
   next_three =
       first_line_gives line.Row three p u2 refl
-      (λ l less. before_row (is_loss p.event) l less (λ (q : Line). IsStill q p u2) uncut_two calm_two (moves line.Inherited refl refl (still_one line.Inherited refl)))
+      (λ l less. before_row (is_loss p.event) l less (λ (q : Line). IsStill q p u2) uncut_two quiescent_two (moves line.Inherited refl refl (still_one line.Inherited refl)))
       (ap (option_map (ending_call ending_cause.Row)) (found_by n refl (step.here2 x o s0 k)))
 
   -- and once it has ended
@@ -383,7 +383,7 @@ module _ (x : StateSeen) (o : OpenEntry) (s0 : Seen) (k : LastHedge x o (with_op
 
   cut_then : (i : ℕ) (q : Attempt) (g : Bool) → slice_get t.attempts i ≡ Some q → (q.row.call == n) ≡ g → is_to_cut t q ≡ false
   cut_then i q true at own = ap (λ (g : Bool). g && is_over q t) (none_out i q at own)
-  cut_then i q false at off = cut_none n x s t apart_then h.calls h.kept kept_then i q at off (k.calm line.Cut)
+  cut_then i q false at off = cut_none n x s t apart_then h.calls h.kept kept_then i q at off (k.quiescent line.Cut)
 
   uncut : IsStill line.Cut p t
   uncut = none_at (is_to_cut t) t.attempts (λ i q at. cut_then i q (q.row.call == n) at refl)
@@ -394,14 +394,14 @@ module _ (x : StateSeen) (o : OpenEntry) (s0 : Seen) (k : LastHedge x o (with_op
       let two_calls : Some g ≡ Some c3 = sym here_ ∙ step.here3 x o s0 k in
       let same : g ≡ c3 = (cc) in
       ap (is_over_by_row t) same
-  row_by i g false at off = row_none n x s t apart_then h.calls h.kept kept_then (suc i) g off at (k.calm line.Row)
+  row_by i g false at off = row_none n x s t apart_then h.calls h.kept kept_then (suc i) g off at (k.quiescent line.Row)
 
   unrowed : IsStill line.Row p t
   unrowed = none_at (is_over_by_row t) t.calls (λ i g at. row_by i g (suc i == n) at refl)
 
   final_then : (i : ℕ) (q : Attempt) (g : Bool) → slice_get t.attempts i ≡ Some q → (q.row.call == n) ≡ g → is_final_end t q ≡ false
   final_then i q true at own = ap (holds (λ (g : Call). is_final_in q t g)) (ap (numbered t.calls) (eqb-true q.row.call n own) ∙ step.here3 x o s0 k)
-  final_then i q false at off = final_none n x s t apart_then h.calls h.kept kept_then i q at off (k.calm line.Final)
+  final_then i q false at off = final_none n x s t apart_then h.calls h.kept kept_then i q at off (k.quiescent line.Final)
 
   unfinal : IsStill line.Final p t
   unfinal = none_at (is_final_end t) t.attempts (λ i q at. final_then i q (q.row.call == n) at refl)

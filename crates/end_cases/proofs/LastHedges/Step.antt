@@ -29,7 +29,7 @@ use Rattle.channel_actions.specs.GoingCalls.Going.{GoesOn}
 use Rattle.end_cases.proofs.AttemptEnds.Agreeing.{none_of}
 use Rattle.call_cases.proofs.CommitsFollow.Newest.{new_last}
 use Rattle.end_cases.proofs.EndedHeads.Along.{ended_headless}
-use Rattle.call_cases.proofs.FullSends.Bare.{no_items}
+use Rattle.call_cases.proofs.FullSends.Headless.{no_items}
 use Rattle.end_cases.proofs.LastHedges.Channel.{IsRefused, ended_last, made_last}
 use Rattle.attempt_cases.proofs.MakingSteps.WithheldNow.{IsWithheldNow, MakesSome, either}
 use Rattle.call_cases.specs.SettlingActions.Sound.{IsSound}
@@ -62,7 +62,7 @@ use Rattle.session_actions.specs.declared.call.MarkKind.{MarkKind}
 use Rattle.session_actions.specs.declared.due.DueState.{DueState}
 use Rattle.session_actions.specs.declared.entry.OpenEntry.{OpenEntry}
 use Rattle.session_actions.specs.declared.seen.Seen.{Seen}
-use Rattle.session_order.specs.Calm.{IsStill}
+use Rattle.session_order.specs.Quiescent.{IsStill}
 use Rattle.session_order.specs.declared.line.Line.TheVariants as line
 use Rattle.session_order.specs.declared.line.Line.{Line}
 use Rattle.std.proofs.Common.{◌⊎◌, inl, inr, Bool, List, None, Option, Some, [], ap, arith, eqb-true, false, filter_map, if◌then◌else◌, is_some, length, map, nat_le, nat_lt, option_map, refl, subst, sym, true, ℕ, ◌&&◌, ◌++◌, ◌||◌, ◌∙◌, ◌∷◌, ◌≡◌}
@@ -79,7 +79,7 @@ pub record LastHedge (x : StateSeen) (o : OpenEntry) (s : Seen) : Type 0 where
   pub none_goes : has_going call s ≡ false
   pub due_is : due_action s call ≡ Some (action.HedgeWithheld call.number)
   pub next : following s ≡ Some (action.HedgeWithheld call.number)
-  pub calm : (l : Line) → IsStill l o s
+  pub quiescent : (l : Line) → IsStill l o s
 
 -- the attempt whose end counted last
 pub record Found (s : Seen) (c : Call) (place : ℕ) : Type 0 where
@@ -357,7 +357,7 @@ module _ (x : StateSeen) (o : OpenEntry) (s0 : Seen) (k : LastHedge x o (with_op
 
   -- its attempts are in turn
   steady : IsSteady s c
-  steady = record { turn = own.sees.turn; calm = none_of (is_of c) (λ (q : Attempt). wants_follower q s) s.attempts (k.calm line.Transparent) }
+  steady = record { turn = own.sees.turn; quiescent = none_of (is_of c) (λ (q : Attempt). wants_follower q s) s.attempts (k.quiescent line.Transparent) }
 
   module _ (book1 : IsBook u1) (book2 : IsBook u2) where
     first : StaysInOrder u1 n

@@ -4,7 +4,7 @@ use Rattle.channel_actions.proofs.Links.Settings.Firsts.{none_numbered}
 use Rattle.channel_actions.proofs.Settles.{follows_by, is_with_open, with_open}
 use Rattle.channel_actions.proofs.Stamps.{counted_at}
 use Rattle.channel_actions.specs.Agrees.{Agrees}
-use Rattle.channel_actions.specs.Calm.{IsAt}
+use Rattle.channel_actions.specs.Quiescent.{IsAt}
 use Rattle.call_cases.proofs.ConfigActions.NetLines.{clock_stays, over_stays, wish_stays}
 use Rattle.end_cases.proofs.LastHedges.Agree as agree
 use Rattle.end_cases.proofs.LastHedges.Lines.{next_three, next_two, still}
@@ -31,13 +31,13 @@ use Rattle.session_actions.specs.declared.call.Call.{Call}
 use Rattle.session_actions.specs.declared.entry.OpenEntry.{OpenEntry}
 use Rattle.session_actions.specs.declared.entry.Stage.TheVariants as stage
 use Rattle.session_actions.specs.declared.seen.Seen.{Seen}
-use Rattle.session_order.proofs.Calms.{calm_is_exact}
-use Rattle.session_order.specs.Calm.{IsStill}
+use Rattle.session_order.proofs.Quiescence.{quiescence_is_exact}
+use Rattle.session_order.specs.Quiescent.{IsStill}
 use Rattle.session_order.specs.declared.line.Line.{Line}
 use Rattle.std.proofs.Common.{Bool, None, Some, ap, eqb-true, false, refl, subst, sym, true, ℕ, ◌==◌, ◌∙◌, ◌≡◌}
 
 at_still : (o : OpenEntry) (s : Seen) → IsAt stage.Settling o s → (l : Line) → IsStill l o s
-at_still o s at = (calm_is_exact o s).0 (at.calm.calls, at.calm.links, at.calm.policies)
+at_still o s at = (quiescence_is_exact o s).0 (at.quiescent.calls, at.quiescent.links, at.quiescent.policies)
 
 module _ (x : StateSeen) (o : OpenEntry) (s0 : Seen) (k : LastHedge x o (with_open o s0)) (at : IsAt stage.Settling o (with_open o s0)) (tended : IsTended o (with_open o s0)) where
   abbrev s : Seen
@@ -65,7 +65,7 @@ module _ (x : StateSeen) (o : OpenEntry) (s0 : Seen) (k : LastHedge x o (with_op
   at_now = record {
     current = refl;
     stage_is = at.stage_is;
-    calm = (let back = (calm_is_exact p t).1 (still x o s0 k) in record { calls = back.0; links = back.1; policies = back.2 });
+    quiescent = (let back = (quiescence_is_exact p t).1 (still x o s0 k) in record { calls = back.0; links = back.1; policies = back.2 });
   }
 
   same_one : (d : Call) → numbered t.calls n ≡ Some d → c3 ≡ d
@@ -112,7 +112,7 @@ module _ (x : StateSeen) (o : OpenEntry) (s0 : Seen) where
 
   follows_due : IsAt stage.Settling o v → IsTended o v → (a : Action) → next_due_attempt v ≡ Some a → following v ≡ Some a
   follows_due at tended a first =
-      follows_by (of_calls o v) (of_links o v) (of_policies o v) (of_stage o v o.stage) a at.calm.calls at.calm.links at.calm.policies
+      follows_by (of_calls o v) (of_links o v) (of_policies o v) (of_stage o v o.stage) a at.quiescent.calls at.quiescent.links at.quiescent.policies
       (ap (of_stage o v) at.stage_is
       ∙ first_six (next_of_clock v) (next_take_over v) (next_connected v) (first_of (config_action v) v.calls) (next_of_pass o v) (next_due_attempt v) (next_of_queue v)
       (Some action.EntryCloses) a tended.clock tended.take_over tended.connected tended.configs tended.pass first)
@@ -132,7 +132,7 @@ module _ (x : StateSeen) (o : OpenEntry) (s0 : Seen) where
         none_goes = goes;
         due_is = d.gives ∙ given;
         next = follows_due at tended (action.HedgeWithheld d.call.number) (d.first ∙ given);
-        calm = at_still o v at;
+        quiescent = at_still o v at;
       })
       at tended)
 

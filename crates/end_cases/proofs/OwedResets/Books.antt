@@ -17,8 +17,8 @@ use Rattle.channel_actions.specs.Calls.{HasSlot, SeesCall, lent_to}
 use Rattle.channel_actions.specs.Columns.{links_noted}
 use Rattle.channel_actions.specs.Configs.{bucket_in, runs_in_turn}
 use Rattle.channel_actions.specs.KeptSessions.Kept.{IsKept}
-use Rattle.channel_actions.specs.Sets.{is_in_bare, is_in_deadlines, is_in_dues, is_in_impatient, is_in_outstanding, is_in_patient, is_in_queue, is_patient, is_waiting}
-use Rattle.call_cases.proofs.CallPosts.Told.{map_changed}
+use Rattle.channel_actions.specs.Sets.{is_awaiting_config, is_in_deadlines, is_in_dues, is_in_fail_fast, is_in_outstanding, is_in_ready_waiters, is_in_queue, is_ready_waiter, is_waiting}
+use Rattle.call_cases.proofs.CallPosts.Report.{map_changed}
 use Rattle.call_cases.proofs.OneCallEnds.Resets.{KeepsCall, reset_keeps}
 use Rattle.end_cases.specs.AttemptEnds.Ahead.{AgreesOffLinks, SetsAgree}
 use Rattle.channel_core.specs.States.{StateSeen}
@@ -195,12 +195,12 @@ module _ (v : Seen) (a : Attempt) (number : ℕ) where
 
     sets_one : SetsAgree x v → SetsAgree x z
     sets_one h = record {
-      queue = exactly_by x.queue (is_in_queue v) (is_in_queue z) h.queue (λ call row. ap (λ (b : Bool). b && not (is_patient v call)) (sym (waiting_same call row)));
-      patient = exactly_by x.patient (is_in_patient v) (is_in_patient z) h.patient (λ call row. ap (λ (b : Bool). b && is_patient v call) (sym (waiting_same call row)));
+      queue = exactly_by x.queue (is_in_queue v) (is_in_queue z) h.queue (λ call row. ap (λ (b : Bool). b && not (is_ready_waiter v call)) (sym (waiting_same call row)));
+      ready_waiters = exactly_by x.ready_waiters (is_in_ready_waiters v) (is_in_ready_waiters z) h.ready_waiters (λ call row. ap (λ (b : Bool). b && is_ready_waiter v call) (sym (waiting_same call row)));
       dues = exactly_by x.dues (is_in_dues v) (is_in_dues z) h.dues (λ moment call. sym (dues_same moment call));
       deadlines = exactly_by x.deadlines (is_in_deadlines v) (is_in_deadlines z) h.deadlines (λ moment call. refl);
-      bare = exactly_by x.bare (is_in_bare v) (is_in_bare z) h.bare (λ zero_ call. refl);
-      impatient = exactly_by x.impatient (is_in_impatient v) (is_in_impatient z) h.impatient (λ zero_ call. refl);
+      awaiting_config = exactly_by x.awaiting_config (is_awaiting_config v) (is_awaiting_config z) h.awaiting_config (λ zero_ call. refl);
+      fail_fast = exactly_by x.fail_fast (is_in_fail_fast v) (is_in_fail_fast z) h.fail_fast (λ zero_ call. refl);
       outstanding = exactly_by x.outstanding (is_in_outstanding v) (is_in_outstanding z) h.outstanding (λ link row. sym (out_still link row));
     }
 

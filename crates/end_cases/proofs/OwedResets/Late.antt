@@ -12,7 +12,7 @@ use Rattle.channel_actions.proofs.Links.Frames.Streams.{streams_still}
 use Rattle.channel_actions.proofs.Lines.{all_at_places}
 use Rattle.channel_actions.proofs.Stamps.{counted_at, map_same}
 use Rattle.channel_actions.specs.KeptSessions.Kept.{IsKept}
-use Rattle.channel_actions.specs.LinkFrames.Alike.{AreAlike, CannotTell, Numbers}
+use Rattle.channel_actions.specs.LinkFrames.Alike.{AttemptsAreAlike, CannotDistinguish, Numbers}
 use Rattle.channel_actions.specs.Links.{lines_in}
 use Rattle.channel_actions.specs.Readers.{SeesReaders}
 use Rattle.call_cases.proofs.ConfiguredCalls.Lists.{changed_length}
@@ -26,7 +26,7 @@ use Rattle.link_actions.proofs.ResetActions.Cuts.{resets_catch_up}
 use Rattle.link_actions.proofs.Without as lists
 use Rattle.link_actions.specs.Laws.{with_owed}
 use Rattle.link_actions.specs.ResetActions.Ahead.{SeesAhead}
-use Rattle.link_actions.specs.Sees.{ArePlaced, by_stream}
+use Rattle.link_actions.specs.Sees.{AttemptsStandInPlace, by_stream}
 use Rattle.session_actions.specs.AttemptEnds.{reset_code_of, stream_reset, stream_reset_of, with_reset_queued}
 use Rattle.session_actions.specs.Attempts.{with_attempt}
 use Rattle.session_actions.specs.Links.{is_retiring, is_stream_before, link_number, read_bytes, stream_number}
@@ -64,7 +64,7 @@ swapped : (m n : ℕ) → (m == n) ≡ (n == m)
 swapped m n = grind (arith, nat_tests)
 
 -- attempts are alike whatever becomes of links
-realike : (touched : Numbers) (s t : Seen) (links : List Link) (xs ys : List Attempt) → AreAlike touched s t xs ys → AreAlike touched s (record t { links = links }) xs ys
+realike : (touched : Numbers) (s t : Seen) (links : List Link) (xs ys : List Attempt) → AttemptsAreAlike touched s t xs ys → AttemptsAreAlike touched s (record t { links = links }) xs ys
 realike touched s t links [] ys h = h
 realike touched s t links (a ∷ xs) (b ∷ ys) h = (
   record {
@@ -82,7 +82,7 @@ abbrev pub pending : Seen → Attempt → Bool
 pending s b = is_some (reset_code_of s b)
 
 module _ (s : Seen) (a : Attempt) (index number : ℕ) (at : slice_get s.attempts index ≡ Some a) (code : reset_code_of s a ≡ Some number) (kept : IsKept s)
-    (places : ArePlaced 1 s.attempts)
+    (places : AttemptsStandInPlace 1 s.attempts)
     (later : (i : ℕ) (x : Attempt) → slice_get s.attempts i ≡ Some x → pending s x ≡ true → is_stream_before x a ≡ false)
     (above : (i : ℕ) (x : Attempt) → nat_lt i index ≡ true → slice_get s.attempts i ≡ Some x → pending s x ≡ true → is_stream_before a x ≡ true) where
   abbrev pub z : Seen
@@ -158,16 +158,16 @@ module _ (s : Seen) (a : Attempt) (index number : ℕ) (at : slice_get s.attempt
       ∙ ap (λ (xs : List Attempt). suc (length (filter (pending s) xs))) (sym attempts_are)
       ∙ ap (λ (xs : List Attempt). suc (length xs)) (sym (filter_same (pending z) (pending s) (λ b. ap (λ (o : Option ℕ). is_some o) (codes b)) z.attempts))
 
-  -- no link can tell it but by what it owes
-  untold : CannotTell (λ link. false) s (with_attempt with_reset_queued a.place s)
+  -- no link can distinguish it but by what it owes
+  untold : CannotDistinguish (λ link. false) s (with_attempt with_reset_queued a.place s)
   untold =
       attempt_changed (λ link. false) with_reset_queued a.place s
       (λ x here. record { place = refl; call = refl; on = λ link apart. refl; stream = λ link apart on. refl })
 
-  alike : AreAlike (λ link. false) s z s.attempts z.attempts
+  alike : AttemptsAreAlike (λ link. false) s z s.attempts z.attempts
   alike = realike (λ link. false) s (with_attempt with_reset_queued a.place s) z.links s.attempts z.attempts untold.attempts
 
-  module _ (kept_z : IsKept z) (placed_z : ArePlaced 1 z.attempts) where
+  module _ (kept_z : IsKept z) (placed_z : AttemptsStandInPlace 1 z.attempts) where
     -- its own link, and another one
     late_by : (l : Link) (n : ℕ) (slot : LinkSlot) (b : Bool) → l.number ≡ n → numbered s.links n ≡ Some l → numbered z.links n ≡ Some (if b then owing l else l)
         → (link_number a == l.number) ≡ b → IsLate l s slot → IsLate (if b then owing l else l) z slot

@@ -8,7 +8,7 @@ use Rattle.call_cases.proofs.EndsFollow.Steps.{placed_of}
 use Rattle.call_cases.proofs.EndsFollow.Streams.{IsForemost, by_stream_order, is_foremost}
 use Rattle.channel_actions.proofs.KeptSessions.Along.{kept_stays}
 use Rattle.call_cases.proofs.LinkEnds.Resets.{is_owed}
-use Rattle.call_cases.specs.EndsFollow.Cuts.{AreUnreset, is_unreset}
+use Rattle.call_cases.specs.EndsFollow.Cuts.{NoStreamIsToReset, is_unreset}
 use Rattle.channel_actions.specs.KeptSessions.Kept.{IsKept}
 use Rattle.channel_actions.specs.Sets.{is_in_outstanding}
 use Rattle.end_cases.proofs.OwedResets.Books.{books_stay, out_still}
@@ -20,7 +20,7 @@ use Rattle.end_cases.specs.AttemptEnds.Ahead.{AgreesOffLinks}
 use Rattle.end_cases.specs.AttemptEnds.Laws.{may_wait_for_resets}
 use Rattle.channel_core.specs.States.{StateSeen}
 use Rattle.channel_core.specs.declared.state.links.LinkSlot.{LinkSlot}
-use Rattle.link_actions.specs.Sees.{ArePlaced}
+use Rattle.link_actions.specs.Sees.{AttemptsStandInPlace}
 use Rattle.session_actions.specs.Actions.{after, after_if}
 use Rattle.session_actions.specs.AttemptEnds.{next_reset, reset_code_of, reset_of, stream_reset, stream_reset_of, with_reset_queued}
 use Rattle.session_actions.specs.Events.{is_loss}
@@ -33,10 +33,10 @@ use Rattle.session_actions.specs.declared.action.Action.TheVariants as action
 use Rattle.session_actions.specs.declared.attempt.Attempt.{Attempt}
 use Rattle.session_actions.specs.declared.entry.OpenEntry.{OpenEntry}
 use Rattle.session_actions.specs.declared.seen.Seen.{Seen}
-use Rattle.session_order.proofs.Calms.{first_line_gives}
+use Rattle.session_order.proofs.Quiescence.{first_line_gives}
 use Rattle.session_order.proofs.Lines.{lines_are_still}
 use Rattle.session_order.proofs.StreamResets.{reset_leaves}
-use Rattle.session_order.specs.Calm.{IsStill, is_to_reset}
+use Rattle.session_order.specs.Quiescent.{IsStill, is_to_reset}
 use Rattle.session_order.specs.Lines.{is_line, rank}
 use Rattle.session_order.specs.declared.line.Line.{Line}
 use Rattle.session_order.specs.declared.line.Line.TheVariants as line
@@ -97,8 +97,8 @@ module _ (waits : Line → Bool) (o : OpenEntry) (late : (l : Line) → waits l 
     pub current : s.current ≡ Some o
     pub still : (l : Line) → is_line l line.Reset ≡ false → waits l ≡ false → IsStill l o s
     pub books : AgreesOffLinks x s
-    pub behind : AreLate links s
-    pub unreset : AreUnreset s
+    pub afterwards : AreLate links s
+    pub unreset : NoStreamIsToReset s
 
   -- one of them
   pub record IsOne (s : Seen) : Type 0 where
@@ -118,7 +118,7 @@ module _ (waits : Line → Bool) (o : OpenEntry) (late : (l : Line) → waits l 
     kept : IsKept s
     kept = mid.books.kept
 
-    places : ArePlaced 1 s.attempts
+    places : AttemptsStandInPlace 1 s.attempts
     places = placed_of 1 s.attempts kept.book.places
 
     e : IsEarliest is_stream_before (pending s) s.attempts a
@@ -191,7 +191,7 @@ module _ (waits : Line → Bool) (o : OpenEntry) (late : (l : Line) → waits l 
         current = mid.current;
         still = still;
         books = books_stay s a number x mid.books kept_z;
-        behind = late_still s a e.index number e.there code kept places f.first e.earlier_ kept_z (placed_of 1 z.attempts kept_z.book.places) links mid.behind;
+        afterwards = late_still s a e.index number e.there code kept places f.first e.earlier_ kept_z (placed_of 1 z.attempts kept_z.book.places) links mid.afterwards;
         unreset = all_changed_at is_unreset with_reset_queued a.place s.attempts mid.unreset
             (λ b here. let same : b ≡ a = one_of b here in ap (λ (q : Attempt). is_unreset (with_reset_queued q)) same ∙ ended_now);
       };

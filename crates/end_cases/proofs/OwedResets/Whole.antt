@@ -22,7 +22,7 @@ use Rattle.session_actions.specs.declared.attempt.Attempt.{Attempt}
 use Rattle.session_actions.specs.declared.entry.OpenEntry.{OpenEntry}
 use Rattle.session_actions.specs.declared.link.Link.{Link}
 use Rattle.session_actions.specs.declared.seen.Seen.{Seen}
-use Rattle.session_order.specs.Calm.{IsStill, is_to_reset}
+use Rattle.session_order.specs.Quiescent.{IsStill, is_to_reset}
 use Rattle.session_order.specs.Lines.{is_line}
 use Rattle.session_order.specs.declared.line.Line.{Line}
 use Rattle.session_order.specs.declared.line.Line.TheVariants as line
@@ -65,7 +65,7 @@ module _ (waits : Line → Bool) (also : List ℕ) (x : StateSeen) (o : OpenEntr
   }
 
   mid : IsMid waits o is.late x closed s
-  mid = record { current = is.current; still = is.still; books = is.agrees.books; behind = late; unreset = is.agrees.unreset }
+  mid = record { current = is.current; still = is.still; books = is.agrees.books; afterwards = late; unreset = is.agrees.unreset }
 
   made : HasMade waits o is.late x closed s
   made = all_made waits o is.late x closed s mid
@@ -84,8 +84,8 @@ module _ (waits : Line → Bool) (also : List ℕ) (x : StateSeen) (o : OpenEntr
 
   links_on : LinksAhead [] y u
   links_on = record {
-    count = made.mid.behind.count;
-    each = λ n l at. let h : HasLate closed u l n = made.mid.behind.each n l at in
+    count = made.mid.afterwards.count;
+    each = λ n l at. let h : HasLate closed u l n = made.mid.afterwards.each n l at in
         record { slot = h.slot; there = h.there; sees = record { over = h.over; retiring = h.retiring; going = λ goes. on_one l h.slot (h.going goes) } };
     closing = λ n l at off. owes_none l;
   }
@@ -103,7 +103,7 @@ module _ (waits : Line → Bool) (also : List ℕ) (x : StateSeen) (o : OpenEntr
     calls = record { count = b.calls.count; each = λ k c at. let h = b.calls.each k c at in record { slot = h.slot; there = h.there; sees = record { bucket = h.sees.bucket; serves = h.sees.serves; order = h.sees.order; turn = h.sees.turn; due = h.sees.due; deadline_is = h.sees.deadline_is } } };
     net = b.net;
     orderly = b.orderly;
-    sets = record { queue = b.sets.queue; patient = b.sets.patient; dues = b.sets.dues; deadlines = b.sets.deadlines; bare = b.sets.bare; impatient = b.sets.impatient; outstanding = b.sets.outstanding };
+    sets = record { queue = b.sets.queue; ready_waiters = b.sets.ready_waiters; dues = b.sets.dues; deadlines = b.sets.deadlines; awaiting_config = b.sets.awaiting_config; fail_fast = b.sets.fail_fast; outstanding = b.sets.outstanding };
     kept = b.kept;
   }
 

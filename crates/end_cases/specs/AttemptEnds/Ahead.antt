@@ -10,11 +10,11 @@ use Rattle.channel_actions.specs.Calls.{SeesCalls}
 use Rattle.channel_actions.specs.Clock.{SeesClock}
 use Rattle.channel_actions.specs.Columns.{SeesColumns}
 use Rattle.channel_actions.specs.Configs.{SeesBuckets, SeesConfigs}
-use Rattle.call_cases.specs.EndsFollow.Cuts.{AreUnreset}
+use Rattle.call_cases.specs.EndsFollow.Cuts.{NoStreamIsToReset}
 use Rattle.channel_actions.specs.KeptSessions.Kept.{IsKept}
 use Rattle.channel_actions.specs.Links.{lines_in}
 use Rattle.channel_actions.specs.Readers.{SeesReaders}
-use Rattle.channel_actions.specs.Sets.{AreExactly, is_in_bare, is_in_deadlines, is_in_dues, is_in_impatient, is_in_outstanding, is_in_patient, is_in_queue}
+use Rattle.channel_actions.specs.Sets.{PairsAreExactly, is_awaiting_config, is_in_deadlines, is_in_dues, is_in_fail_fast, is_in_outstanding, is_in_ready_waiters, is_in_queue}
 use Rattle.channel_core.specs.States.{StateSeen}
 use Rattle.channel_core.specs.declared.state.links.LinkSlot.{LinkSlot}
 use Rattle.end_cases.specs.AttemptEnds.Left.{all_left}
@@ -40,7 +40,7 @@ owed_reset s a = (stream_number a, unwrap_or (reset_code_of s a) 0)
 abbrev pub resets_owed : Link → Seen → List (ℕ × ℕ)
 resets_owed l s = map (owed_reset s) (by_stream (filter (is_owed_on l s) s.attempts))
 
--- a link that is not over has these queued behind all else, and is not closed since
+-- a link that is not over has these queued after all else, and is not closed since
 pub record IsAhead (l : Link) (s : Seen) (slot : LinkSlot) : Type 0 where
   pub streams : SeesAhead (resets_owed l s) l s slot.link.link.wire (lines_in l s)
   pub readers : SeesReaders l s slot.link.readers
@@ -65,13 +65,13 @@ pub record LinksAhead (also : List ℕ) (x : StateSeen) (s : Seen) : Type 0 wher
 
 -- all but the links
 pub record SetsAgree (x : StateSeen) (s : Seen) : Type 0 where
-  pub queue : AreExactly x.queue (is_in_queue s)
-  pub patient : AreExactly x.patient (is_in_patient s)
-  pub dues : AreExactly x.dues (is_in_dues s)
-  pub deadlines : AreExactly x.deadlines (is_in_deadlines s)
-  pub bare : AreExactly x.bare (is_in_bare s)
-  pub impatient : AreExactly x.impatient (is_in_impatient s)
-  pub outstanding : AreExactly x.outstanding (is_in_outstanding s)
+  pub queue : PairsAreExactly x.queue (is_in_queue s)
+  pub ready_waiters : PairsAreExactly x.ready_waiters (is_in_ready_waiters s)
+  pub dues : PairsAreExactly x.dues (is_in_dues s)
+  pub deadlines : PairsAreExactly x.deadlines (is_in_deadlines s)
+  pub awaiting_config : PairsAreExactly x.awaiting_config (is_awaiting_config s)
+  pub fail_fast : PairsAreExactly x.fail_fast (is_in_fail_fast s)
+  pub outstanding : PairsAreExactly x.outstanding (is_in_outstanding s)
 
 pub record AgreesOffLinks (x : StateSeen) (s : Seen) : Type 0 where
   pub clock : SeesClock x s
@@ -89,4 +89,4 @@ pub record AgreesOffLinks (x : StateSeen) (s : Seen) : Type 0 where
 pub record AgreesAhead (later : List (ℕ × RowEnd)) (also : List ℕ) (x : StateSeen) (s : Seen) : Type 0 where
   pub books : AgreesOffLinks x s
   pub links : LinksAhead also x (all_left later s)
-  pub unreset : AreUnreset s
+  pub unreset : NoStreamIsToReset s

@@ -12,18 +12,18 @@ use Rattle.attempt_ledger.specs.declared.news.News.TheVariants as news
 use Rattle.attempt_ledger.specs.declared.row.Placed.{Placed}
 use Rattle.attempt_ledger.specs.declared.row.RowEnd.{RowEnd}
 use Rattle.call_actions.specs.Laws.{IsEnding, news_of}
-use Rattle.call_cases.specs.EndsFollow.Cuts.{AreUnreset}
+use Rattle.call_cases.specs.EndsFollow.Cuts.{NoStreamIsToReset}
 use Rattle.call_cases.specs.EndsFollow.Laws.{is_late}
 use Rattle.channel_actions.specs.GoingCalls.Going.{CallsGoOn}
-use Rattle.channel_actions.specs.OwnStreams.Own.{AreApart}
+use Rattle.channel_actions.specs.OwnStreams.Own.{StreamsAreApart}
 use Rattle.channel_actions.specs.Points.{IsSameEntry}
 use Rattle.channel_actions.specs.Sets.{is_in_outstanding}
 use Rattle.end_cases.specs.AttemptEnds.Ahead.{AgreesAhead, AgreesOffLinks, LinksAhead}
-use Rattle.end_cases.specs.AttemptEnds.Left.{AreThere, all_left}
+use Rattle.end_cases.specs.AttemptEnds.Left.{AttemptsAreThere, all_left}
 use Rattle.end_cases.specs.AttemptEnds.Runs.{RunsRise}
 use Rattle.channel_core.specs.Books.{slot_at}
 use Rattle.channel_core.specs.States.{StateSeen}
-use Rattle.channel_core.specs.Steps.{left_behind, stamped_gone, told, unqueued}
+use Rattle.channel_core.specs.Steps.{left_after, stamped_gone, reported, unqueued}
 use Rattle.channel_core.specs.declared.state.slots.CallSlot.{CallSlot}
 use Rattle.session_actions.specs.Actions.{following}
 use Rattle.session_actions.specs.AttemptEnds.{attempt_ended, end_of}
@@ -38,22 +38,22 @@ use Rattle.session_actions.specs.declared.call.Call.{Call}
 use Rattle.session_actions.specs.declared.entry.OpenEntry.{OpenEntry}
 use Rattle.session_actions.specs.declared.response.Outcome.{Outcome}
 use Rattle.session_actions.specs.declared.seen.Seen.{Seen}
-use Rattle.session_order.specs.Calm.{IsStill}
+use Rattle.session_order.specs.Quiescent.{IsStill}
 use Rattle.session_order.specs.declared.line.Line.{Line}
 use Rattle.session_order.specs.declared.line.Line.TheVariants as line
 
--- what the channel does: the attempt leaves the queue, or those that are outstanding; its call hears of the end, and is followed; and its link is gone where it is
+-- what the channel does: the attempt leaves the queue, or those that are outstanding; its call is notified of the end, and is followed; and its link is gone where it is
 -- over, or takes no further attempt and this was the last one on it
 abbrev pub taken_off : ℕ → ℕ → Option Placed → StateSeen → StateSeen
 taken_off call row None x = unqueued call row x
-taken_off call row (Some at) x = left_behind at.link row x
+taken_off call row (Some at) x = left_after at.link row x
 
 abbrev pub gone_with : Option Placed → StateSeen → StateSeen
 gone_with None x = x
 gone_with (Some at) x = stamped_gone at.link x
 
 abbrev pub ended_in : Attempt → EndNews → StateSeen → StateSeen
-ended_in a end x = gone_with a.row.placed (told a.place (news.Ended a.place end) (taken_off a.row.call a.place a.row.placed x))
+ended_in a end x = gone_with a.row.placed (reported a.place (news.Ended a.place end) (taken_off a.row.call a.place a.row.placed x))
 
 -- the two lines by which an attempt ends that is not cut off; and those that may wait until all that one action ends has ended
 abbrev pub is_of_ends : Line → Bool
@@ -86,10 +86,10 @@ pub record EndNext (later : List (ℕ × RowEnd)) (waits : Line → Bool) (also 
   pub still : (l : Line) → is_of_ends l ≡ false → waits l ≡ false → IsStill l o s
   pub books : AgreesOffLinks (gone_with a.row.placed x) s
   pub links : LinksAhead also x (all_left later (attempt_ended a.place (end_of a out s) s))
-  pub among : AreThere later s
-  pub unreset : AreUnreset s
+  pub among : AttemptsAreThere later s
+  pub unreset : NoStreamIsToReset s
   -- no two attempts of a link have one stream (every session keeps this: `own_streams`)
-  pub apart : AreApart s.attempts
+  pub apart : StreamsAreApart s.attempts
   pub rising : RunsRise s
   -- of the channel alone (`going_calls`)
   pub going : CallsGoOn x

@@ -21,5 +21,5 @@ abbrev pub all_left : List (ℕ × RowEnd) → Seen → Seen
 all_left left s = record s { attempts = rows_ended left s.attempts }
 
 -- they are there
-abbrev pub AreThere : List (ℕ × RowEnd) → Seen → Type 0
-AreThere left s = list_all (λ x. nat_le x.0 (length s.attempts)) left ≡ true
+abbrev pub AttemptsAreThere : List (ℕ × RowEnd) → Seen → Type 0
+AttemptsAreThere left s = list_all (λ x. nat_le x.0 (length s.attempts)) left ≡ true

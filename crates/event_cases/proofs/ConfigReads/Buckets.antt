@@ -12,14 +12,14 @@ use Rattle.call_actions.specs.CallsApart.Apart.{IsBook, has_run}
 use Rattle.call_actions.specs.Sees.{bucket_of}
 use Rattle.channel_actions.specs.Configs.{SeesBuckets, bucket_in, is_same_run, runs_after, runs_in_turn}
 use Rattle.end_cases.proofs.AttemptEnds.Rising.{final, final_is, joined, low_number, more, nothing_more, same_self_run}
-use Rattle.event_cases.proofs.ConfigReads.Behind.{last_more, longer, numbered_more, plan_same}
-use Rattle.event_cases.specs.ConfigReads.Throttled.{AreThrottled}
+use Rattle.event_cases.proofs.ConfigReads.After.{last_more, longer, numbered_more, plan_same}
+use Rattle.event_cases.specs.ConfigReads.Throttled.{BucketsFollowConfigs}
 use Rattle.channel_core.specs.Tables.{BucketsSeen, followed, goes_on}
 use Rattle.channel_core.specs.Tables as channel
 use Rattle.grpc_base.specs.declared.plan.CallPlan.TheVariants as plan
 use Rattle.grpc_base.specs.declared.plan.CallPlan.{CallPlan}
 use Rattle.grpc_base.specs.declared.plan.Throttle.{Throttle}
-use Rattle.net_actions.proofs.Shutting.{get_behind}
+use Rattle.net_actions.proofs.Shutting.{get_after}
 use Rattle.service_config.specs.declared.config.Config.{Config}
 use Rattle.session_actions.specs.Attempts.{call_of}
 use Rattle.session_actions.specs.Configs.{held_config, is_same_throttle, plan_of, run_to_join, with_config, with_held, with_throttled}
@@ -88,7 +88,7 @@ throttles_turned : (u v : Throttle) → is_same_throttle u v ≡ channel.is_same
 throttles_turned u v =
     ap (λ (b : Bool). b && (u.ratio == v.ratio)) (turned u.start v.start) ∙ ap (λ (b : Bool). (v.start == u.start) && b) (turned u.ratio v.ratio)
 
-module _ (s : Seen) (b : BucketsSeen) (sees : SeesBuckets b s) (book : IsBook s) (throttled : AreThrottled s) where
+module _ (s : Seen) (b : BucketsSeen) (sees : SeesBuckets b s) (book : IsBook s) (throttled : BucketsFollowConfigs s) where
   is_there : Option ℕ → Bool
   is_there r = option_map_or (λ (k : ℕ). is_some (numbered s.runs k)) r true
 
@@ -264,7 +264,7 @@ module _ (s : Seen) (b : BucketsSeen) (sees : SeesBuckets b s) (book : IsBook s)
   new_bucket config v is =
       let number : new ≡ suc (length s.runs) = omega arith in
       ap (λ (k : ℕ). option_map (bucket_of (with_new config v)) (numbered (with_new config v).runs k)) number
-      ∙ ap (option_map (bucket_of (with_new config v))) (get_behind s.runs [] (record { throttle = v; ends = [] }))
+      ∙ ap (option_map (bucket_of (with_new config v))) (get_after s.runs [] (record { throttle = v; ends = [] }))
       ∙ sym (ap (option_map full) is)
 
   low : (k : ℕ) → nat_lt k new ≡ true → (k == new) ≡ false

@@ -15,17 +15,17 @@ use Rattle.channel_actions.specs.Clock.{DrawsAlike}
 use Rattle.channel_actions.specs.Columns.{SeesColumns}
 use Rattle.channel_actions.specs.Configs.{SeesBuckets}
 use Rattle.channel_actions.specs.KeptSessions.Kept.{IsKept}
-use Rattle.channel_actions.specs.LinkFrames.Alike.{CannotTell}
+use Rattle.channel_actions.specs.LinkFrames.Alike.{CannotDistinguish}
 use Rattle.channel_actions.specs.LinkFrames.Bears.{bears_on}
 use Rattle.channel_actions.specs.Links.{SeesLinks}
 use Rattle.call_cases.specs.OtherCalls.Laws.{SetsApart}
 use Rattle.call_cases.specs.OtherCalls.Others.{BooksApart, GoesApart}
-use Rattle.channel_actions.specs.Sets.{SeesSets, is_in_bare, is_in_deadlines, is_in_dues, is_in_impatient, is_in_patient, is_in_queue}
-use Rattle.event_cases.proofs.ConfigReads.Behind.{last_more, longer}
+use Rattle.channel_actions.specs.Sets.{SeesSets, is_awaiting_config, is_in_deadlines, is_in_dues, is_in_fail_fast, is_in_ready_waiters, is_in_queue}
+use Rattle.event_cases.proofs.ConfigReads.After.{last_more, longer}
 use Rattle.event_cases.proofs.ConfigReads.Buckets.{held_sees}
 use Rattle.event_cases.proofs.ConfigReads.Stirred.{IsLonger, held_by}
 use Rattle.event_cases.proofs.HeldResults.Mid.{IsMid}
-use Rattle.event_cases.specs.ConfigReads.Throttled.{AreThrottled}
+use Rattle.event_cases.specs.ConfigReads.Throttled.{BucketsFollowConfigs}
 use Rattle.channel_core.specs.Applying.{answered_question}
 use Rattle.channel_core.specs.States.{StateSeen}
 use Rattle.channel_core.specs.Steps.{configured_by}
@@ -49,7 +49,7 @@ use Rattle.session_order.proofs.Posts.{answered_with}
 no_zero : (n : ℕ) → (suc n == 0) ≡ false
 no_zero n = grind (arith, nat_tests)
 
-module _ (x : StateSeen) (o : OpenEntry) (s : Seen) (h : Agrees x (with_open o s)) (throttled : AreThrottled s) (config : Config)
+module _ (x : StateSeen) (o : OpenEntry) (s : Seen) (h : Agrees x (with_open o s)) (throttled : BucketsFollowConfigs s) (config : Config)
     (follows : following (with_open o s) ≡ Some (action.ConfigRead (Ok config))) where
   abbrev v : Seen
   v = with_open o s
@@ -94,7 +94,7 @@ module _ (x : StateSeen) (o : OpenEntry) (s : Seen) (h : Agrees x (with_open o s
   columns : SeesColumns y.book.ledger t
   columns = record { rows = h.columns.rows; calls = h.columns.calls; asks = h.columns.asks; generations = h.columns.generations; links = h.columns.links }
 
-  throttled_now : AreThrottled u
+  throttled_now : BucketsFollowConfigs u
   throttled_now n g there = throttled n g there
 
   book_now : IsBook u
@@ -114,7 +114,7 @@ module _ (x : StateSeen) (o : OpenEntry) (s : Seen) (h : Agrees x (with_open o s
 
   links : SeesLinks y t
   links =
-      links_stay (bears_on a v) x y v t h.links h.kept kept (λ link e. refl) (subst (CannotTell (bears_on a v) v) read_is (actions_are_untold a v h.kept tt)) h.links.count
+      links_stay (bears_on a v) x y v t h.links h.kept kept (λ link e. refl) (subst (CannotDistinguish (bears_on a v) v) read_is (actions_are_untold a v h.kept tt)) h.links.count
       (λ link l e f. absurd (cc))
 
   sets : SetsApart 0 v t
@@ -124,9 +124,9 @@ module _ (x : StateSeen) (o : OpenEntry) (s : Seen) (h : Agrees x (with_open o s
   queue_same zero row = refl
   queue_same (suc n) row = sets.queue (suc n) row (no_zero n)
 
-  patient_same : (n row : ℕ) → is_in_patient t n row ≡ is_in_patient v n row
-  patient_same zero row = refl
-  patient_same (suc n) row = sets.patient (suc n) row (no_zero n)
+  wait_for_ready_same : (n row : ℕ) → is_in_ready_waiters t n row ≡ is_in_ready_waiters v n row
+  wait_for_ready_same zero row = refl
+  wait_for_ready_same (suc n) row = sets.ready_waiters (suc n) row (no_zero n)
 
   dues_same : (m n : ℕ) → is_in_dues t m n ≡ is_in_dues v m n
   dues_same m zero = refl
@@ -136,18 +136,18 @@ module _ (x : StateSeen) (o : OpenEntry) (s : Seen) (h : Agrees x (with_open o s
   deadlines_same m zero = refl
   deadlines_same m (suc n) = sets.deadlines m (suc n) (no_zero n)
 
-  impatient_same : (m n : ℕ) → is_in_impatient t m n ≡ is_in_impatient v m n
-  impatient_same m zero = refl
-  impatient_same m (suc n) = sets.impatient m (suc n) (no_zero n)
+  fail_fast_same : (m n : ℕ) → is_in_fail_fast t m n ≡ is_in_fail_fast v m n
+  fail_fast_same m zero = refl
+  fail_fast_same m (suc n) = sets.fail_fast m (suc n) (no_zero n)
 
   sets_on : SeesSets y t
   sets_on = record {
     queue = record { rising = h.sets.queue.rising; exact = λ m n. h.sets.queue.exact m n ∙ sym (queue_same m n) };
-    patient = record { rising = h.sets.patient.rising; exact = λ m n. h.sets.patient.exact m n ∙ sym (patient_same m n) };
+    ready_waiters = record { rising = h.sets.ready_waiters.rising; exact = λ m n. h.sets.ready_waiters.exact m n ∙ sym (wait_for_ready_same m n) };
     dues = record { rising = h.sets.dues.rising; exact = λ m n. h.sets.dues.exact m n ∙ sym (dues_same m n) };
     deadlines = record { rising = h.sets.deadlines.rising; exact = λ m n. h.sets.deadlines.exact m n ∙ sym (deadlines_same m n) };
-    bare = h.sets.bare;
-    impatient = record { rising = h.sets.impatient.rising; exact = λ m n. h.sets.impatient.exact m n ∙ sym (impatient_same m n) };
+    awaiting_config = h.sets.awaiting_config;
+    fail_fast = record { rising = h.sets.fail_fast.rising; exact = λ m n. h.sets.fail_fast.exact m n ∙ sym (fail_fast_same m n) };
     outstanding = h.sets.outstanding;
     resets = h.sets.resets;
   }

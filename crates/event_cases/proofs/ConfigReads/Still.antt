@@ -6,7 +6,7 @@ use Rattle.attempt_ledger.specs.Ends.{is_above}
 use Rattle.attempt_ledger.specs.Throttling.{codes_of}
 use Rattle.attempt_ledger.specs.declared.row.RowEnd.{RowEnd}
 use Rattle.call_actions.specs.CallsApart.Apart.{IsBook}
-use Rattle.event_cases.proofs.ConfigReads.Behind.{chosen_same, longer, plan_same, run_same}
+use Rattle.event_cases.proofs.ConfigReads.After.{chosen_same, longer, plan_same, run_same}
 use Rattle.grpc_base.specs.Codes.{has_code}
 use Rattle.grpc_base.specs.Limits.{message_limit}
 use Rattle.grpc_base.specs.declared.code.Code.{Code}
@@ -44,7 +44,7 @@ use Rattle.session_order.proofs.Begun.{last_in}
 use Rattle.session_order.proofs.Finals.{holds_in}
 use Rattle.session_order.proofs.Limits.{code_with, then_same}
 use Rattle.session_order.proofs.Lists.{any_in, holds_same}
-use Rattle.session_order.specs.Calm.{IsStill, is_to_end, is_to_reset}
+use Rattle.session_order.specs.Quiescent.{IsStill, is_to_end, is_to_reset}
 use Rattle.session_order.specs.Lines.{is_of_policies}
 use Rattle.session_order.specs.declared.line.Line.TheVariants as line
 use Rattle.session_order.specs.declared.line.Line.{Line}

@@ -2,10 +2,10 @@
 use Rattle.std.proofs.Common.{◌≡◌, ◌&&◌, ◌++◌, ◌+◌, ◌∷◌, ap, append-nil, refl, subst, sym, ◌∙◌, Bool, true, false, Err, List, [], None, Ok, Option, Result, Some, ℕ, length}
 use Rattle.std.specs.Option.{option_map}
 use Rattle.call_actions.specs.CallsApart.Apart.{IsBook}
-use Rattle.event_cases.proofs.ConfigReads.Behind.{longer}
+use Rattle.event_cases.proofs.ConfigReads.After.{longer}
 use Rattle.event_cases.proofs.ConfigReads.Still.{longer_still}
 use Rattle.event_cases.specs.ConfigReads.Laws.{ReadsStirPolicies}
-use Rattle.attempt_cases.specs.NetChains.Chains.{IsApartCalm}
+use Rattle.attempt_cases.specs.NetChains.Chains.{IsApartQuiescent}
 use Rattle.grpc_base.specs.declared.address.Address.{Address}
 use Rattle.grpc_base.specs.declared.event.ConfigFault.{ConfigFault}
 use Rattle.grpc_base.specs.declared.event.Event.TheVariants as event
@@ -24,7 +24,7 @@ use Rattle.session_actions.specs.declared.entry.OpenEntry.{OpenEntry}
 use Rattle.session_actions.specs.declared.seen.Seen.{Seen}
 use Rattle.session_order.proofs.Entered.{IsQuietFor, moved_on}
 use Rattle.session_order.proofs.Posts.{answered_still, answered_with}
-use Rattle.session_order.specs.Calm.{IsCalm, IsStill}
+use Rattle.session_order.specs.Quiescent.{IsQuiescent, IsStill}
 use Rattle.session_order.specs.Lines.{is_of_policies}
 use Rattle.session_order.specs.declared.line.Line.TheVariants as line
 use Rattle.session_order.specs.declared.line.Line.{Line}
@@ -55,7 +55,7 @@ and_off false = refl
 
 -- the event cancels no call and sends nothing
 module _ (o : OpenEntry) (s : Seen) (addresses : List Address) (config : Option (List ℕ)) (current : s.current ≡ Some o) (brings : o.event ≡ event.Resolved addresses config)
-    (calm : IsCalm o s) (r : Reply) where
+    (quiescent : IsQuiescent o s) (r : Reply) where
   abbrev p : OpenEntry
   p = answered_with r o
 
@@ -87,12 +87,12 @@ module _ (o : OpenEntry) (s : Seen) (addresses : List Address) (config : Option 
   quiet line.Drop off = absurd (cc)
   quiet line.Add off = absurd (cc)
 
-  pub answered_apart : (q : OpenEntry) → option_map (answered_with r) s.current ≡ Some q → IsApartCalm q (replied r (resolver_answered s))
+  pub answered_apart : (q : OpenEntry) → option_map (answered_with r) s.current ≡ Some q → IsApartQuiescent q (replied r (resolver_answered s))
   answered_apart q is l off =
-      moved_on (answered_with r) o (resolver_answered s) current l (quiet l off) (answered_still s l o (calm l)) q is
+      moved_on (answered_with r) o (resolver_answered s) current l (quiet l off) (answered_still s l o (quiescent l)) q is
 
-longer_apart : (config : Config) (q : OpenEntry) (u t : Seen) → IsLonger config u t → IsBook u → IsApartCalm q u → IsApartCalm q t
-longer_apart config q u t k book calm l off = subst (λ (v : Seen). IsStill l q v) (sym k.is) (longer_still u k.held k.more book l q off (calm l off))
+longer_apart : (config : Config) (q : OpenEntry) (u t : Seen) → IsLonger config u t → IsBook u → IsApartQuiescent q u → IsApartQuiescent q t
+longer_apart config q u t k book quiescent l off = subst (λ (v : Seen). IsStill l q v) (sym k.is) (longer_still u k.held k.more book l q off (quiescent l off))
 
 pub longer_current : (config : Config) (u t : Seen) → IsLonger config u t → t.current ≡ u.current
 longer_current config u t k = ap (λ (v : Seen). v.current) k.is
@@ -101,10 +101,10 @@ book_replied : (r : Reply) (s : Seen) → IsBook s → IsBook (replied r (resolv
 book_replied r s b = record { calls = b.calls; places = b.places; configs = b.configs; runs = b.runs; counted = b.counted }
 
 pub reads_stir_policies : ReadsStirPolicies
-reads_stir_policies (Ok config) o p s addresses text current brings book calm now =
+reads_stir_policies (Ok config) o p s addresses text current brings book quiescent now =
     let u : Seen = replied reply.Done (resolver_answered s) in
     let k : IsLonger config u (with_held config config.throttle u) = held_by config config.throttle u in
     longer_apart config p u (with_held config config.throttle u) k (book_replied reply.Done s book)
-    (answered_apart o s addresses text current brings calm reply.Done p (sym (longer_current config u (with_held config config.throttle u) k) ∙ now))
-reads_stir_policies (Err fault) o p s addresses text current brings book calm now =
-    answered_apart o s addresses text current brings calm (reply.BadConfig fault) p now
+    (answered_apart o s addresses text current brings quiescent reply.Done p (sym (longer_current config u (with_held config config.throttle u) k) ∙ now))
+reads_stir_policies (Err fault) o p s addresses text current brings book quiescent now =
+    answered_apart o s addresses text current brings quiescent (reply.BadConfig fault) p now

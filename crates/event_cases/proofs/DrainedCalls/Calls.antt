@@ -2,7 +2,7 @@
 use Rattle.std.proofs.Common.{◌≡◌, ◌∷◌, ◌==◌, ap, refl, subst, sym, ◌∙◌, List, [], Option, None, Some, ℕ, if◌then◌else◌, inl, inr, is_some, length, map}
 use Rattle.std.proofs.lemmas.Bool.{cases_Bool, eqb-false, eqb-true}
 use Rattle.std.specs.Option.{option_map}
-use Rattle.call_actions.specs.Order.{AreNumbered}
+use Rattle.call_actions.specs.Order.{AttemptsAreNumbered}
 use Rattle.call_core.specs.Parts.{fed_buffer}
 use Rattle.call_core.specs.Steps.{lent}
 use Rattle.channel_actions.specs.Agrees.{Agrees}
@@ -100,7 +100,7 @@ module _ (x y : StateSeen) (s : Seen) (link room : ℕ) (r : Reply) (h : Agrees 
   is : v ≡ record s { attempts = v.attempts; links = changed (with_all_sent run.run.sent) run.before.number s.links; current = Some run.run.entry }
   is = run.run.is
 
-  places : AreNumbered 1 s.attempts
+  places : AttemptsAreNumbered 1 s.attempts
   places = h.kept.book.places
 
   links_v : v.links ≡ changed (with_all_sent run.run.sent) run.before.number s.links

@@ -10,7 +10,7 @@ use Rattle.h2_link.specs.Wire.{Wire}
 use Rattle.h2_link.specs.declared.control.Control.{Control}
 use Rattle.h2_link.specs.declared.live.LiveStream.{LiveStream}
 use Rattle.link_actions.proofs.Opened.{put_all}
-use Rattle.link_actions.specs.Sees.{AreLive, Sees, WaitAlike, by_stream}
+use Rattle.link_actions.specs.Sees.{StreamsAreLive, Sees, WaitAlike, by_stream}
 use Rattle.session_actions.specs.Reading.{is_outstanding_on, outstanding_on}
 use Rattle.session_actions.specs.Words.{numbered}
 use Rattle.session_actions.specs.Writing.{streaming_on, waiting_on}
@@ -102,35 +102,35 @@ module _ (tag : ℕ) where
 
 -- an attempt that does not go on on a link has no tag there
 module _ (l : Link) (s : Seen) (kept : IsKept s) (row : ℕ) (a : Attempt) (got : numbered s.attempts row ≡ Some a) (off : goes_on_at l.number a ≡ false) where
-  abbrev Goes : Attempt → Type 0
-  Goes b = (numbered s.attempts b.place ≡ Some b) × (is_outstanding_on l b ≡ true)
+  abbrev Continues : Attempt → Type 0
+  Continues b = (numbered s.attempts b.place ≡ Some b) × (is_outstanding_on l b ≡ true)
 
-  going : Each Goes (outstanding_on l s)
+  going : Each Continues (outstanding_on l s)
   going =
       each_filter (λ (b : Attempt). numbered s.attempts b.place ≡ Some b) (is_outstanding_on l) s.attempts
       (each_from (λ (b : Attempt). numbered s.attempts b.place ≡ Some b) s.attempts (λ i q at. own_number (λ (z : Attempt). z.place) s.attempts i q kept.attempts at))
 
-  not_at : (b : Attempt) → Goes b → (c : Bool) → (row == b.place) ≡ c → c ≡ false
+  not_at : (b : Attempt) → Continues b → (c : Bool) → (row == b.place) ≡ c → c ≡ false
   not_at b goes false e = refl
   not_at b goes true e =
       let same : a ≡ b = one_of (numbered s.attempts b.place) a b (sym (ap (numbered s.attempts) (eqb-true row b.place e)) ∙ got) goes.0 in
       absurd (let no : false ≡ true = sym off ∙ (ap (goes_on_at l.number) same ∙ goes.1) in (cc))
 
-  off_of : (b : Attempt) → Goes b → (row == b.place) ≡ false
+  off_of : (b : Attempt) → Continues b → (row == b.place) ≡ false
   off_of b goes = not_at b goes (row == b.place) refl
 
-  wait_off : (bs : List Attempt) → Each (λ b. Goes b × (is_none b.row.stream ≡ true)) bs → AllByRecursion (λ (t : ℕ). (row == t) ≡ false) (map (λ (b : Attempt). b.place) bs)
+  wait_off : (bs : List Attempt) → Each (λ b. Continues b × (is_none b.row.stream ≡ true)) bs → AllByRecursion (λ (t : ℕ). (row == t) ≡ false) (map (λ (b : Attempt). b.place) bs)
   wait_off [] e = tt
   wait_off (b ∷ bs) e = (off_of b e.0.0, wait_off bs e.1)
 
   abbrev IsOtherRow : Attempt → Type 0
   IsOtherRow b = (row == b.place) ≡ false
 
-  stream_off : (bs : List Attempt) → Each (λ b. Goes b × (is_some b.row.stream ≡ true)) bs → AllByRecursion IsOtherRow (by_stream bs)
+  stream_off : (bs : List Attempt) → Each (λ b. Continues b × (is_some b.row.stream ≡ true)) bs → AllByRecursion IsOtherRow (by_stream bs)
   stream_off [] e = tt
   stream_off (b ∷ bs) e = put_all IsOtherRow b (by_stream bs) (off_of b e.0.0) (stream_off bs e.1)
 
-  live_off : (xs : List LiveStream) (bs : List Attempt) → AreLive l xs bs → AllByRecursion IsOtherRow bs → AllByRecursion (λ (x : LiveStream). (row == x.tag) ≡ false) xs
+  live_off : (xs : List LiveStream) (bs : List Attempt) → StreamsAreLive l xs bs → AllByRecursion IsOtherRow bs → AllByRecursion (λ (x : LiveStream). (row == x.tag) ≡ false) xs
   live_off [] bs live e = tt
   live_off (x ∷ xs) (b ∷ bs) live e = (ap (λ (t : ℕ). row == t) live.0.tag ∙ e.0, live_off xs bs live.1 e.1)
   live_off (x ∷ xs) [] live e = absurd live
@@ -138,9 +138,9 @@ module _ (l : Link) (s : Seen) (kept : IsKept s) (row : ℕ) (a : Attempt) (got 
   is_off : (w : Wire) → Sees l s w → WaitAlike l s w → IsOff row w
   is_off w sees waits = record {
     live = live_off w.live (by_stream (streaming_on l s)) sees.live
-        (stream_off (streaming_on l s) (each_filter Goes (λ (b : Attempt). is_some b.row.stream) (outstanding_on l s) going));
+        (stream_off (streaming_on l s) (each_filter Continues (λ (b : Attempt). is_some b.row.stream) (outstanding_on l s) going));
     waiting = subst (AllByRecursion (λ (t : ℕ). (row == t) ≡ false)) (sym waits)
-        (wait_off (waiting_on l s) (each_filter Goes (λ (b : Attempt). is_none b.row.stream) (outstanding_on l s) going));
+        (wait_off (waiting_on l s) (each_filter Continues (λ (b : Attempt). is_none b.row.stream) (outstanding_on l s) going));
   }
 
 pub drains_leave_lines : DrainsLeaveLines

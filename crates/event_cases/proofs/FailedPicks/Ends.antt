@@ -6,7 +6,7 @@ use Rattle.call_actions.specs.Laws.{IsEnding}
 use Rattle.call_cases.proofs.EndsFollow.Codes.{ended_code}
 use Rattle.call_cases.proofs.EndsFollow.Steps.{placed_of}
 use Rattle.channel_actions.proofs.Gone.{all_numbered}
-use Rattle.channel_actions.proofs.Links.Greeted.Along.{greeted_begins}
+use Rattle.channel_actions.proofs.Links.Prefaced.Along.{prefaced_begins}
 use Rattle.channel_actions.proofs.KeptSessions.Along.{kept_begins, kept_stays}
 use Rattle.channel_actions.proofs.Lines.{all_at_places}
 use Rattle.channel_actions.proofs.Links.Frames.Readers.{readers_still}
@@ -15,14 +15,14 @@ use Rattle.channel_actions.proofs.Links.Frames.Untold.{actions_are_untold}
 use Rattle.channel_actions.proofs.Streams.Own.Along.{streams_along, streams_begin}
 use Rattle.channel_actions.proofs.Stamps.{counted_at}
 use Rattle.channel_actions.specs.Agrees.{Agrees}
-use Rattle.call_cases.specs.EndsFollow.Cuts.{AreUnreset}
+use Rattle.call_cases.specs.EndsFollow.Cuts.{NoStreamIsToReset}
 use Rattle.channel_actions.specs.FewCalls.Reached.{IsReached}
 use Rattle.channel_actions.specs.GoingCalls.Going.{CallsGoOn}
 use Rattle.channel_actions.specs.KeptSessions.Kept.{IsKept}
-use Rattle.channel_actions.specs.LinkFrames.Alike.{CannotTell}
+use Rattle.channel_actions.specs.LinkFrames.Alike.{CannotDistinguish}
 use Rattle.channel_actions.specs.LinkFrames.Bears.{bears_on, is_placed_on}
 use Rattle.channel_actions.specs.Links.{HasLink, IsGoing, lines_in}
-use Rattle.channel_actions.specs.OwnStreams.Own.{AreOwnStreams}
+use Rattle.channel_actions.specs.OwnStreams.Own.{StreamsAreOwn}
 use Rattle.end_cases.proofs.AttemptEnds.Rising.{runs_of_sessions}
 use Rattle.event_cases.proofs.LostLinks.Ends.{none_waits}
 use Rattle.end_cases.specs.AttemptEnds.Ahead.{AgreesOffLinks, HasLinkAhead, IsAhead, LinksAhead, is_owed_on, owed_reset, resets_owed}
@@ -33,7 +33,7 @@ use Rattle.link_actions.proofs.Ended.{is_ended}
 use Rattle.link_actions.proofs.ResetActions.Cuts.{none_is_ahead}
 use Rattle.link_actions.proofs.Without as lists
 use Rattle.link_actions.specs.ResetActions.Ahead.{SeesAhead}
-use Rattle.link_actions.specs.Sees.{ArePlaced, by_stream}
+use Rattle.link_actions.specs.Sees.{AttemptsStandInPlace, by_stream}
 use Rattle.session_actions.specs.Actions.{after, after_if, following}
 use Rattle.session_actions.specs.AttemptEnds.{attempt_ended, code_for_stream, code_to_reset, end_of, pick_end, reset_code_of, with_end}
 use Rattle.session_actions.specs.Attempts.{call_of, is_of, is_outstanding, is_over, is_queued}
@@ -48,7 +48,7 @@ use Rattle.session_actions.specs.declared.entry.OpenEntry.{OpenEntry}
 use Rattle.session_actions.specs.declared.link.Link.{Link}
 use Rattle.session_actions.specs.declared.seen.Seen.{Seen}
 use Rattle.session_order.proofs.Changed.{passes_not}
-use Rattle.session_order.specs.Calm.{IsStill, is_to_reset}
+use Rattle.session_order.specs.Quiescent.{IsStill, is_to_reset}
 use Rattle.session_order.specs.Lines.{is_line}
 use Rattle.session_order.specs.declared.line.Line.TheVariants as line
 use Rattle.session_order.specs.declared.line.Line.{Line}
@@ -108,7 +108,7 @@ code_by b m s (Some n) e = no_code ((m.entry == entry s) && not b.reset) (code_t
 -- an attempt that waits for a pick, at a point at which its end is all that follows
 module _ (a : Attempt) (y : StateSeen) (o : OpenEntry) (s : Seen) (h : Agrees y s) (current : s.current ≡ Some o) (there : numbered s.attempts a.place ≡ Some a)
     (queued : is_queued a s ≡ true) (next : following s ≡ Some (action.AttemptEnds a.place (end_of a pick_end s)))
-    (calm : (l : Line) → is_line l line.Pick ≡ false → IsStill l o s) (reached : IsReached s) (unreset : AreUnreset s) (going : CallsGoOn y) where
+    (quiescent : (l : Line) → is_line l line.Pick ≡ false → IsStill l o s) (reached : IsReached s) (unreset : NoStreamIsToReset s) (going : CallsGoOn y) where
   abbrev e : RowEnd
   e = end_of a pick_end s
 
@@ -121,7 +121,7 @@ module _ (a : Attempt) (y : StateSeen) (o : OpenEntry) (s : Seen) (h : Agrees y 
   pub unplaced : a.row.placed ≡ None
   unplaced = unplaced_by a.row.placed (is_none a.row.ended) (not (is_over a s)) queued
 
-  places : ArePlaced 1 s.attempts
+  places : AttemptsStandInPlace 1 s.attempts
   places = placed_of 1 s.attempts kept.book.places
 
   pub its_call : (c : Call) × (numbered s.calls a.row.call ≡ Some c)
@@ -163,11 +163,11 @@ module _ (a : Attempt) (y : StateSeen) (o : OpenEntry) (s : Seen) (h : Agrees y 
         orderly = h.orderly;
         sets = record {
           queue = h.sets.queue;
-          patient = h.sets.patient;
+          ready_waiters = h.sets.ready_waiters;
           dues = h.sets.dues;
           deadlines = h.sets.deadlines;
-          bare = h.sets.bare;
-          impatient = h.sets.impatient;
+          awaiting_config = h.sets.awaiting_config;
+          fail_fast = h.sets.fail_fast;
           outstanding = h.sets.outstanding;
         };
         kept = h.kept;
@@ -200,7 +200,7 @@ module _ (a : Attempt) (y : StateSeen) (o : OpenEntry) (s : Seen) (h : Agrees y 
       ap (list_any (is_to_reset t)) attempts_are
       ∙ none_all s.attempts (λ i b at.
       let place_b : b.place ≡ suc i = lists.place_is (suc i) s.attempts b places at in
-      (ap (numbered s.attempts) place_b ∙ at, passes_not (is_to_reset s) s.attempts (suc i) b (calm line.Reset refl) at))
+      (ap (numbered s.attempts) place_b ∙ at, passes_not (is_to_reset s) s.attempts (suc i) b (quiescent line.Reset refl) at))
 
   none_owed : (m : Link) → resets_owed m t ≡ []
   none_owed m =
@@ -208,10 +208,10 @@ module _ (a : Attempt) (y : StateSeen) (o : OpenEntry) (s : Seen) (h : Agrees y 
       (filter_none (is_owed_on m t) (is_to_reset t) (λ b f. ap (λ (z : Bool). z && (link_number b == m.number)) f) t.attempts unowed)
 
   -- and each link is as it was
-  untold : CannotTell (bears_on (action.AttemptEnds a.place e) s) s t
-  untold = subst (CannotTell (bears_on (action.AttemptEnds a.place e) s) s) after_is (actions_are_untold (action.AttemptEnds a.place e) s kept tt)
+  untold : CannotDistinguish (bears_on (action.AttemptEnds a.place e) s) s t
+  untold = subst (CannotDistinguish (bears_on (action.AttemptEnds a.place e) s) s) after_is (actions_are_untold (action.AttemptEnds a.place e) s kept tt)
 
-  placed_t : ArePlaced 1 t.attempts
+  placed_t : AttemptsStandInPlace 1 t.attempts
   placed_t = placed_of 1 t.attempts kept_t.book.places
 
   apart_from : (m : Link) → bears_on (action.AttemptEnds a.place e) s m.number ≡ false
@@ -252,9 +252,9 @@ module _ (a : Attempt) (y : StateSeen) (o : OpenEntry) (s : Seen) (h : Agrees y 
     closing = λ n m at off. none_owed m;
   }
 
-  streams : AreOwnStreams s
+  streams : StreamsAreOwn s
   streams =
-      streams_along reached.actions (new_session reached.setup) s (kept_begins reached.setup) (greeted_begins reached.setup) (streams_begin reached.setup) reached.does
+      streams_along reached.actions (new_session reached.setup) s (kept_begins reached.setup) (prefaced_begins reached.setup) (streams_begin reached.setup) reached.does
 
   pub end_next : EndNext [] none_waits [] a pick_end y o s
   end_next = record {
@@ -264,7 +264,7 @@ module _ (a : Attempt) (y : StateSeen) (o : OpenEntry) (s : Seen) (h : Agrees y 
     there = its_call.1;
     ending = ending;
     next = next;
-    still = λ l off waits. calm l (not_pick l off);
+    still = λ l off waits. quiescent l (not_pick l off);
     books = books;
     links = links;
     among = refl;

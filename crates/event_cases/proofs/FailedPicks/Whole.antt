@@ -12,7 +12,7 @@ use Rattle.call_core.specs.Steps.{pick_failed as pick_fails}
 use Rattle.call_core.specs.declared.act.CallAct.TheVariants as act
 use Rattle.call_core.specs.declared.act.CallAct.{CallAct}
 use Rattle.channel_actions.proofs.ActsFollowed.Acts.{acts_form, parts_of}
-use Rattle.channel_actions.proofs.BoardActions.Calm.{of_order}
+use Rattle.channel_actions.proofs.BoardActions.Quiescent.{of_order}
 use Rattle.channel_actions.proofs.Does.{does_on, none_on}
 use Rattle.channel_actions.proofs.Calls.Few.Reached.{reached_on}
 use Rattle.channel_actions.proofs.Gone.{all_numbered}
@@ -21,12 +21,12 @@ use Rattle.channel_actions.proofs.Links.Settings.Pairs.{self_same}
 use Rattle.channel_actions.proofs.Settles.{is_with_open, with_open}
 use Rattle.channel_actions.proofs.Calls.Sound.Keeping.{goes_on}
 use Rattle.channel_actions.specs.Agrees.{Agrees}
-use Rattle.channel_actions.specs.Calm.{IsAt}
+use Rattle.channel_actions.specs.Quiescent.{IsAt}
 use Rattle.channel_actions.specs.FewCalls.Reached.{IsReached}
 use Rattle.channel_actions.specs.GoingCalls.Going.{CallsGoOn}
 use Rattle.channel_actions.specs.KeptCalls.Early.{IsEarlyKept, is_past}
 use Rattle.channel_actions.specs.Points.{IsSameEntry}
-use Rattle.channel_actions.specs.Sets.{AreExactly, is_in_bare}
+use Rattle.channel_actions.specs.Sets.{PairsAreExactly, is_awaiting_config}
 use Rattle.call_cases.proofs.ConfigActions.NetLines.{clock_stays, over_stays, wish_stays}
 use Rattle.call_cases.proofs.ConfiguredCalls.Lists.{same_words}
 use Rattle.end_cases.proofs.CutEnds.Whole.{one_attempt_ends}
@@ -45,7 +45,7 @@ use Rattle.call_cases.specs.SettlingActions.Sound.{IsSound}
 use Rattle.channel_core.specs.Books.{BookActs, book_acted, call_of as call_of_row, has_drawn, link_of as link_in, row_at}
 use Rattle.channel_core.specs.Settling.{moves, picked}
 use Rattle.channel_core.specs.States.{StateSeen}
-use Rattle.channel_core.specs.Steps.{act_done, acts_done, drawn_if, is_gone, next_word, pick_failed, reset_on, sealed, told, told_acts, told_to, unqueued, with_ledger_links}
+use Rattle.channel_core.specs.Steps.{act_done, acts_done, drawn_if, is_gone, next_word, pick_failed, reset_on, sealed, reported, reported_acts, reported_to, unqueued, with_ledger_links}
 use Rattle.channel_core.specs.Tables as tables
 use Rattle.grpc_base.specs.declared.event.EndCause.TheVariants as ending_cause
 use Rattle.grpc_base.specs.declared.kind.Pick.TheVariants as pick
@@ -78,8 +78,8 @@ use Rattle.session_actions.specs.declared.entry.OpenEntry.{OpenEntry}
 use Rattle.session_actions.specs.declared.entry.Stage.TheVariants as stage
 use Rattle.session_actions.specs.declared.policy.PolicyUse.{PolicyUse}
 use Rattle.session_actions.specs.declared.seen.Seen.{Seen}
-use Rattle.session_order.proofs.Calms.{calm_is_exact, first_line_gives}
-use Rattle.session_order.specs.Calm.{IsStill}
+use Rattle.session_order.proofs.Quiescence.{quiescence_is_exact, first_line_gives}
+use Rattle.session_order.specs.Quiescent.{IsStill}
 use Rattle.session_order.specs.Lines.{is_line}
 use Rattle.session_order.specs.declared.line.Line.TheVariants as line
 use Rattle.session_order.specs.declared.line.Line.{Line}
@@ -122,39 +122,39 @@ some_last [] (suc i) e = absurd (cc)
 some_last (x ∷ xs) i e = last_some x xs
 
 -- no pair is in the set, where the test passes none
-none_in : (pairs : List (ℕ × ℕ)) (test : ℕ → ℕ → Bool) → AreExactly pairs test → ((i j : ℕ) → test i j ≡ false) → pairs ≡ []
+none_in : (pairs : List (ℕ × ℕ)) (test : ℕ → ℕ → Bool) → PairsAreExactly pairs test → ((i j : ℕ) → test i j ≡ false) → pairs ≡ []
 none_in [] test h none = refl
 none_in (p ∷ pairs) test h none =
     let here : has (p ∷ pairs) p ≡ true = ap (λ (b : Bool). b || has pairs p) (self_same p) in
     absurd (both_ways (has (p ∷ pairs) p) (h.exact p.0 p.1 ∙ none p.0 p.1) here)
 
 -- what acts leave
-bare_if : (b : Bool) (ls : List LinkSeen) (z : StateSeen) → (if b then with_ledger_links ls z else z).bare ≡ z.bare
-bare_if true ls z = refl
-bare_if false ls z = refl
+unconfigured_if : (b : Bool) (ls : List LinkSeen) (z : StateSeen) → (if b then with_ledger_links ls z else z).awaiting_config ≡ z.awaiting_config
+unconfigured_if true ls z = refl
+unconfigured_if false ls z = refl
 
-bare_one : (n : ℕ) (a : CallAct) (z : StateSeen) → z.bare ≡ [] → (act_done n a z).bare ≡ []
-bare_one n (act.Cut row) z e =
+unconfigured_one : (n : ℕ) (a : CallAct) (z : StateSeen) → z.awaiting_config ≡ [] → (act_done n a z).awaiting_config ≡ []
+unconfigured_one n (act.Cut row) z e =
     let i : ℕ = link_in (row_at z.book row) in
     let z1 : StateSeen = record (reset_on i row z) { outstanding = remove_key (is_same (i, row)) z.outstanding } in
-    bare_if (is_gone i z1) (changed_at (gone_link z1.book.ledger.entry) z1.book.ledger.links i) z1 ∙ e
-bare_one n (act.Drop row) z e = e
-bare_one n (act.Queue row) z e = e
-bare_one n (act.End why) z e = ap (remove_key (is_same (0, n))) e
+    unconfigured_if (is_gone i z1) (changed_at (gone_link z1.book.ledger.entry) z1.book.ledger.links i) z1 ∙ e
+unconfigured_one n (act.Drop row) z e = e
+unconfigured_one n (act.Queue row) z e = e
+unconfigured_one n (act.End why) z e = ap (remove_key (is_same (0, n))) e
 
-bare_all : (n : ℕ) (acts : List CallAct) (z : StateSeen) → z.bare ≡ [] → (acts_done n acts z).bare ≡ []
-bare_all n [] z e = e
-bare_all n (a ∷ acts) z e = bare_all n acts (act_done n a z) (bare_one n a z e)
+unconfigured_all : (n : ℕ) (acts : List CallAct) (z : StateSeen) → z.awaiting_config ≡ [] → (acts_done n acts z).awaiting_config ≡ []
+unconfigured_all n [] z e = e
+unconfigured_all n (a ∷ acts) z e = unconfigured_all n acts (act_done n a z) (unconfigured_one n a z e)
 
 -- an attempt that waits, at a point at which its end is all that follows: the channel and the session after it
 module _ (a : Attempt) (y : StateSeen) (o : OpenEntry) (s : Seen) (h : Agrees y s) (current : s.current ≡ Some o) (there : numbered s.attempts a.place ≡ Some a)
     (queued : is_queued a s ≡ true) (next : following s ≡ Some (action.AttemptEnds a.place (end_of a pick_end s)))
-    (calm : (l : Line) → is_line l line.Pick ≡ false → IsStill l o s) (reached : IsReached s) (early : IsEarlyKept s) (going : CallsGoOn y) where
+    (quiescent : (l : Line) → is_line l line.Pick ≡ false → IsStill l o s) (reached : IsReached s) (early : IsEarlyKept s) (going : CallsGoOn y) where
   abbrev Ended : Type 0
   Ended = HasEnded [] none_waits [] a pick_end y o s
 
   pub he : Ended
-  he = one_attempt_ends [] none_waits [] a pick_end y o s (end_next a y o s h current there queued next calm reached early.resets going) tt
+  he = one_attempt_ends [] none_waits [] a pick_end y o s (end_next a y o s h current there queued next quiescent reached early.resets going) tt
 
   abbrev y1 : StateSeen
   y1 = ended_in a (news_of a pick_end s) y
@@ -172,7 +172,7 @@ module _ (a : Attempt) (y : StateSeen) (o : OpenEntry) (s : Seen) (h : Agrees y 
   still_then line.Response off w = he.still line.Response refl
   still_then line.Pick off w = he.still line.Pick refl
   still_then line.Link off w = he.still line.Link refl
-  still_then line.WireEnd off w = he.wire (calm line.WireEnd refl)
+  still_then line.WireEnd off w = he.wire (quiescent line.WireEnd refl)
   still_then line.Reset off w = absurd (cc)
   still_then line.Shut off w = he.late line.Shut refl refl
   still_then line.Retire off w = he.late line.Retire refl refl
@@ -231,7 +231,7 @@ module _ (a : Attempt) (y : StateSeen) (o : OpenEntry) (s : Seen) (h : Agrees y 
       ∙ numbered_map (λ (q : Attempt). q.row) s.attempts a.place ∙ ap (option_map (λ (q : Attempt). q.row)) there
 
   none_placed : a.row.placed ≡ None
-  none_placed = unplaced a y o s h current there queued next calm reached early.resets going
+  none_placed = unplaced a y o s h current there queued next quiescent reached early.resets going
 
   news_is : news_of a pick_end s ≡ channel_end
   news_is =
@@ -243,14 +243,14 @@ module _ (a : Attempt) (y : StateSeen) (o : OpenEntry) (s : Seen) (h : Agrees y 
   abbrev booked : BookActs
   booked = book_acted (pick_fails a.place y.book.moment (next_word y)) a.row.call y.book
 
-  abbrev told_one : StateSeen
-  told_one = told_acts booked a.row.call a.place z
+  abbrev reported_one : StateSeen
+  reported_one = reported_acts booked a.row.call a.place z
 
-  y1_is : y1 ≡ told_one
+  y1_is : y1 ≡ reported_one
   y1_is =
-      ap (λ (q : Option Placed). gone_with q (told a.place (news.Ended a.place (news_of a pick_end s)) (taken_off a.row.call a.place q y))) none_placed
-      ∙ ap (λ (q : Option Row). told_to (call_of_row q) a.place (news.Ended a.place (news_of a pick_end s)) z) row_is
-      ∙ ap (λ (n : EndNews). told_to a.row.call a.place (news.Ended a.place n) z) news_is
+      ap (λ (q : Option Placed). gone_with q (reported a.place (news.Ended a.place (news_of a pick_end s)) (taken_off a.row.call a.place q y))) none_placed
+      ∙ ap (λ (q : Option Row). reported_to (call_of_row q) a.place (news.Ended a.place (news_of a pick_end s)) z) row_is
+      ∙ ap (λ (n : EndNews). reported_to a.row.call a.place (news.Ended a.place n) z) news_is
 
   pub channel_is : all_sealed [] y1 ≡ pick_failed a.row.call a.place y
   channel_is = ap sealed y1_is
@@ -268,8 +268,8 @@ module _ (a : Attempt) (y : StateSeen) (o : OpenEntry) (s : Seen) (h : Agrees y 
   form : acted ≡ parts_of acted begun
   form = acts_form a.row.call booked.acts begun
 
-  failed_is : pick_failed a.row.call a.place y ≡ record told_one { links = seal_all told_one.resets told_one.links; resets = [] }
-  failed_is = all_sealed_is [] told_one
+  failed_is : pick_failed a.row.call a.place y ≡ record reported_one { links = seal_all reported_one.resets reported_one.links; resets = [] }
+  failed_is = all_sealed_is [] reported_one
 
   net_same : (pick_failed a.row.call a.place y).net ≡ y.net
   net_same = ap (λ (x : StateSeen). x.net) failed_is ∙ ap (λ (x : StateSeen). x.net) form
@@ -296,10 +296,10 @@ module _ (a : Attempt) (y : StateSeen) (o : OpenEntry) (s : Seen) (h : Agrees y 
 
   -- the call has a config: so one is held, and no open call is without one
   abbrev k : Call
-  k = c a y o s h current there queued next calm reached early.resets going
+  k = c a y o s h current there queued next quiescent reached early.resets going
 
   k_there : numbered s.calls a.row.call ≡ Some k
-  k_there = c_there a y o s h current there queued next calm reached early.resets going
+  k_there = c_there a y o s h current there queued next quiescent reached early.resets going
 
   not_over : is_over a s ≡ false
   not_over = not_so (is_over a s) (and_parts (is_none a.row.placed && is_none a.row.ended) (not (is_over a s)) queued).1
@@ -332,29 +332,29 @@ module _ (a : Attempt) (y : StateSeen) (o : OpenEntry) (s : Seen) (h : Agrees y 
       ∙ some_map (last_of s.configs) ∙ is_held
 
   module _ (configs : first_of (config_action s) s.calls ≡ None) where
-    bare_by : (i j : ℕ) (q : Option Call) → numbered s.calls j ≡ q → ((i == 0) && holds (λ (g : Call). is_open_call g && is_none g.config) q) ≡ false
-    bare_by i j None e = and_right (i == 0) false refl
-    bare_by i j (Some d) e =
+    unconfigured_by : (i j : ℕ) (q : Option Call) → numbered s.calls j ≡ q → ((i == 0) && holds (λ (g : Call). is_open_call g && is_none g.config) q) ≡ false
+    unconfigured_by i j None e = and_right (i == 0) false refl
+    unconfigured_by i j (Some d) e =
         and_right (i == 0) (is_open_call d && is_none d.config)
         (both_off (is_none d.end) (is_none d.config) (is_some (held_config s)) is_held
         (none_first (is_to_configure s d) (lacks_config s d) (action.CallConfigured d.number (length s.configs)) (action.CallEnds d.number ending_cause.NoConfig)
         (none_given (config_action s) s.calls j d configs e)))
 
-    none_bare : y.bare ≡ []
-    none_bare = none_in y.bare (is_in_bare s) h.sets.bare (λ i j. bare_by i j (numbered s.calls j) refl)
+    none_unconfigured : y.awaiting_config ≡ []
+    none_unconfigured = none_in y.awaiting_config (is_awaiting_config s) h.sets.awaiting_config (λ i j. unconfigured_by i j (numbered s.calls j) refl)
 
-    still_bare : (pick_failed a.row.call a.place y).bare ≡ []
-    still_bare = ap (λ (x : StateSeen). x.bare) failed_is ∙ bare_all a.row.call booked.acts begun none_bare
+    still_unconfigured : (pick_failed a.row.call a.place y).awaiting_config ≡ []
+    still_unconfigured = ap (λ (x : StateSeen). x.awaiting_config) failed_is ∙ unconfigured_all a.row.call booked.acts begun none_unconfigured
 
-    not_bare : (m : ℕ) (d : Call) → numbered u.calls m ≡ Some d → (is_none d.end && is_none d.config) ≡ false
-    not_bare m d e =
-        sym (ap (holds (λ (g : Call). is_open_call g && is_none g.config)) e) ∙ sym (agrees.sets.bare.exact 0 m)
-        ∙ ap (λ (pairs : List (ℕ × ℕ)). has pairs (0, m)) still_bare
+    not_unconfigured : (m : ℕ) (d : Call) → numbered u.calls m ≡ Some d → (is_none d.end && is_none d.config) ≡ false
+    not_unconfigured m d e =
+        sym (ap (holds (λ (g : Call). is_open_call g && is_none g.config)) e) ∙ sym (agrees.sets.awaiting_config.exact 0 m)
+        ∙ ap (λ (pairs : List (ℕ × ℕ)). has pairs (0, m)) still_unconfigured
 
     config_by : (m : ℕ) (d : Call) → numbered u.calls m ≡ Some d → config_action u d ≡ None
     config_by m d e =
         ap (λ (b : Bool). if b && is_some (held_config u) then Some (action.CallConfigured d.number (length u.configs))
-        else if lacks_config u d then Some (action.CallEnds d.number ending_cause.NoConfig) else None) (not_bare m d e)
+        else if lacks_config u d then Some (action.CallEnds d.number ending_cause.NoConfig) else None) (not_unconfigured m d e)
         ∙ ap (λ (b : Bool). if (is_open_call d && (u.answered && not b)) && not (waits_for_ready d u) then Some (action.CallEnds d.number ending_cause.NoConfig) else None) held_then
         ∙ ap (λ (b : Bool). if b && not (waits_for_ready d u) then Some (action.CallEnds d.number ending_cause.NoConfig) else None)
         (and_right (is_open_call d) (u.answered && false) (and_right u.answered false refl))
@@ -387,7 +387,7 @@ module _ (p : ℕ × ℕ) (x : StateSeen) (o : OpenEntry) (s0 : Seen) where
     reached = reached_on s t (action.PickRequested p.1 g.number (answer_for g s) ∷ []) sound.reached (k.next, refl)
 
     early : IsEarlyKept t
-    early = record { resets = sound.early.resets; saw = sound.early.saw; made = sound.early.made; bare = sound.early.bare; boards = sound.early.boards }
+    early = record { resets = sound.early.resets; saw = sound.early.saw; made = sound.early.made; awaiting_config = sound.early.awaiting_config; boards = sound.early.boards }
 
     going : CallsGoOn y
     going = let on : CallsGoOn x = goes_on x sound.calls in record { calls = on.calls; allows = on.allows }
@@ -401,20 +401,20 @@ module _ (p : ℕ × ℕ) (x : StateSeen) (o : OpenEntry) (s0 : Seen) where
         ∙ ap (λ (n : ℕ). Some (action.AttemptEnds n (end_of a pick_end t))) (sym k.place)
 
     abbrev u1 : Seen
-    u1 = u a y q t h after.current there k.queued next after.calm reached early going
+    u1 = u a y q t h after.current there k.queued next after.quiescent reached early going
 
     abbrev p1 : OpenEntry
-    p1 = entry_after a y q t h after.current there k.queued next after.calm reached early going
+    p1 = entry_after a y q t h after.current there k.queued next after.quiescent reached early going
 
     at_now : IsAt stage.Settling p1 u1
     at_now = record {
-      current = now_open a y q t h after.current there k.queued next after.calm reached early going;
-      stage_is = stage_after a y q t h after.current there k.queued next after.calm reached early going ∙ after.stage_is;
-      calm = of_order calm_is_exact p1 u1 (still a y q t h after.current there k.queued next after.calm reached early going);
+      current = now_open a y q t h after.current there k.queued next after.quiescent reached early going;
+      stage_is = stage_after a y q t h after.current there k.queued next after.quiescent reached early going ∙ after.stage_is;
+      quiescent = of_order quiescence_is_exact p1 u1 (still a y q t h after.current there k.queued next after.quiescent reached early going);
     }
 
     turn_is : p1.turn ≡ Some (turn_of p)
-    turn_is = turn a y q t h after.current there k.queued next after.calm reached early going ∙ after.turn
+    turn_is = turn a y q t h after.current there k.queued next after.quiescent reached early going ∙ after.turn
 
     failed_here : pick_failed a.row.call a.place y ≡ pick_failed p.0 p.1 y
     failed_here = ap (λ (n : ℕ). pick_failed n a.place y) k.call ∙ ap (λ (n : ℕ). pick_failed p.0 n y) k.place
@@ -423,21 +423,21 @@ module _ (p : ℕ × ℕ) (x : StateSeen) (o : OpenEntry) (s0 : Seen) where
     followed = record {
       leads = record {
         reaches = record {
-          actions = those a y q t h after.current there k.queued next after.calm reached early going;
+          actions = those a y q t h after.current there k.queued next after.quiescent reached early going;
           seen = u1;
           entry = p1;
-          does = does a y q t h after.current there k.queued next after.calm reached early going;
-          posts = posts a y q t h after.current there k.queued next after.calm reached early going;
-          same = same a y q t h after.current there k.queued next after.calm reached early going;
+          does = does a y q t h after.current there k.queued next after.quiescent reached early going;
+          posts = posts a y q t h after.current there k.queued next after.quiescent reached early going;
+          same = same a y q t h after.current there k.queued next after.quiescent reached early going;
           at = at_now;
-          agrees = subst (λ (z : StateSeen). Agrees z u1) failed_here (agrees a y q t h after.current there k.queued next after.calm reached early going);
+          agrees = subst (λ (z : StateSeen). Agrees z u1) failed_here (agrees a y q t h after.current there k.queued next after.quiescent reached early going);
         };
-        reply = reply a y q t h after.current there k.queued next after.calm reached early going;
+        reply = reply a y q t h after.current there k.queued next after.quiescent reached early going;
         point = record {
-          clock = clocked a y q t h after.current there k.queued next after.calm reached early going after.clock;
-          take_over = taken_over a y q t h after.current there k.queued next after.calm reached early going after.take_over;
-          connected = connected a y q t h after.current there k.queued next after.calm reached early going after.connected;
-          configs = configured a y q t h after.current there k.queued next after.calm reached early going after.configs;
+          clock = clocked a y q t h after.current there k.queued next after.quiescent reached early going after.clock;
+          take_over = taken_over a y q t h after.current there k.queued next after.quiescent reached early going after.take_over;
+          connected = connected a y q t h after.current there k.queued next after.quiescent reached early going after.connected;
+          configs = configured a y q t h after.current there k.queued next after.quiescent reached early going after.configs;
           begun = inr turn_is;
         };
       };

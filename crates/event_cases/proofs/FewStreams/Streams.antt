@@ -57,10 +57,10 @@ data_less w g z e =
 
 one_less : (waiting : List ℕ) (tag n : ℕ) → slice_get waiting 0 ≡ Some tag → n + 1 + length (drop 1 waiting) ≤ n + length waiting
 one_less [] tag n e = absurd (let no : None ≡ Some tag = e in (cc))
-one_less (t ∷ waiting) tag n e = front_on n (length waiting)
+one_less (t ∷ waiting) tag n e = prefix_on n (length waiting)
   where
-    front_on : (n m : ℕ) → n + 1 + m ≤ n + suc m
-    front_on n m = omega arith
+    prefix_on : (n m : ℕ) → n + 1 + m ≤ n + suc m
+    prefix_on n m = omega arith
 
 first_of : (b : Bool) (o : Option ℕ) (tag : ℕ) → (if b then o else None) ≡ Some tag → o ≡ Some tag
 first_of true o tag e = e

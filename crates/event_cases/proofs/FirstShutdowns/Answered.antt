@@ -16,13 +16,13 @@ use Rattle.call_cases.proofs.OtherCalls.Slots.{all_calls_stay}
 use Rattle.channel_actions.proofs.Settles.{IsQuiet}
 use Rattle.channel_actions.specs.Agrees.{Agrees}
 use Rattle.channel_actions.specs.BoardActions.Boards.{IsBoarded}
-use Rattle.channel_actions.specs.Calm.{IsAt}
+use Rattle.channel_actions.specs.Quiescent.{IsAt}
 use Rattle.channel_actions.specs.Cases.{answered_done}
 use Rattle.channel_actions.specs.Clock.{DrawsAlike}
 use Rattle.channel_actions.specs.KeptSessions.Kept.{IsKept}
 use Rattle.channel_actions.specs.Stages.{IsAnswered}
 use Rattle.channel_actions.specs.TheirLinks.Laws.{TheirsAlong}
-use Rattle.channel_actions.specs.TheirLinks.Theirs.{AreTheirs}
+use Rattle.channel_actions.specs.TheirLinks.Theirs.{LinksAreTheirs}
 use Rattle.call_cases.proofs.CallPosts.Answered.{of_order}
 use Rattle.attempt_cases.proofs.DialEvents.Nets.{one_call_more}
 use Rattle.event_cases.proofs.FirstShutdowns.Over.{shutdowns_end_calls}
@@ -31,7 +31,7 @@ use Rattle.attempt_cases.proofs.NetSteps.Clocks.{clock_goes_on}
 use Rattle.attempt_cases.proofs.NetSteps.Stepped.{net_steps_keep}
 use Rattle.attempt_cases.proofs.NetSteps.Subbed.{subbed_links}
 use Rattle.event_cases.specs.FirstShutdowns.Cases.{IsFirstShutdown}
-use Rattle.event_cases.specs.FirstShutdowns.Laws.{AreStamped, CallsAreOver, FirstShutdownsAreAnswered, ShutsAreStamped, without_calls}
+use Rattle.event_cases.specs.FirstShutdowns.Laws.{StampsAreKept, CallsAreOver, FirstShutdownsAreAnswered, ShutsAreStamped, without_calls}
 use Rattle.attempt_cases.specs.NetChains.Chains.{IsChained, IsPickThere}
 use Rattle.attempt_cases.specs.NetChains.Laws.{ChainsAreNext}
 use Rattle.channel_core.specs.Applying.{AnswersBy, net_closed, refusal_of, shut_off}
@@ -64,7 +64,7 @@ use Rattle.session_actions.specs.declared.policy.PolicyUse.{PolicyUse}
 use Rattle.session_actions.specs.declared.seen.Seen.{Seen}
 use Rattle.session_actions.specs.declared.subchannel.Subchannel.{Subchannel}
 use Rattle.session_order.proofs.Lists.{some_find}
-use Rattle.session_order.specs.Calm.{IsStill}
+use Rattle.session_order.specs.Quiescent.{IsStill}
 use Rattle.session_order.specs.Lines.{is_of_policies}
 use Rattle.session_order.specs.declared.line.Line.{Line}
 use Rattle.session_order.specs.declared.line.Line.TheVariants as line
@@ -151,9 +151,9 @@ module _ (chains : ChainsAreNext) (along : TheirsAlong) (stamps : ShutsAreStampe
   quiet : IsQuiet p
   quiet = plain_quiet reply.Done o event.Shutdown case.event_is is_plain
 
-  calm_by : (l : Line) → is_of_policies l ≡ false → IsStill l p c.seen
-  calm_by line.Shut e = none_some (list_any (is_shut_down c.seen) c.seen.calls) (find (is_shut_down c.seen) c.seen.calls) (sym (some_find (is_shut_down c.seen) c.seen.calls)) c.over
-  calm_by l e = c.still l e
+  quiescent_by : (l : Line) → is_of_policies l ≡ false → IsStill l p c.seen
+  quiescent_by line.Shut e = none_some (list_any (is_shut_down c.seen) c.seen.calls) (find (is_shut_down c.seen) c.seen.calls) (sym (some_find (is_shut_down c.seen) c.seen.calls)) c.over
+  quiescent_by l e = c.still l e
 
   picks : IsPickThere c.seen
   picks ask sub last answer =
@@ -166,7 +166,7 @@ module _ (chains : ChainsAreNext) (along : TheirsAlong) (stamps : ShutsAreStampe
   v = b.end
 
   chain : IsChained b.runs.actions p c.seen v
-  chain = chains b.runs.actions p c.seen v b.runs.does c.current calm_by picks
+  chain = chains b.runs.actions p c.seen v b.runs.does c.current quiescent_by picks
 
   boarded : IsBoarded c.seen v
   boarded = boards_leave_rest b.runs.actions c.seen v chain.board chain.does
@@ -174,10 +174,10 @@ module _ (chains : ChainsAreNext) (along : TheirsAlong) (stamps : ShutsAreStampe
   later : IsKept v
   later = kept_along b.runs.actions c.seen v c.agrees.kept chain.does
 
-  theirs : AreTheirs c.seen
-  theirs = along c.actions s c.seen h.kept case.early case.greeted case.theirs c.does
+  theirs : LinksAreTheirs c.seen
+  theirs = along c.actions s c.seen h.kept case.early case.prefaced case.theirs c.does
 
-  stamped : AreStamped z v
+  stamped : StampsAreKept z v
   stamped =
       stamps z p c.seen v b.runs.actions c.agrees theirs c.shut c.current quiet.result b.runs.does chain.current boarded later
       (links_along b.runs.actions p c.seen v b.runs.does) b.sees
@@ -228,7 +228,7 @@ module _ (chains : ChainsAreNext) (along : TheirsAlong) (stamps : ShutsAreStampe
         entries = ap (λ (w : Seen). w.entries) boarded ∙ c.entries;
         setup = ap (λ (w : Seen). w.setup) boarded ∙ c.setup;
       };
-      at = record { current = chain.current; stage_is = refl; calm = of_order p v chain.calm };
+      at = record { current = chain.current; stage_is = refl; quiescent = of_order p v chain.quiescent };
       agrees = subst (λ (w : StateSeen). Agrees w v) (sym closed_is) agrees;
     };
     reply = refl;

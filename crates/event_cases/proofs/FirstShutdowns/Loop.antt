@@ -11,7 +11,7 @@ use Rattle.call_cases.proofs.EndsFollow.Follow.{rest_on, rest_self}
 use Rattle.call_cases.proofs.OtherCalls.Rows.{others_are_same}
 use Rattle.channel_actions.proofs.Stamps.{counted_at}
 use Rattle.channel_actions.specs.Agrees.{Agrees}
-use Rattle.call_cases.specs.EndsFollow.Cuts.{AreUnreset}
+use Rattle.call_cases.specs.EndsFollow.Cuts.{NoStreamIsToReset}
 use Rattle.call_cases.specs.EndsFollow.Laws.{IsSameRest, is_late}
 use Rattle.call_cases.proofs.CallEnds.Late.{ended_too, has, no_deadline, no_due, unasked}
 use Rattle.call_cases.proofs.OneCallEnds.Whole.{WholeEnd, whole_end}
@@ -33,9 +33,9 @@ use Rattle.session_actions.specs.declared.action.Action.TheVariants as action
 use Rattle.session_actions.specs.declared.call.Call.{Call}
 use Rattle.session_actions.specs.declared.entry.OpenEntry.{OpenEntry}
 use Rattle.session_actions.specs.declared.seen.Seen.{Seen}
-use Rattle.session_order.proofs.Calms.{first_line_gives}
+use Rattle.session_order.proofs.Quiescence.{first_line_gives}
 use Rattle.session_order.proofs.Ended.{ended_leaves}
-use Rattle.session_order.specs.Calm.{IsStill}
+use Rattle.session_order.specs.Quiescent.{IsStill}
 use Rattle.session_order.specs.Lines.{is_line, rank}
 use Rattle.session_order.specs.declared.line.Line.{Line}
 use Rattle.session_order.specs.declared.line.Line.TheVariants as line
@@ -93,7 +93,7 @@ pub record Loop (index more : ℕ) (z : StateSeen) (o : OpenEntry) (t : Seen) : 
   pub agrees : Agrees z t
   pub current : t.current ≡ Some o
   pub still : (l : Line) → is_late l ≡ false → IsStill l o t
-  pub unreset : AreUnreset t
+  pub unreset : NoStreamIsToReset t
   pub shut : t.shut ≡ true
   pub over : (k : ℕ) (d : Call) → k ≤ index → numbered t.calls k ≡ Some d → is_some d.end ≡ true
   pub count : index + more ≡ length t.calls

@@ -5,7 +5,7 @@ use Rattle.attempt_ledger.specs.declared.ledger.CallEnd.{CallEnd}
 use Rattle.channel_actions.proofs.Answering.{event_next}
 use Rattle.channel_actions.proofs.Settles.{is_with_open, with_open}
 use Rattle.channel_actions.specs.Agrees.{Agrees}
-use Rattle.channel_actions.specs.Calm.{IsAt}
+use Rattle.channel_actions.specs.Quiescent.{IsAt}
 use Rattle.call_cases.proofs.CallPosts.Answered.{to_order}
 use Rattle.event_cases.proofs.FirstShutdowns.Loop.{AllOver, Loop, all_over}
 use Rattle.event_cases.proofs.FirstShutdowns.Shut.{shut_agrees, shut_now, shut_still, shut_too}
@@ -58,7 +58,7 @@ module _ (x : StateSeen) (o : OpenEntry) (s : Seen) (h : Agrees x (with_open o s
   begins = record {
     agrees = shut_agrees x o s h follows;
     current = refl;
-    still = shut_still x o s h follows case.event_is (to_order o u at.calm);
+    still = shut_still x o s h follows case.event_is (to_order o u at.quiescent);
     unreset = case.unreset;
     shut = refl;
     over = λ k d less there. absurd (no_zero_call s.calls k d less there);

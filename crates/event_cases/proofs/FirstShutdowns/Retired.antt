@@ -1,7 +1,7 @@
 -- A shutdown retires the current policy and the pending one, and no other is live: so the ledger of the channel has the stamps of the session.
 use Rattle.attempt_ledger.specs.declared.ledger.Generation.{Generation}
 use Rattle.channel_actions.proofs.Stamps.{counted_at, numbered_map}
-use Rattle.channel_actions.specs.KeptSessions.Kept.{AreCounted}
+use Rattle.channel_actions.specs.KeptSessions.Kept.{NumbersCountUp}
 use Rattle.call_cases.proofs.ConfiguredCalls.Lists.{same_numbered, same_words}
 use Rattle.event_cases.proofs.GenerationStamps.Along.{gens}
 use Rattle.event_cases.proofs.GenerationStamps.Over.{live_is, live_none}
@@ -14,8 +14,8 @@ use Rattle.policy_rack.specs.Steps.{live_of}
 use Rattle.grpc_base.specs.declared.kind.Kind.{Kind}
 use Rattle.grpc_base.specs.declared.address.Address.{Address}
 use Rattle.ledger_stamps.specs.Steps.{changed_at, retired_generation, stamped}
-use Rattle.net_actions.proofs.Uses.{AllUses, is_of, tells}
-use Rattle.net_actions.specs.Sees.{AreNumbered, AreUses, IsUse, Sees}
+use Rattle.net_actions.proofs.Uses.{AllUses, is_of, reports_that}
+use Rattle.net_actions.specs.Sees.{PoliciesAreNumbered, UsesAgree, IsUse, Sees}
 use Rattle.session_actions.specs.Policies.{current_policy, is_current, is_pending, pending_policy, policy_of}
 use Rattle.session_actions.specs.Words.{holds, numbered}
 use Rattle.session_actions.specs.declared.policy.PolicyUse.{PolicyUse}
@@ -75,7 +75,7 @@ numbered_use : (P : PolicyUse → Type 0) (uses : List PolicyUse) (k : ℕ) (g :
 numbered_use P uses zero g e all = absurd (cc)
 numbered_use P uses (suc i) g e all = use_at P uses i g e all
 
-module _ (s : Seen) (n : NetSeen) (h : Sees s n) (counted : AreCounted 1 (map (λ (g : PolicyUse). g.number) s.policies)) (e : ℕ) where
+module _ (s : Seen) (n : NetSeen) (h : Sees s n) (counted : NumbersCountUp 1 (map (λ (g : PolicyUse). g.number) s.policies)) (e : ℕ) where
   abbrev gs : List Generation
   gs = gens s.policies
 
@@ -121,12 +121,12 @@ module _ (s : Seen) (n : NetSeen) (h : Sees s n) (counted : AreCounted 1 (map (�
     is_current_at : is_at c k ≡ is_current g
     is_current_at =
         ap (is_at c) (sym number_is)
-        ∙ numbered_use (λ (q : PolicyUse). is_of c q ≡ is_current q) s.policies k g here (tells is_current s.policies c h.uses_are.numbers h.uses_are.one_current refl)
+        ∙ numbered_use (λ (q : PolicyUse). is_of c q ≡ is_current q) s.policies k g here (reports_that is_current s.policies c h.uses_are.numbers h.uses_are.one_current refl)
 
     is_pending_at : is_at p k ≡ is_pending g
     is_pending_at =
         ap (is_at p) (sym number_is)
-        ∙ numbered_use (λ (q : PolicyUse). is_of p q ≡ is_pending q) s.policies k g here (tells is_pending s.policies p h.uses_are.numbers h.uses_are.one_pending refl)
+        ∙ numbered_use (λ (q : PolicyUse). is_of p q ≡ is_pending q) s.policies k g here (reports_that is_pending s.policies p h.uses_are.numbers h.uses_are.one_pending refl)
 
     one : drop g.generation ≡ retired_if (is_at p k) e (retired_if (is_at c k) e g.generation)
     one =

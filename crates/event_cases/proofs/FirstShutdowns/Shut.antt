@@ -29,7 +29,7 @@ use Rattle.session_actions.specs.declared.call.Call.{Call}
 use Rattle.session_actions.specs.declared.entry.OpenEntry.{OpenEntry}
 use Rattle.session_actions.specs.declared.seen.Seen.{Seen}
 use Rattle.session_order.proofs.Turns.{shut_leaves}
-use Rattle.session_order.specs.Calm.{IsCalm, IsStill}
+use Rattle.session_order.specs.Quiescent.{IsQuiescent, IsStill}
 use Rattle.session_order.specs.Stirs.{stirs}
 use Rattle.session_order.specs.declared.line.Line.{Line}
 use Rattle.session_order.specs.declared.line.Line.TheVariants as line
@@ -101,11 +101,11 @@ module _ (x : StateSeen) (o : OpenEntry) (s : Seen) (h : Agrees x (with_open o s
   sets_on : SeesSets y t
   sets_on = record {
     queue = h.sets.queue;
-    patient = h.sets.patient;
+    ready_waiters = h.sets.ready_waiters;
     dues = record { rising = h.sets.dues.rising; exact = λ m n. h.sets.dues.exact m n ∙ sym (dues_same m n) };
     deadlines = h.sets.deadlines;
-    bare = h.sets.bare;
-    impatient = h.sets.impatient;
+    awaiting_config = h.sets.awaiting_config;
+    fail_fast = h.sets.fail_fast;
     outstanding = h.sets.outstanding;
     resets = h.sets.resets;
   }
@@ -124,5 +124,5 @@ module _ (x : StateSeen) (o : OpenEntry) (s : Seen) (h : Agrees x (with_open o s
     kept = kept;
   }
 
-  pub shut_still : o.event ≡ event.Shutdown → IsCalm o u → (l : Line) → is_late l ≡ false → IsStill l p t
-  shut_still is calm l early = shut_leaves o u refl is l p refl (unstirred l early) (calm l)
+  pub shut_still : o.event ≡ event.Shutdown → IsQuiescent o u → (l : Line) → is_late l ≡ false → IsStill l p t
+  shut_still is quiescent l early = shut_leaves o u refl is l p refl (unstirred l early) (quiescent l)

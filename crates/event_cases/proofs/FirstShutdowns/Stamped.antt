@@ -3,16 +3,16 @@ use Rattle.attempt_ledger.specs.declared.ledger.Generation.{Generation}
 use Rattle.channel_actions.specs.Agrees.{Agrees}
 use Rattle.channel_actions.specs.BoardActions.Boards.{IsBoarded}
 use Rattle.channel_actions.specs.KeptSessions.Kept.{IsKept}
-use Rattle.channel_actions.specs.TheirLinks.Theirs.{AreTheirs}
+use Rattle.channel_actions.specs.TheirLinks.Theirs.{LinksAreTheirs}
 use Rattle.event_cases.proofs.FirstShutdowns.Answered.{stamps_form}
 use Rattle.event_cases.proofs.FirstShutdowns.Retired.{all_retired}
 use Rattle.event_cases.proofs.GenerationStamps.Along.{generations_along}
 use Rattle.event_cases.proofs.LeftLinks.Nets.{links_left_by, still_shut}
 use Rattle.event_cases.proofs.LeftLinks.Stamped.{left_links_are_stamped, stamps_blind}
 use Rattle.attempt_cases.proofs.NetSteps.Clocks.{entry_goes_on}
-use Rattle.event_cases.specs.FirstShutdowns.Laws.{AreStamped, ShutsAreStamped}
+use Rattle.event_cases.specs.FirstShutdowns.Laws.{StampsAreKept, ShutsAreStamped}
 use Rattle.event_cases.specs.GenerationStamps.Stamps.{generations_after}
-use Rattle.event_cases.specs.LeftLinks.Laws.{AreLeft}
+use Rattle.event_cases.specs.LeftLinks.Laws.{LinksAreLeft}
 use Rattle.channel_core.specs.Applying.{net_closed}
 use Rattle.channel_core.specs.States.{StateSeen}
 use Rattle.channel_core.specs.Steps.{with_generations}
@@ -31,7 +31,7 @@ use Rattle.session_actions.specs.declared.policy.PolicyUse.{PolicyUse}
 use Rattle.session_actions.specs.declared.seen.Seen.{Seen}
 use Rattle.std.proofs.Common.{Bool, List, None, Option, Some, [], ap, if◌then◌else◌, is_some, map, option_map, refl, sym, true, ℕ, ◌∙◌, ◌≡◌}
 
-module _ (x : StateSeen) (o : OpenEntry) (s t : Seen) (actions : List Action) (h : Agrees x s) (theirs : AreTheirs s) (shut : s.shut ≡ true) (current : s.current ≡ Some o)
+module _ (x : StateSeen) (o : OpenEntry) (s t : Seen) (actions : List Action) (h : Agrees x s) (theirs : LinksAreTheirs s) (shut : s.shut ≡ true) (current : s.current ≡ Some o)
     (none : result_of o ≡ None) (does : DoesAll actions o s t) (on : t.current ≡ Some o) (boarded : IsBoarded s t) (kept : IsKept t) (links_are : t.links ≡ s.links)
     (sees : Sees t (net_shut x.net).net) where
   abbrev N : NetSeen
@@ -58,7 +58,7 @@ module _ (x : StateSeen) (o : OpenEntry) (s t : Seen) (actions : List Action) (h
       ∙ ap (λ (e : ℕ). shut_stamps e x.net.asker.rack gs) h.clock.entry_is
       ∙ ap (λ (l : List Generation). shut_stamps x.book.ledger.entry x.net.asker.rack l) h.columns.generations
 
-  are_left : AreLeft x s t N gone
+  are_left : LinksAreLeft x s t N gone
   are_left = record {
     attempts = ap (λ (v : Seen). v.attempts) boarded;
     links = links_are;
@@ -69,7 +69,7 @@ module _ (x : StateSeen) (o : OpenEntry) (s t : Seen) (actions : List Action) (h
     left = λ sub link b there own before off. links_left_by s t x.net N [] [] h.net sees refl gone refl sub link b there own off;
   }
 
-  pub are_stamped : AreStamped x t
+  pub are_stamped : StampsAreKept x t
   are_stamped = record {
     generations = generations ∙ sym (ap (λ (w : StateSeen). w.book.ledger.generations) (stamps_form gone (record (with_generations now x) { net = N })));
     links = left_links_are_stamped x s t N gone h theirs are_left ∙ stamps_blind gone now (record x { net = N });

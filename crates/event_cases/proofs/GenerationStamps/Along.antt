@@ -21,7 +21,7 @@ use Rattle.net_actions.proofs.Noting.{found_passes, numbers_stay, still_number}
 use Rattle.net_actions.proofs.Running.{find_none}
 use Rattle.net_actions.proofs.Uses.{UseAt, none_found, use_at}
 use Rattle.net_actions.specs.Runs.{DoesAll}
-use Rattle.net_actions.specs.Sees.{AreNumbered}
+use Rattle.net_actions.specs.Sees.{PoliciesAreNumbered}
 use Rattle.session_actions.specs.Actions.{after_in, first_action, of_policies}
 use Rattle.session_actions.specs.CallEnds.{call_ended, ending_call, is_shut_down, next_ended}
 use Rattle.session_actions.specs.Entries.{entry}
@@ -116,22 +116,22 @@ none_from f None e = refl
 none_from f (Some x) e = absurd (cc)
 
 numbers_set : (f : PolicyUse → PolicyUse) → ((g : PolicyUse) → (f g).number ≡ g.number) → (n i : ℕ) (uses : List PolicyUse) (g : PolicyUse) → slice_get uses i ≡ Some g
-    → AreNumbered n uses → AreNumbered n (slice_set uses i (f g))
+    → PoliciesAreNumbered n uses → PoliciesAreNumbered n (slice_set uses i (f g))
 numbers_set f same n i [] g e h = tt
 numbers_set f same n zero (x ∷ uses) g e h = let one : x ≡ g = (cc) in (same g ∙ ap (λ (y : PolicyUse). y.number) (sym one) ∙ h.0, h.1)
 numbers_set f same n (suc i) (x ∷ uses) g e h = (h.0, numbers_set f same (n + 1) i uses g e h.1)
 
 numbers_if : (f : PolicyUse → PolicyUse) → ((g : PolicyUse) → (f g).number ≡ g.number) → (k : ℕ) (uses : List PolicyUse) (o : Option PolicyUse) → numbered uses k ≡ o
-    → AreNumbered 1 uses → AreNumbered 1 (changed_if f k uses o)
+    → PoliciesAreNumbered 1 uses → PoliciesAreNumbered 1 (changed_if f k uses o)
 numbers_if f same k uses None e h = h
 numbers_if f same zero uses (Some g) e h = absurd (cc)
 numbers_if f same (suc i) uses (Some g) e h = numbers_set f same 1 i uses g e h
 
-numbers_behind : (n : ℕ) (uses : List PolicyUse) (b : PolicyUse) → AreNumbered n uses → b.number ≡ n + length uses → AreNumbered n (uses ++ b ∷ [])
-numbers_behind n [] b h e = (let number : b.number ≡ n = omega arith in number, tt)
-numbers_behind n (g ∷ uses) b h e =
+numbers_after : (n : ℕ) (uses : List PolicyUse) (b : PolicyUse) → PoliciesAreNumbered n uses → b.number ≡ n + length uses → PoliciesAreNumbered n (uses ++ b ∷ [])
+numbers_after n [] b h e = (let number : b.number ≡ n = omega arith in number, tt)
+numbers_after n (g ∷ uses) b h e =
     let further : b.number ≡ n + 1 + length uses = omega arith in
-    (h.0, numbers_behind (n + 1) uses b h.1 further)
+    (h.0, numbers_after (n + 1) uses b h.1 further)
 
 gens_if : (f : PolicyUse → PolicyUse) → ((g : PolicyUse) → (f g).generation ≡ g.generation) → (k : ℕ) (uses : List PolicyUse) (o : Option PolicyUse) → numbered uses k ≡ o
     → gens (changed_if f k uses o) ≡ gens uses
@@ -161,9 +161,9 @@ not_other true true false e f = absurd (cc)
 not_other true false q e f = absurd (cc)
 not_other false p q e f = absurd (cc)
 
-or_behind : (a b : Bool) → b ≡ true → (a || b) ≡ true
-or_behind true b e = refl
-or_behind false b e = e
+or_after : (a b : Bool) → b ≡ true → (a || b) ≡ true
+or_after true b e = refl
+or_after false b e = e
 
 passes_by : (test : Generation → Bool) (x : Generation) (gs : List Generation) (g : Generation) (b : Bool) → cond b (Some x) (find is_pending_stamp gs) ≡ Some g → test x ≡ false
     → (find is_pending_stamp gs ≡ Some g → test g ≡ false) → test g ≡ false
@@ -176,17 +176,17 @@ passes_in test (x ∷ gs) g none e =
     let parts : (test x ≡ false) × (list_any test gs ≡ false) = or_parts (test x) (list_any test gs) none in
     passes_by test x gs g (is_pending_stamp x) e parts.0 (passes_in test gs g parts.1)
 
-module _ (o : OpenEntry) (s : Seen) (places : AreNumbered 1 s.policies) (open_if : s.shut ≡ true → result_of o ≡ None) where
+module _ (o : OpenEntry) (s : Seen) (places : PoliciesAreNumbered 1 s.policies) (open_if : s.shut ≡ true → result_of o ≡ None) where
   abbrev goal : Seen → List Generation
   goal t = generations_after t.shut (wanted_kind o t) (entry t) (gens t.policies)
 
   pub record Stays (t : Seen) : Type 0 where
     pub same : goal t ≡ goal s
-    pub numbers : AreNumbered 1 t.policies
+    pub numbers : PoliciesAreNumbered 1 t.policies
     pub shut : t.shut ≡ s.shut
 
   -- stamps are as they were
-  by_uses : (uses : List PolicyUse) → gens uses ≡ gens s.policies → AreNumbered 1 uses → Stays (record s { policies = uses })
+  by_uses : (uses : List PolicyUse) → gens uses ≡ gens s.policies → PoliciesAreNumbered 1 uses → Stays (record s { policies = uses })
   by_uses uses e h = record { same = ap (generations_after s.shut (wanted_kind o s) (entry s)) e; numbers = h; shut = refl }
 
   -- one is retired
@@ -242,7 +242,7 @@ module _ (o : OpenEntry) (s : Seen) (places : AreNumbered 1 s.policies) (open_if
             ∙ ap (λ (w : Option Kind). generations_after false w e (gs ++ b ∷ [])) wanted
             ∙ rests_with k e gs none_open lacking
             ∙ sym before;
-        numbers = numbers_behind 1 s.policies (begun_policy k s) places (let up : length s.policies + 1 ≡ 1 + length s.policies = omega arith in up);
+        numbers = numbers_after 1 s.policies (begun_policy k s) places (let up : length s.policies + 1 ≡ 1 + length s.policies = omega arith in up);
         shut = refl;
       }
     where
@@ -289,7 +289,7 @@ module _ (o : OpenEntry) (s : Seen) (places : AreNumbered 1 s.policies) (open_if
               let has : has_kind k gs ≡ true
               = ap (λ (q : Option Generation). list_any (λ (g : Generation). is_same_kind g.kind k) (option_to_list (find is_current_stamp gs) ++ option_to_list q)) pending
               ∙ list_any-append (λ (g : Generation). is_same_kind g.kind k) (option_to_list (find is_current_stamp gs)) (p ∷ [])
-              ∙ or_behind (list_any (λ (g : Generation). is_same_kind g.kind k) (option_to_list (find is_current_stamp gs))) (is_same_kind p.kind k || false) (ap (λ (x : Bool). x || false) of_kind) in
+              ∙ or_after (list_any (λ (g : Generation). is_same_kind g.kind k) (option_to_list (find is_current_stamp gs))) (is_same_kind p.kind k || false) (ap (λ (x : Bool). x || false) of_kind) in
               absurd (let bad : false ≡ true = sym lacking ∙ has in (cc))
           has_it k e gs none lacking (Some c) current None pending =
               let b : Generation = begun e k gs in
@@ -300,7 +300,7 @@ module _ (o : OpenEntry) (s : Seen) (places : AreNumbered 1 s.policies) (open_if
               ∙ ap (λ (x : Bool). cond x (Some b) None) (ap is_pending_stamp new) in
               ap (λ (q : Option Generation). list_any (λ (g : Generation). is_same_kind g.kind k) (option_to_list (find is_current_stamp (gs ++ b ∷ [])) ++ option_to_list q)) here
               ∙ list_any-append (λ (g : Generation). is_same_kind g.kind k) (option_to_list (find is_current_stamp (gs ++ b ∷ []))) (b ∷ [])
-              ∙ or_behind (list_any (λ (g : Generation). is_same_kind g.kind k) (option_to_list (find is_current_stamp (gs ++ b ∷ [])))) (is_same_kind k k || false) (ap (λ (x : Bool). x || false) (kept_kind k))
+              ∙ or_after (list_any (λ (g : Generation). is_same_kind g.kind k) (option_to_list (find is_current_stamp (gs ++ b ∷ [])))) (is_same_kind k k || false) (ap (λ (x : Bool). x || false) (kept_kind k))
 
   -- one gets addresses
   give : (n : ℕ) (e : Event) (q : Option (List Address)) → Stays (option_map_or (λ (l : List Address). with_policy (given_addresses l s) n s) q s)

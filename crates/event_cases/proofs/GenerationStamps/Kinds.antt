@@ -13,8 +13,8 @@ use Rattle.ledger_stamps.specs.Steps.{changed_at, new_generation, retired_genera
 use Rattle.net_actions.proofs.Noting.{found_map, found_passes}
 use Rattle.net_actions.proofs.Quiet.{at_number}
 use Rattle.net_actions.proofs.Running.{find_none}
-use Rattle.net_actions.proofs.Uses.{AllUses, all_to, all_with, changed_found, is_of, none_found, none_passes, only_is, tells}
-use Rattle.net_actions.specs.Sees.{AreUses}
+use Rattle.net_actions.proofs.Uses.{AllUses, all_to, all_with, changed_found, is_of, none_found, none_passes, only_is, reports_that}
+use Rattle.net_actions.specs.Sees.{UsesAgree}
 use Rattle.session_actions.specs.Policies.{current_policy, is_current, is_live_policy, is_pending, is_same_kind, live_policies, pending_policy}
 use Rattle.session_actions.specs.declared.policy.PolicyUse.{PolicyUse}
 use Rattle.session_actions.specs.declared.seen.Seen.{Seen}
@@ -50,7 +50,7 @@ never : {X : Type 0} (b : Bool) → b ≡ false → b ≡ true → X
 never true e f = absurd (cc)
 never false e f = absurd (cc)
 
-module _ (s : Seen) (k : Kind) (e : ℕ) (u : AreUses s.policies) where
+module _ (s : Seen) (k : Kind) (e : ℕ) (u : UsesAgree s.policies) where
   abbrev gs : List Generation
   gs = gens s.policies
 
@@ -102,13 +102,13 @@ module _ (s : Seen) (k : Kind) (e : ℕ) (u : AreUses s.policies) where
 
   drops_by : (p g : PolicyUse) (b : Bool) → is_pending g ≡ b → (g.number == p.number) ≡ is_pending g → (is_pending g ≡ true → of_kind g ≡ false)
       → drop g.generation ≡ (at_number p.number own g).generation
-  drops_by p g true is tells_it other =
+  drops_by p g true is reports_it other =
       ap (λ (b : Bool). if b then record g.generation { retired = Some e } else g.generation) (drop_on g is (other is))
       ∙ retires e g.generation g.generation.retired refl (not_retired g (is_none g.generation.activated) is)
-      ∙ sym (ap (λ (b : Bool). (if b then own g else g).generation) (tells_it ∙ is))
-  drops_by p g false is tells_it other =
+      ∙ sym (ap (λ (b : Bool). (if b then own g else g).generation) (reports_it ∙ is))
+  drops_by p g false is reports_it other =
       ap (λ (b : Bool). if b then record g.generation { retired = Some e } else g.generation) (drop_off g (λ f. never (is_pending g) is f))
-      ∙ sym (ap (λ (b : Bool). (if b then own g else g).generation) (tells_it ∙ is))
+      ∙ sym (ap (λ (b : Bool). (if b then own g else g).generation) (reports_it ∙ is))
 
   pub dropped_one : (p : PolicyUse) → pending_policy s ≡ Some p → AllPending false → dropped false (Some k) e gs ≡ changed_at (retired_generation e) gs p.number
   dropped_one p there other =
@@ -116,7 +116,7 @@ module _ (s : Seen) (k : Kind) (e : ℕ) (u : AreUses s.policies) where
       ∙ map_all (λ (g : PolicyUse). drop g.generation) (λ (g : PolicyUse). (at_number p.number own g).generation) s.policies
       (all_with (λ (g : PolicyUse). is_of (Some p) g ≡ is_pending g) (λ (g : PolicyUse). is_pending g ≡ true → of_kind g ≡ false)
       (λ (g : PolicyUse). drop g.generation ≡ (at_number p.number own g).generation) (λ g a b. drops_by p g (is_pending g) refl a b) s.policies
-      (tells is_pending s.policies (Some p) u.numbers u.one_pending there) other)
+      (reports_that is_pending s.policies (Some p) u.numbers u.one_pending there) other)
       ∙ sym (map-map (λ (g : PolicyUse). g.generation) (at_number p.number own) s.policies)
       ∙ sym (ap gens (changed_found own s.policies is_pending p u.numbers there))
       ∙ written (retired_generation e) own p.number s.policies p (number_at is_pending s.policies p u.numbers there) refl

@@ -16,7 +16,7 @@ use Rattle.net_actions.proofs.Followed.{never_both}
 use Rattle.net_actions.proofs.Noting.{found_passes}
 use Rattle.net_actions.proofs.TakingOver.{take_overs_are_same}
 use Rattle.net_actions.proofs.Uses.{UseAt, use_at}
-use Rattle.net_actions.specs.Sees.{AreNumbered, IsUse, Sees}
+use Rattle.net_actions.specs.Sees.{PoliciesAreNumbered, IsUse, Sees}
 use Rattle.policy_rack.specs.Steps.{live_of, may_take_over}
 use Rattle.policy_rack.specs.declared.live.Live.{Live}
 use Rattle.session_actions.specs.Entries.{entry}
@@ -53,7 +53,7 @@ activates : (e : ℕ) (g : Generation) (o : Option ℕ) → g.activated ≡ o �
 activates e g None is none = ap (λ (o : Option ℕ). record g { activated = stamped e o }) (sym is)
 activates e g (Some k) is none = absurd (cc)
 
-pub number_at : (test : PolicyUse → Bool) (uses : List PolicyUse) (g : PolicyUse) → AreNumbered 1 uses → find test uses ≡ Some g → numbered uses g.number ≡ Some g
+pub number_at : (test : PolicyUse → Bool) (uses : List PolicyUse) (g : PolicyUse) → PoliciesAreNumbered 1 uses → find test uses ≡ Some g → numbered uses g.number ≡ Some g
 number_at test uses g numbers e =
     let at : UseAt uses g 1 = use_at uses test 1 g numbers e in
     let number : g.number ≡ suc at.place = (let k : g.number ≡ 1 + at.place = at.number_is in omega arith) in

@@ -28,10 +28,10 @@ use Rattle.lb_policy.specs.Table.{PolicySeen}
 use Rattle.lb_policy.specs.declared.seen.SubSeen.{SubSeen}
 use Rattle.net_actions.proofs.Noting.{get_here}
 use Rattle.net_actions.specs.Runs.{IsOfCalls}
-use Rattle.net_actions.specs.Sees.{AreApart, AreUses, IsUse, Sees}
+use Rattle.net_actions.specs.Sees.{UsesAreApart, UsesAgree, IsUse, Sees}
 use Rattle.policy_rack.proofs.KindLaws.{has_place}
 use Rattle.policy_rack.specs.Kinds.{first_place, has_policy, kinds_differ, kinds_of}
-use Rattle.policy_rack.specs.Runs.{AreLive, IsKept}
+use Rattle.policy_rack.specs.Runs.{GenerationsAreLive, IsKept}
 use Rattle.policy_rack.specs.Steps.{RackSeen, adopted, adopted_at, adopted_number, begun, changed, changed_of, is_at, live_of, number_at, renewed}
 use Rattle.policy_rack.specs.declared.live.Live.{Live}
 use Rattle.session_actions.specs.Policies.{current_policy, is_same_kind, pending_policy, policy_of}
@@ -61,11 +61,11 @@ numbered_by number g (Some p) e = e
 
 -- what the stamps are by: the rack before, and the one that is current after it
 module _ (s : Seen) (k : Kind) (e : ℕ) (r : RackSeen) (view : List SubSeen) (place : ℕ) (current pending : List Address)
-    (u : AreUses s.policies)
+    (u : UsesAgree s.policies)
     (c_is : IsUse (current_policy s) (option_map (λ (g : PolicyUse). policy_of g s) (current_policy s)) r.current current r.policies)
     (p_is : IsUse (pending_policy s) (option_map (λ (g : PolicyUse). policy_of g s) (pending_policy s)) r.pending pending r.policies)
-    (apart : AreApart r.current r.pending) (made : r.made ≡ length s.policies)
-    (first : first_place k r.policies ≡ Some place) (differ : kinds_differ r.policies ≡ true) (lives : AreLive r.current r.pending r.made) where
+    (apart : UsesAreApart r.current r.pending) (made : r.made ≡ length s.policies)
+    (first : first_place k r.policies ≡ Some place) (differ : kinds_differ r.policies ≡ true) (lives : GenerationsAreLive r.current r.pending r.made) where
   abbrev gs : List Generation
   gs = gens s.policies
 
@@ -137,7 +137,7 @@ module _ (s : Seen) (k : Kind) (e : ℕ) (r : RackSeen) (view : List SubSeen) (p
           → generations_after false (Some k) e gs ≡ stamps.dropped e live.generation (live_of r.policies r.pending) gs
       by None there None is kind = for_current s k e u c a kind (no_pending s k e u there) ∙ drop_none there is live.generation
       by (Some p) there (Some q) is kind =
-          let far : AreApart (Some live) (Some q) = subst (λ (l : Option Live). AreApart (Some live) l) is (subst (λ (l : Option Live). AreApart l r.pending) b apart) in
+          let far : UsesAreApart (Some live) (Some q) = subst (λ (l : Option Live). UsesAreApart (Some live) l) is (subst (λ (l : Option Live). UsesAreApart l r.pending) b apart) in
           let away : (q.place == place) ≡ false
           = apart_by q.place place (q.place == place) refl (λ f. far.0 (eqb-true live.place place here ∙ sym f)) in
           let use_is = pending_use p q there is in
@@ -234,11 +234,11 @@ module _ (s : Seen) (k : Kind) (e : ℕ) (r : RackSeen) (view : List SubSeen) (p
       there_is = kind_runs.there k r.policies place first
 
   -- which of them it is
-  lives_by : (live : Live) (q : Option Live) → AreLive (Some live) q r.made → live.generation ≤ r.made
+  lives_by : (live : Live) (q : Option Live) → GenerationsAreLive (Some live) q r.made → live.generation ≤ r.made
   lives_by live None l = l
   lives_by live (Some q) l = let a : live.generation < q.generation = l.1 in let b : q.generation ≤ r.made = l.2 in omega (arith, a, b)
 
-  later_by : (live : Live) (q : Option Live) → AreLive (Some live) q r.made → (l : Live) → q ≡ Some l → l.generation ≤ r.made
+  later_by : (live : Live) (q : Option Live) → GenerationsAreLive (Some live) q r.made → (l : Live) → q ≡ Some l → l.generation ≤ r.made
   later_by live None a l e = absurd (cc)
   later_by live (Some q) a l e = let one : q ≡ l = (cc) in subst (λ (x : Live). x.generation ≤ r.made) one a.2
 
@@ -246,25 +246,25 @@ module _ (s : Seen) (k : Kind) (e : ℕ) (r : RackSeen) (view : List SubSeen) (p
   fresh_by None lacks = refl
   fresh_by (Some q) lacks = ap (λ (b : Bool). if b then q.generation else r.made + 1) lacks
 
-  by_pending : (c : PolicyUse) (live : Live) → current_policy s ≡ Some c → r.current ≡ Some live → (live.place == place) ≡ false → AreLive (Some live) r.pending r.made
+  by_pending : (c : PolicyUse) (live : Live) → current_policy s ≡ Some c → r.current ≡ Some live → (live.place == place) ≡ false → GenerationsAreLive (Some live) r.pending r.made
       → (p : Option PolicyUse) → pending_policy s ≡ p → (q : Option Live) → r.pending ≡ q → (x : Bool) → is_at place q ≡ x → Alike
   by_pending c live a b away all p there q is false at =
-      let all_q : AreLive (Some live) q r.made = subst (λ (l : Option Live). AreLive (Some live) l r.made) is all in
+      let all_q : GenerationsAreLive (Some live) q r.made = subst (λ (l : Option Live). GenerationsAreLive (Some live) l r.made) is all in
       to_next c live a b away (lives_by live q all_q) (ap (is_at place) is ∙ at) (ap (λ (l : Option Live). number_at place l (r.made + 1)) is ∙ fresh_by q at) p there q is (later_by live q all_q)
   by_pending c live a b away all (Some p) there (Some q) is true at =
-      let all_q : AreLive (Some live) (Some q) r.made = subst (λ (l : Option Live). AreLive (Some live) l r.made) is all in
+      let all_q : GenerationsAreLive (Some live) (Some q) r.made = subst (λ (l : Option Live). GenerationsAreLive (Some live) l r.made) is all in
       to_pending c p live q a b there is away at all_q.2
   by_pending c live a b away all p there None is true at = absurd (cc)
   by_pending c live a b away all None there (Some q) is true at =
       absurd (subst (λ (l : Option Live). IsUse None None l pending r.policies) is
       (subst (λ (x : Option PolicyUse). IsUse x (option_map (λ (g : PolicyUse). policy_of g s) x) r.pending pending r.policies) there p_is))
 
-  by_current : (c : PolicyUse) (live : Live) → current_policy s ≡ Some c → r.current ≡ Some live → AreLive (Some live) r.pending r.made → (x : Bool) → (live.place == place) ≡ x → Alike
+  by_current : (c : PolicyUse) (live : Live) → current_policy s ≡ Some c → r.current ≡ Some live → GenerationsAreLive (Some live) r.pending r.made → (x : Bool) → (live.place == place) ≡ x → Alike
   by_current c live a b all true here = to_current c live a b here (lives_by live r.pending all) (pending_policy s) refl r.pending refl
   by_current c live a b all false away = by_pending c live a b away all (pending_policy s) refl r.pending refl (is_at place r.pending) refl
 
   by_live : (c : Option PolicyUse) → current_policy s ≡ c → (live : Option Live) → r.current ≡ live → (p : Option PolicyUse) → pending_policy s ≡ p
-      → (q : Option Live) → r.pending ≡ q → AreLive live q r.made → Alike
+      → (q : Option Live) → r.pending ≡ q → GenerationsAreLive live q r.made → Alike
   by_live None a None b None there None is all = to_first a b there is
   by_live None a None b (Some p) there None is all =
       absurd (subst (λ (l : Option Live). IsUse (Some p) (Some (policy_of p s)) l pending r.policies) is
@@ -277,14 +277,14 @@ module _ (s : Seen) (k : Kind) (e : ℕ) (r : RackSeen) (view : List SubSeen) (p
       absurd (subst (λ (l : Option Live). IsUse (Some c) (Some (policy_of c s)) l current r.policies) b
       (subst (λ (x : Option PolicyUse). IsUse x (option_map (λ (g : PolicyUse). policy_of g s) x) r.current current r.policies) a c_is))
   by_live (Some c) a (Some live) b p there q is all =
-      by_current c live a b (subst (λ (l : Option Live). AreLive (Some live) l r.made) (sym is) all) (live.place == place) refl
+      by_current c live a b (subst (λ (l : Option Live). GenerationsAreLive (Some live) l r.made) (sym is) all) (live.place == place) refl
 
   pub alike : Alike
   alike = by_live (current_policy s) refl r.current refl (pending_policy s) refl r.pending refl lives
 
-and_front : (a b : Bool) → (a && b) ≡ true → a ≡ true
-and_front true b e = refl
-and_front false b e = absurd (cc)
+and_prefix : (a b : Bool) → (a && b) ≡ true → a ≡ true
+and_prefix true b e = refl
+and_prefix false b e = absurd (cc)
 
 some_of : (o : Option ℕ) → is_some o ≡ true → (place : ℕ) × (o ≡ Some place)
 some_of None e = absurd (cc)
@@ -298,7 +298,7 @@ results_stamp_alike keeps s n k addresses e h is has =
     let place : (place : ℕ) × (first_place k r.policies ≡ Some place) = some_of (first_place k r.policies) (has_place k r.policies has) in
     let kept_rack : IsKept r = subst (λ (m : NetSeen). IsKept m.asker.rack) (sym is.is) (keeps is.calls is.policies) in
     let differ : kinds_differ r.policies ≡ true
-    = subst (λ (x : RackSeen). kinds_differ x.policies ≡ true) (sym follows.rack.1) (kinds-stay follows.rack.0 is.policies (and_front (kinds_differ is.policies) (has_policy kind.PickFirst is.policies) is.ready)) in
+    = subst (λ (x : RackSeen). kinds_differ x.policies ≡ true) (sym follows.rack.1) (kinds-stay follows.rack.0 is.policies (and_prefix (kinds_differ is.policies) (has_policy kind.PickFirst is.policies) is.ready)) in
     let view : List SubSeen = adopted_view k addresses (net_kept (listed k addresses n)) in
     let one : generations_after false (Some k) e gs ≡ adopted_stamps e k r (adopted_at view place.0 r) (number_at place.0 r.current (number_at place.0 r.pending (r.made + 1))) gs
     = alike s k e r view place.0 n.current n.pending h.uses_are h.current_is h.pending_is h.apart h.made place.1 differ kept_rack.live in

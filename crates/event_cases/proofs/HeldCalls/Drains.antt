@@ -1,7 +1,7 @@
 -- A drain is answered where channel and session keep what they do keep: that its event is answered changes nothing of it.
 use Rattle.attempt_cases.proofs.DrainEvents.Drains.{answered_by}
 use Rattle.event_cases.proofs.DrainedCalls.Calls.{calls_agree_by}
-use Rattle.channel_actions.proofs.Links.Greeted.Along.{greeted_stays}
+use Rattle.channel_actions.proofs.Links.Prefaced.Along.{prefaced_stays}
 use Rattle.event_cases.proofs.HeldCalls.Held.{known_calls_are_held}
 use Rattle.channel_actions.proofs.Streams.Own.Along.{streams_stay}
 use Rattle.event_cases.specs.HeldCalls.Laws.{KnownDrainsAreAnswered}
@@ -25,6 +25,6 @@ known_drains_are_answered x y r o s h at fresh timely case answers =
     (λ slot there. drain.few y r slot (subst (λ (z : Option Refusal). AnswersBy z o.event x y r) drain.kept answers) there)
     (λ t agrees next run over columns.
     calls_agree_by x y (after act s) t drain.link (min drain.room drained_limit) r agrees given run
-    (known_calls_are_held x y (after act s) t drain.link (min drain.room drained_limit) r agrees case.known.buffers (greeted_stays s act h.kept case.known.greeted next)
-    (streams_stay s act h.kept case.known.greeted case.known.streams next) given run over)
+    (known_calls_are_held x y (after act s) t drain.link (min drain.room drained_limit) r agrees case.known.buffers (prefaced_stays s act h.kept case.known.prefaced next)
+    (streams_stay s act h.kept case.known.prefaced case.known.streams next) given run over)
     columns)

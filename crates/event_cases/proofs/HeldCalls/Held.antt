@@ -8,7 +8,7 @@ use Rattle.channel_actions.proofs.KeptSessions.Lists.{counted_places}
 use Rattle.channel_actions.specs.Agrees.{Agrees}
 use Rattle.channel_actions.specs.Calls.{HasSlot}
 use Rattle.channel_actions.specs.DrainCalls.Laws.{IsLeftAt, IsOnlyStreamed, fed_some}
-use Rattle.channel_actions.specs.DrainWrites.Laws.{AreRows, IsRow, with_all_sent, writing}
+use Rattle.channel_actions.specs.DrainWrites.Laws.{RowsAgree, IsRow, with_all_sent, writing}
 use Rattle.channel_actions.specs.KeptSessions.Kept.{IsKept}
 use Rattle.channel_actions.specs.Links.{HasLink, IsGoing}
 use Rattle.event_cases.proofs.DrainedLines.Off.{drains_leave_lines}
@@ -18,13 +18,13 @@ use Rattle.channel_actions.proofs.Streams.Own.Others.{writes_leave_others}
 use Rattle.channel_actions.proofs.SoundBuffers.Sound.{buffers_are_sound_in}
 use Rattle.channel_actions.proofs.SoundBuffers.Streamed.{sound_feeds_hold}
 use Rattle.event_cases.proofs.WrittenResponses.Along.{writes_leave_items}
-use Rattle.event_cases.proofs.WrittenResponses.Silent.{unheard_are_silent}
+use Rattle.event_cases.proofs.WrittenResponses.Silent.{unreceived_are_silent}
 use Rattle.attempt_cases.specs.DrainEvents.Laws.{HasRun}
 use Rattle.event_cases.specs.DrainedCalls.Laws.{IsHeld}
-use Rattle.channel_actions.specs.GreetedLinks.Greeted.{AreGreeted}
+use Rattle.channel_actions.specs.PrefacedLinks.Prefaced.{LinksArePrefaced}
 use Rattle.event_cases.specs.HeldCalls.Laws.{KnownCallsAreHeld}
 use Rattle.channel_actions.specs.OwnStreams.Laws.{goes_on_at}
-use Rattle.channel_actions.specs.OwnStreams.Own.{AreOwnStreams}
+use Rattle.channel_actions.specs.OwnStreams.Own.{StreamsAreOwn}
 use Rattle.channel_actions.specs.SoundBuffers.Held.{BuffersAreSound}
 use Rattle.channel_core.specs.Books.{call_of, lines_of, slot_at, slot_of_tag}
 use Rattle.channel_core.specs.Draining.{DrainLeaves}
@@ -42,7 +42,7 @@ use Rattle.grpc_base.specs.declared.event.Reply.{Reply}
 use Rattle.grpc_frame.specs.Messages.{framed_all}
 use Rattle.h2_link.specs.Feeds.{Line}
 use Rattle.link_actions.specs.Sees.{IsFed, Sees, WaitAlike, odds, written_for}
-use Rattle.link_actions.specs.StreamActions.Sees.{AreUnheard}
+use Rattle.link_actions.specs.StreamActions.Sees.{NewStreamsAreUnreceived}
 use Rattle.session_actions.specs.Attempts.{is_of, is_outstanding}
 use Rattle.session_actions.specs.Reading.{opened_streams}
 use Rattle.session_actions.specs.Words.{changed, holds, numbered}
@@ -67,7 +67,7 @@ table_same xs zero = refl
 table_same xs (suc i) = refl
 
 -- the row of a place, before a drain gives streams
-row_before : (as_ bs : List Attempt) (i : ℕ) (b : Attempt) → AreRows as_ bs → slice_get bs i ≡ Some b → (a : Attempt) × (slice_get as_ i ≡ Some a) × IsRow a b
+row_before : (as_ bs : List Attempt) (i : ℕ) (b : Attempt) → RowsAgree as_ bs → slice_get bs i ≡ Some b → (a : Attempt) × (slice_get as_ i ≡ Some a) × IsRow a b
 row_before [] [] i b rows got = absurd (cc)
 row_before (a ∷ as_) (b ∷ bs) zero c rows got = let same : b ≡ c = (cc) in (a, refl, subst (λ (z : Attempt). IsRow a z) same rows.0)
 row_before (a ∷ as_) (b ∷ bs) (suc i) c rows got = row_before as_ bs i c rows.1 got
@@ -100,7 +100,7 @@ sent_number : (sent : List Sent) (l : Link) → (with_all_sent sent l).number �
 sent_number [] l = refl
 sent_number (x ∷ sent) l = sent_number sent (record l { traffic = l.traffic ++ traffic.Written x ∷ [] })
 
-module _ (x y : StateSeen) (s : Seen) (link room : ℕ) (r : Reply) (h : Agrees x s) (sound : BuffersAreSound x) (greeted : AreGreeted s) (own : AreOwnStreams s)
+module _ (x y : StateSeen) (s : Seen) (link room : ℕ) (r : Reply) (h : Agrees x s) (sound : BuffersAreSound x) (prefaced : LinksArePrefaced s) (own : StreamsAreOwn s)
     (leaves : DrainLeaves link room x r y) (t : Seen) (run : HasRun s t y link leaves.fed) (alive : run.before.over ≡ None) where
   abbrev l : Link
   l = run.before
@@ -149,16 +149,16 @@ module _ (x y : StateSeen) (s : Seen) (link room : ℕ) (r : Reply) (h : Agrees 
   }
 
   left_others : (i : ℕ) (a : Attempt) → slice_get s.attempts i ≡ Some a → goes_on_at l.number a ≡ false → (slice_get v.attempts i ≡ Some a) × (drained a v ≡ drained a s)
-  left_others i a got off = writes_leave_others run.run.sent l.number s v h.kept greeted own run.run.does i a got off
+  left_others i a got off = writes_leave_others run.run.sent l.number s v h.kept prefaced own run.run.does i a got off
 
-  unheard : AreUnheard l (length (opened_streams l))
-  unheard =
+  unreceived : NewStreamsAreUnreceived l (length (opened_streams l))
+  unreceived =
       let many : length (opened_streams l) ≡ has.slot.link.link.wire.opened
       = ap (λ (ns : List ℕ). length ns) going.streams.sees.sees.reads.opened ∙ odds_many has.slot.link.link.wire.opened in
-      subst (AreUnheard l) (sym many) going.streams.unheard
+      subst (NewStreamsAreUnreceived l) (sym many) going.streams.unreceived
 
   came_v : (c : Call) → came c v ≡ came c s
-  came_v c = writes_leave_items run.run.sent l.number s v l h.kept greeted line (unheard_are_silent l unheard) run.run.does c
+  came_v c = writes_leave_items run.run.sent l.number s v l h.kept prefaced line (unreceived_are_silent l unreceived) run.run.does c
 
   -- the lines of the others
   lines_by : (o : Option Drained) → DrainGives room x.links link (lines_of x.book) o y.links (lines_of fed) → (row : ℕ) (a : Attempt) → numbered s.attempts row ≡ Some a
@@ -278,5 +278,5 @@ module _ (x y : StateSeen) (s : Seen) (link room : ℕ) (r : Reply) (h : Agrees 
     held = record { came_same = came_v c; holds = holds_v }
 
 pub known_calls_are_held : KnownCallsAreHeld
-known_calls_are_held x y s t link room r h sound greeted own leaves run alive number c slot got there =
-    subst (λ (z : Seen). IsHeld s z c slot) (sym run.seen) (held x y s link room r h sound greeted own leaves t run alive number c slot got there)
+known_calls_are_held x y s t link room r h sound prefaced own leaves run alive number c slot got there =
+    subst (λ (z : Seen). IsHeld s z c slot) (sym run.seen) (held x y s link room r h sound prefaced own leaves t run alive number c slot got there)

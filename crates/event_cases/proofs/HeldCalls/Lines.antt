@@ -5,7 +5,7 @@ use Rattle.h2_link.specs.declared.live.LiveStream.{LiveStream}
 use Rattle.attempt_ledger.specs.declared.row.Placed.{Placed}
 use Rattle.channel_actions.specs.OwnStreams.Laws.{goes_on_at}
 use Rattle.link_actions.proofs.Opened.{unsorted}
-use Rattle.link_actions.specs.Sees.{AreFed, AreLive, IsFed, SeesLink, by_stream, written_for}
+use Rattle.link_actions.specs.Sees.{StreamsAreFed, StreamsAreLive, IsFed, SeesLink, by_stream, written_for}
 use Rattle.session_actions.specs.Attempts.{is_outstanding}
 use Rattle.session_actions.specs.Links.{link_of}
 use Rattle.session_actions.specs.Reading.{is_outstanding_on, outstanding_on, used}
@@ -43,7 +43,7 @@ module _ (l : Link) (s : Seen) (w : Wire) (g : ℕ → Line) (sees : SeesLink l 
   abbrev P : Attempt → Type 0
   P b = IsFed l s b (g b.place)
 
-  zip_fed : (xs : List LiveStream) (bs : List Attempt) → AreLive l xs bs → AreFed l s g xs bs → AllByRecursion P bs
+  zip_fed : (xs : List LiveStream) (bs : List Attempt) → StreamsAreLive l xs bs → StreamsAreFed l s g xs bs → AllByRecursion P bs
   zip_fed [] [] live fed = tt
   zip_fed (x ∷ xs) (b ∷ bs) live fed = (subst (λ (t : ℕ). IsFed l s b (g t)) live.0.tag fed.0, zip_fed xs bs live.1 fed.1)
   zip_fed [] (b ∷ bs) live fed = absurd live

@@ -3,7 +3,7 @@ use Rattle.std.proofs.Common.{◌≡◌, ◌++◌, ◌+◌, ◌∷◌, ap, refl,
 use Rattle.channel_actions.proofs.BoardActions.Boards.{one_boarded}
 use Rattle.event_cases.proofs.HeldKinds.Events.{config_is_of_event}
 use Rattle.event_cases.proofs.HeldKinds.Reads.{text_has}
-use Rattle.event_cases.specs.ConfigReads.Throttled.{AreThrottled}
+use Rattle.event_cases.specs.ConfigReads.Throttled.{BucketsFollowConfigs}
 use Rattle.event_cases.specs.HeldKinds.Laws.{ConfigsAreThrottled, HeldKindsAreThere, KindsAreThere}
 use Rattle.grpc_base.specs.Kinds.{KindsSeen, has_kind}
 use Rattle.grpc_base.specs.declared.event.ConfigFault.{ConfigFault}

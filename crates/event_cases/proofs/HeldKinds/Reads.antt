@@ -18,7 +18,7 @@ use Rattle.json_text.specs.Reading.{reading}
 use Rattle.json_text.specs.Tree.{Tree}
 use Rattle.service_config.proofs.Supported.{first_has}
 use Rattle.service_config.specs.Entries.{methods_in}
-use Rattle.service_config.specs.Reading.{config_at, config_in, config_in_tree, config_of, first_kind, kind_by, kind_in, named_kind, supported, told_by}
+use Rattle.service_config.specs.Reading.{config_at, config_in, config_in_tree, config_of, first_kind, kind_by, kind_in, named_kind, supported, reported_by}
 use Rattle.service_config.specs.declared.config.Config.{Config}
 
 bound : {A B : Type 0} (p : Result A Fault) (f : A → Result B Fault) (y : B) → (p >>= f) ≡ Ok y → (x : A) × ((p ≡ Ok x) × (f x ≡ Ok y))
@@ -72,12 +72,12 @@ tree_has kinds v c e =
     let two = bound (fields_at object.Config v) (λ fields. config_in kinds fields) c e in
     config_in_has kinds two.0 c two.1.1
 
-told_is : (r : Result Config Fault) (c : Config) → told_by r ≡ Ok c → r ≡ Ok c
-told_is (Ok d) c e = (cc)
-told_is (Err f) c e = absurd (cc)
+reported_is : (r : Result Config Fault) (c : Config) → reported_by r ≡ Ok c → r ≡ Ok c
+reported_is (Ok d) c e = (cc)
+reported_is (Err f) c e = absurd (cc)
 
 at_has : (kinds : KindsSeen) (r : Result Tree JsonFault) (c : Config) → config_at kinds r ≡ Ok c → has_kind kinds c.kind ≡ true
-at_has kinds (Ok v) c e = tree_has kinds v c (told_is (config_in_tree kinds v) c e)
+at_has kinds (Ok v) c e = tree_has kinds v c (reported_is (config_in_tree kinds v) c e)
 at_has kinds (Err f) c e = absurd (cc)
 
 pub text_has : (kinds : KindsSeen) (text : List ℕ) (c : Config) → config_of kinds text ≡ Ok c → has_kind kinds c.kind ≡ true

@@ -7,21 +7,21 @@ use Rattle.channel_actions.proofs.KeptSessions.Beside.{kept_moved}
 use Rattle.channel_actions.proofs.Moved.{agrees_moved}
 use Rattle.channel_actions.proofs.Settles.{is_with_open, with_open}
 use Rattle.channel_actions.specs.Agrees.{Agrees}
-use Rattle.channel_actions.specs.Calm.{IsAt}
+use Rattle.channel_actions.specs.Quiescent.{IsAt}
 use Rattle.channel_actions.specs.Stages.{IsAnswered}
 use Rattle.call_cases.proofs.CallPosts.Answered.{to_order}
-use Rattle.event_cases.proofs.ConfigReads.Behind.{last_more}
+use Rattle.event_cases.proofs.ConfigReads.After.{last_more}
 use Rattle.event_cases.proofs.ConfigReads.Read.{read_by, read_is, read_mid, read_now}
 use Rattle.event_cases.proofs.ConfigReads.Stirred.{reads_stir_policies}
 use Rattle.event_cases.proofs.HeldResults.Given.{IsRead, given}
 use Rattle.event_cases.proofs.HeldResults.Mid.{IsMid, mid_of}
 use Rattle.channel_actions.proofs.Posted.{kinds_same}
 use Rattle.event_cases.proofs.ResultEvents.BadConfigs as bad
-use Rattle.event_cases.specs.ConfigReads.Throttled.{AreThrottled}
+use Rattle.event_cases.specs.ConfigReads.Throttled.{BucketsFollowConfigs}
 use Rattle.event_cases.specs.HeldResults.Cases.{IsHeldResult, held_after}
 use Rattle.event_cases.specs.HeldResults.Laws.{HeldResultsAreAnswered}
 use Rattle.event_cases.specs.LeftLinks.Laws.{LeftLinksAreStamped}
-use Rattle.attempt_cases.specs.NetChains.Chains.{IsApartCalm}
+use Rattle.attempt_cases.specs.NetChains.Chains.{IsApartQuiescent}
 use Rattle.attempt_cases.specs.NetChains.Laws.{ChainsAreNext}
 use Rattle.channel_core.specs.Applying as channel
 use Rattle.channel_core.specs.Applying.{AnswersBy, answered_question, config_read, config_taken, misconfigured, readdressed_by, readdressed_to, resolved, then_readdressed}
@@ -118,8 +118,8 @@ module _ (x : StateSeen) (o : OpenEntry) (s : Seen) (h : Agrees x (with_open o s
       buckets = y.book.buckets;
       is = refl;
       current = refl;
-      calm = subst (λ (w : Seen). IsApartCalm (answered_with reply.Done o) w) same
-          (reads_stir_policies (Ok case.held) o (answered_with reply.Done o) v case.addresses case.config refl brings h.kept.book (to_order o v at.calm)
+      quiescent = subst (λ (w : Seen). IsApartQuiescent (answered_with reply.Done o) w) same
+          (reads_stir_policies (Ok case.held) o (answered_with reply.Done o) v case.addresses case.config refl brings h.kept.book (to_order o v at.quiescent)
           (ap (λ (w : Seen). w.current) same));
       entry_is = refl;
       entries = refl;
@@ -169,7 +169,7 @@ module _ (x : StateSeen) (o : OpenEntry) (s : Seen) (h : Agrees x (with_open o s
       buckets = x.book.buckets;
       is = refl;
       current = refl;
-      calm = reads_stir_policies (Err fault) o (answered_with (reply.BadConfig fault) o) v case.addresses case.config refl brings h.kept.book (to_order o v at.calm) refl;
+      quiescent = reads_stir_policies (Err fault) o (answered_with (reply.BadConfig fault) o) v case.addresses case.config refl brings h.kept.book (to_order o v at.quiescent) refl;
       entry_is = refl;
       entries = refl;
       setup = refl;

@@ -30,9 +30,9 @@ use Rattle.attempt_cases.proofs.NetSteps.Clocks.{clock_goes_on, entry_goes_on}
 use Rattle.event_cases.proofs.HeldResults.Mid.{IsMid}
 use Rattle.event_cases.proofs.HeldResults.Stepped.{mid_steps_keep}
 use Rattle.event_cases.specs.GenerationStamps.Stamps.{generations_after}
-use Rattle.channel_actions.specs.TheirLinks.Theirs.{AreTheirs}
-use Rattle.event_cases.specs.LeftLinks.Laws.{AreLeft, LeftLinksAreStamped}
-use Rattle.attempt_cases.specs.NetChains.Chains.{IsApartCalm, IsChained, IsPickThere}
+use Rattle.channel_actions.specs.TheirLinks.Theirs.{LinksAreTheirs}
+use Rattle.event_cases.specs.LeftLinks.Laws.{LinksAreLeft, LeftLinksAreStamped}
+use Rattle.attempt_cases.specs.NetChains.Chains.{IsApartQuiescent, IsChained, IsPickThere}
 use Rattle.attempt_cases.specs.NetChains.Laws.{ChainsAreNext}
 use Rattle.attempt_cases.specs.NetSteps.Steps.{netted}
 use Rattle.channel_core.specs.Applying.{readdressed_to}
@@ -53,7 +53,7 @@ use Rattle.net_actions.proofs.Resolving.{takes_result}
 use Rattle.net_actions.specs.Runs.{Becomes, IsOfCalls}
 use Rattle.net_actions.specs.Sees.{IsUse, Sees}
 use Rattle.policy_rack.specs.Kinds.{kinds_of}
-use Rattle.policy_rack.specs.Runs.{AreLive}
+use Rattle.policy_rack.specs.Runs.{GenerationsAreLive}
 use Rattle.policy_rack.specs.declared.live.Live.{Live}
 use Rattle.service_config.specs.declared.config.Config.{Config}
 use Rattle.session_actions.specs.Actions.{after}
@@ -70,7 +70,7 @@ use Rattle.session_actions.specs.declared.policy.PolicyUse.{PolicyUse}
 use Rattle.session_actions.specs.declared.seen.Seen.{Seen}
 use Rattle.session_actions.specs.declared.subchannel.Subchannel.{Subchannel}
 use Rattle.session_order.proofs.Posts.{answered_with}
-use Rattle.session_order.specs.Calm.{lacks_kind}
+use Rattle.session_order.specs.Quiescent.{lacks_kind}
 use Rattle.session_order.specs.declared.line.Line.TheVariants as line
 use Rattle.subchannel.specs.Boards.{kept}
 
@@ -86,7 +86,7 @@ pub record IsRead (x y : StateSeen) (r : Reply) (o : OpenEntry) (s t : Seen) (ki
   pub buckets : BucketsSeen
   pub is : y ≡ reread held resolver unconfigured buckets x
   pub current : t.current ≡ Some (answered_with r o)
-  pub calm : IsApartCalm (answered_with r o) t
+  pub quiescent : IsApartQuiescent (answered_with r o) t
   pub entry_is : entry t ≡ entry s
   pub entries : t.entries ≡ s.entries
   pub setup : t.setup ≡ s.setup
@@ -100,7 +100,7 @@ pub record IsRead (x y : StateSeen) (r : Reply) (o : OpenEntry) (s t : Seen) (ki
   pub no_frame : (w : Seen) → frame_action (answered_with r o) w ≡ None
 
 -- one is current where one is live
-some_of : (w : Seen) (k : Kind) (live pending : Option Live) (made : ℕ) (cs ps : List Address) (policies : List PolicySeen) → AreLive live pending made
+some_of : (w : Seen) (k : Kind) (live pending : Option Live) (made : ℕ) (cs ps : List Address) (policies : List PolicySeen) → GenerationsAreLive live pending made
     → IsUse (current_policy w) (option_map (λ (g : PolicyUse). policy_of g w) (current_policy w)) live cs policies
     → IsUse (pending_policy w) (option_map (λ (g : PolicyUse). policy_of g w) (pending_policy w)) pending ps policies
     → lacks_kind w k ≡ false → (c : Option PolicyUse) → current_policy w ≡ c → (p : Option PolicyUse) → pending_policy w ≡ p → is_some c ≡ true
@@ -117,7 +117,7 @@ some_of w k None None made cs ps policies lives u v has None e None d =
 
 module _ (chains : ChainsAreNext) (keeps : GenerationsAreKept) (left_stamped : LeftLinksAreStamped) (x y : StateSeen) (r : Reply) (o : OpenEntry) (s t : Seen) (k : Kind)
     (addresses : List Address) (h : Agrees x s) (q : IsRead x y r o s t k addresses) (list : IsAddressList addresses)
-    (has : has_kind (kinds_of x.net.asker.rack.policies) k ≡ true) (picks : IsPickThere s) (theirs : AreTheirs s) (fresh : o.turn ≡ None) where
+    (has : has_kind (kinds_of x.net.asker.rack.policies) k ≡ true) (picks : IsPickThere s) (theirs : LinksAreTheirs s) (fresh : o.turn ≡ None) where
   abbrev p : OpenEntry
   p = answered_with r o
 
@@ -141,7 +141,7 @@ module _ (chains : ChainsAreNext) (keeps : GenerationsAreKept) (left_stamped : L
   w = b.end
 
   chain : IsChained b.runs.actions p t w
-  chain = chains b.runs.actions p t w b.runs.does q.current q.calm picks_now
+  chain = chains b.runs.actions p t w b.runs.does q.current q.quiescent picks_now
 
   boarded : IsBoarded t w
   boarded = boards_leave_rest b.runs.actions t w chain.board chain.does
@@ -185,7 +185,7 @@ module _ (chains : ChainsAreNext) (keeps : GenerationsAreKept) (left_stamped : L
       ∙ sym (ap (λ (b : Bool). shut_links (if b then net_taken k addresses y.net else y.net).board y.net.links) has_now)
       ∙ ap (λ (n : NetSeen). shut_links N.board n.links) net_is
 
-  are_left : AreLeft x s w N gone
+  are_left : LinksAreLeft x s w N gone
   are_left = record {
     attempts = ap (λ (v : Seen). v.attempts) boarded ∙ q.attempts;
     links = links_same ∙ q.links;
@@ -218,12 +218,12 @@ module _ (chains : ChainsAreNext) (keeps : GenerationsAreKept) (left_stamped : L
   orderly : IsOfCalls N
   orderly = one_call_more (Resolved k addresses) y.net q.mid.orderly
 
-  lives : AreLive N.asker.rack.current N.asker.rack.pending N.asker.rack.made
-  lives = subst (λ (n : NetSeen). AreLive n.asker.rack.current n.asker.rack.pending n.asker.rack.made) (sym orderly.is) (keeps orderly.calls orderly.policies).live
+  lives : GenerationsAreLive N.asker.rack.current N.asker.rack.pending N.asker.rack.made
+  lives = subst (λ (n : NetSeen). GenerationsAreLive n.asker.rack.current n.asker.rack.pending n.asker.rack.made) (sym orderly.is) (keeps orderly.calls orderly.policies).live
 
   has_kind_now : lacks_kind w k ≡ false
   has_kind_now =
-      sym (ap (λ (c : Option Kind). holds (lacks_kind w) c) (ap (wanted_kind p) boarded ∙ q.wanted)) ∙ chain.calm line.Begin
+      sym (ap (λ (c : Option Kind). holds (lacks_kind w) c) (ap (wanted_kind p) boarded ∙ q.wanted)) ∙ chain.quiescent line.Begin
 
   current_is : is_some (current_policy w) ≡ true
   current_is =
@@ -260,7 +260,7 @@ module _ (chains : ChainsAreNext) (keeps : GenerationsAreKept) (left_stamped : L
         entries = ap (λ (v : Seen). v.entries) boarded ∙ q.entries;
         setup = ap (λ (v : Seen). v.setup) boarded ∙ q.setup;
       };
-      at = record { current = chain.current; stage_is = refl; calm = of_order p w chain.calm };
+      at = record { current = chain.current; stage_is = refl; quiescent = of_order p w chain.quiescent };
       agrees = subst (λ (v : StateSeen). Agrees v w) (sym given_is) agrees;
     };
     reply = refl;

@@ -28,11 +28,11 @@ shut_same conn.Ready = refl
 shut_same conn.Failure = refl
 shut_same conn.Shutdown = refl
 
--- the front of a list that was mapped
-get_front : (f : SubRecord → SubRecord) (board more : List SubRecord) (i : ℕ) (r : SubRecord) → slice_get board i ≡ Some r → slice_get (map f board ++ more) i ≡ Some (f r)
-get_front f [] more i r e = absurd (cc)
-get_front f (q ∷ board) more zero r e = let one : q ≡ r = (cc) in ap (λ (x : SubRecord). Some (f x)) one
-get_front f (q ∷ board) more (suc i) r e = get_front f board more i r e
+-- the prefix of a list that was mapped
+get_prefix : (f : SubRecord → SubRecord) (board more : List SubRecord) (i : ℕ) (r : SubRecord) → slice_get board i ≡ Some r → slice_get (map f board ++ more) i ≡ Some (f r)
+get_prefix f [] more i r e = absurd (cc)
+get_prefix f (q ∷ board) more zero r e = let one : q ≡ r = (cc) in ap (λ (x : SubRecord). Some (f x)) one
+get_prefix f (q ∷ board) more (suc i) r e = get_prefix f board more i r e
 
 -- one that was shut down is kept so
 stays_shut : (current pending : List Address) (r : SubRecord) → is_shut r.state ≡ true → kept_or_shut current pending r ≡ r
@@ -46,9 +46,9 @@ some_shut (Some b) e = (b, (refl, e))
 is_itself : (n : ℕ) → (n == n) ≡ true
 is_itself n = grind (arith, nat_tests)
 
-or_behind : (a b : Bool) → b ≡ true → (a || b) ≡ true
-or_behind true b e = refl
-or_behind false b e = e
+or_after : (a b : Bool) → b ≡ true → (a || b) ≡ true
+or_after true b e = refl
+or_after false b e = e
 
 module _ (P : ℕ → Bool) (sub link : ℕ) (off : P sub ≡ false) where
   abbrev gone : List OwnLink → List ℕ
@@ -64,7 +64,7 @@ module _ (P : ℕ → Bool) (sub link : ℕ) (off : P sub ≡ false) where
       let one : own.link ≡ link = (cc) in
       ap (λ (k : ℕ). (k == link) || list_any (λ (j : ℕ). j == link) (gone links)) one ∙ ap (λ (b : Bool). b || list_any (λ (j : ℕ). j == link) (gone links)) (is_itself link)
   left_by own links false true is p e next = next e
-  left_by own links false false is p e next = or_behind (own.link == link) (list_any (λ (k : ℕ). k == link) (gone links)) (next e)
+  left_by own links false false is p e next = or_after (own.link == link) (list_any (λ (k : ℕ). k == link) (gone links)) (next e)
 
   pub left_in : (links : List OwnLink) → link_of links sub ≡ Some link → list_any (λ (k : ℕ). k == link) (gone links) ≡ true
   left_in [] e = absurd (cc)
@@ -88,7 +88,7 @@ module _ (s t : Seen) (n m : NetSeen) (current pending : List Address) (before :
       let both : Both here.0 n.board i (1 + i) n.links = both_at 1 s.subs n.board n.links i here.0 before.subs_are here.1.0 in
       let off : is_shut both.r.state ≡ true = ap is_shut (sym both.is.state) ∙ shut_same here.0.state ∙ here.1.1 in
       let at : slice_get m.board i ≡ Some both.r
-      = ap (λ (l : List SubRecord). slice_get l i) board ∙ get_front (kept_or_shut current pending) n.board _ i both.r both.at
+      = ap (λ (l : List SubRecord). slice_get l i) board ∙ get_prefix (kept_or_shut current pending) n.board _ i both.r both.at
       ∙ ap (λ (r : SubRecord). Some r) (stays_shut current pending both.r off) in
       shut_there i both.r at off (slice_get t.subs i) refl
 

@@ -15,10 +15,10 @@ use Rattle.channel_actions.specs.KeptSessions.Laws.{KeptAlong}
 use Rattle.channel_actions.proofs.BoardActions.Boards.{boards_leave_rest, of_none}
 use Rattle.event_cases.proofs.HeldResults.Mid.{IsMid}
 use Rattle.attempt_cases.proofs.NetSteps.Passing.{passes_none}
-use Rattle.channel_actions.specs.BoardActions.Boards.{AreOfBoard, IsBoarded, boarded, is_of_board}
+use Rattle.channel_actions.specs.BoardActions.Boards.{ActionsAreOfBoard, IsBoarded, boarded, is_of_board}
 use Rattle.attempt_cases.specs.NetSteps.Steps.{IsNetStep, netted}
 use Rattle.call_cases.specs.OtherCalls.Laws.{AllCallsStay, SetsApart, SetsStay}
-use Rattle.call_cases.specs.OtherCalls.Others.{AreOfCall, BooksApart, GoesApart, IsBooked, IsOfCall}
+use Rattle.call_cases.specs.OtherCalls.Others.{ActionsAreOfCall, BooksApart, GoesApart, IsBooked, IsOfCall}
 use Rattle.session_actions.specs.Actions.{after}
 use Rattle.session_actions.specs.Policies.{current_policy}
 use Rattle.session_actions.specs.Sessions.{Does}
@@ -40,7 +40,7 @@ of_call s a kept board = record {
   passes = λ c at other. passes_none s a c kept board;
 }
 
-all_of_call : KeptAlong → (actions : List Action) (s t : Seen) → IsKept s → AreOfBoard actions → Does actions s t → AreOfCall 0 actions s
+all_of_call : KeptAlong → (actions : List Action) (s t : Seen) → IsKept s → ActionsAreOfBoard actions → Does actions s t → ActionsAreOfCall 0 actions s
 all_of_call kept_along [] s t kept board does = tt
 all_of_call kept_along (a ∷ actions) s t kept board does = (
   of_call s a kept board.0,
@@ -103,11 +103,11 @@ module _ (calls_stay : AllCallsStay) (sets_stay : SetsStay) (kept_along : KeptAl
     sets_for : SeesSets z (boarded s t)
     sets_for = record {
       queue = h.sets.queue;
-      patient = h.sets.patient;
+      ready_waiters = h.sets.ready_waiters;
       dues = record { rising = h.sets.dues.rising; exact = λ m n. h.sets.dues.exact m n ∙ sym (dues_same m n) };
       deadlines = h.sets.deadlines;
-      bare = h.sets.bare;
-      impatient = h.sets.impatient;
+      awaiting_config = h.sets.awaiting_config;
+      fail_fast = h.sets.fail_fast;
       outstanding = h.sets.outstanding;
       resets = h.sets.resets;
     }

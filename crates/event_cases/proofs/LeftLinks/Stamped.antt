@@ -7,10 +7,10 @@ use Rattle.channel_actions.proofs.Stamps.{counted_at, numbered_map}
 use Rattle.channel_actions.specs.Agrees.{Agrees}
 use Rattle.channel_actions.specs.Columns.{links_noted}
 use Rattle.channel_actions.specs.Links.{HasLink}
-use Rattle.channel_actions.specs.Sets.{AreExactly, is_in_outstanding}
-use Rattle.channel_actions.specs.TheirLinks.Theirs.{AreTheirs}
+use Rattle.channel_actions.specs.Sets.{PairsAreExactly, is_in_outstanding}
+use Rattle.channel_actions.specs.TheirLinks.Theirs.{LinksAreTheirs}
 use Rattle.call_cases.proofs.ConfiguredCalls.Lists.{same_numbered, same_words}
-use Rattle.event_cases.specs.LeftLinks.Laws.{AreLeft, LeftLinksAreStamped}
+use Rattle.event_cases.specs.LeftLinks.Laws.{LinksAreLeft, LeftLinksAreStamped}
 use Rattle.channel_core.proofs.BookLaws.{number_changed, number_other}
 use Rattle.channel_core.specs.Books.{link_at}
 use Rattle.channel_core.specs.States.{StateSeen}
@@ -185,7 +185,7 @@ found : {X : Type 0} (o : Option X) → is_some o ≡ true → (x : X) × (o ≡
 found None e = absurd (let bad : false ≡ true = e in (cc))
 found (Some x) e = (x, refl)
 
-module _ (x : StateSeen) (s t : Seen) (n : NetSeen) (gone : List ℕ) (h : Agrees x s) (theirs : AreTheirs s) (w : AreLeft x s t n gone) where
+module _ (x : StateSeen) (s t : Seen) (n : NetSeen) (gone : List ℕ) (h : Agrees x s) (theirs : LinksAreTheirs s) (w : LinksAreLeft x s t n gone) where
   abbrev z : StateSeen
   z = record x { net = n }
 
@@ -200,7 +200,7 @@ module _ (x : StateSeen) (s t : Seen) (n : NetSeen) (gone : List ℕ) (h : Agree
     there : numbered t.links k ≡ Some l
     there = ap (λ (ls : List Link). numbered ls k) w.links ∙ here
 
-    out : AreExactly x.outstanding (is_in_outstanding t)
+    out : PairsAreExactly x.outstanding (is_in_outstanding t)
     out =
         exactly_by x.outstanding (is_in_outstanding s) (is_in_outstanding t) h.sets.outstanding
         (λ link row. ap (λ (xs : List Attempt). is_in_outstanding (record s { attempts = xs }) link row) (sym attempts_same))

@@ -16,7 +16,7 @@ use Rattle.grpc_base.specs.Limits.{message_limit}
 use Rattle.link_actions.proofs.LossActions.Stays.{over_stays}
 use Rattle.link_actions.specs.LossActions.Laws.{IsQuiet}
 use Rattle.link_actions.specs.LossActions.Sees.{SeesOver, WasOn}
-use Rattle.link_actions.specs.Sees.{ArePlaced}
+use Rattle.link_actions.specs.Sees.{AttemptsStandInPlace}
 use Rattle.link_actions.specs.StreamActions.Laws.{IsOn}
 use Rattle.session_actions.specs.AttemptEnds.{end_of, lost_end, outcome_of, outcome_on, unsent_end, wire_end}
 use Rattle.session_actions.specs.Attempts.{is_outstanding, is_over}
@@ -33,7 +33,7 @@ use Rattle.session_actions.specs.declared.link.Link.{Link}
 use Rattle.session_actions.specs.declared.response.Outcome.{Outcome}
 use Rattle.session_actions.specs.declared.seen.Seen.{Seen}
 use Rattle.session_order.proofs.Changed.{passes_not}
-use Rattle.session_order.specs.Calm.{is_to_cut}
+use Rattle.session_order.specs.Quiescent.{is_to_cut}
 
 -- the call of an attempt, by what its limit hangs on
 pub limit_by : (s t : Seen) (o q : Option Call) → option_map served q ≡ option_map served o → t.configs ≡ s.configs
@@ -241,7 +241,7 @@ module _ (s t : Seen) (kept_s : IsKept s) (kept_t : IsKept t) (passed : IsPassed
     quiet_still = all_quiet t.attempts (λ i b at. quiet_one (suc i) b at)
 
   -- the link that is lost
-  module _ (l m : Link) (over : SeesOver l s) (there : numbered t.links l.number ≡ Some m) (same : unqueued m ≡ unqueued l) (places : ArePlaced 1 t.attempts) where
+  module _ (l m : Link) (over : SeesOver l s) (there : numbered t.links l.number ≡ Some m) (same : unqueued m ≡ unqueued l) (places : AttemptsStandInPlace 1 t.attempts) where
     number_is : m.number ≡ l.number
     number_is = ap (λ (k : Link). k.number) same
 

@@ -1,9 +1,9 @@
 -- The event of a lost link is answered.
 use Rattle.std.proofs.Common.{◌≡◌, ◌++◌, ◌<◌, ap, refl, subst, sym, ◌∙◌, Bool, true, false, List, Option, None, ℕ, if◌then◌else◌, length}
-use Rattle.channel_actions.proofs.BoardActions.Calm.{of_order}
+use Rattle.channel_actions.proofs.BoardActions.Quiescent.{of_order}
 use Rattle.channel_actions.proofs.Does.{does_on, none_on}
 use Rattle.channel_actions.specs.Agrees.{Agrees}
-use Rattle.channel_actions.specs.Calm.{IsAt}
+use Rattle.channel_actions.specs.Quiescent.{IsAt}
 use Rattle.channel_actions.specs.GoingCalls.Laws.{LossesGoOn}
 use Rattle.channel_actions.specs.Stages.{IsAnswered}
 use Rattle.event_cases.proofs.LostLinks.Downs.{after_, loss_goes_on, lost, lost_over, own, q}
@@ -17,7 +17,7 @@ use Rattle.event_cases.specs.LostLinks.Losses.{HasLost, IsLostLink}
 use Rattle.channel_core.specs.Applying.{AnswersBy}
 use Rattle.channel_core.specs.Arrivals.{lost as lose}
 use Rattle.channel_core.specs.States.{StateSeen}
-use Rattle.channel_core.specs.Steps.{buried}
+use Rattle.channel_core.specs.Steps.{marked_dead}
 use Rattle.grpc_base.specs.declared.event.Event.{Event}
 use Rattle.grpc_base.specs.declared.event.Event.TheVariants as event
 use Rattle.grpc_base.specs.declared.event.Refusal.{Refusal}
@@ -32,7 +32,7 @@ use Rattle.session_actions.specs.declared.entry.OpenEntry.{OpenEntry}
 use Rattle.session_actions.specs.declared.entry.Stage.TheVariants as stage
 use Rattle.session_actions.specs.declared.link.LinkOver.TheVariants as over
 use Rattle.session_actions.specs.declared.seen.Seen.{Seen}
-use Rattle.session_order.proofs.Calms.{calm_is_exact}
+use Rattle.session_order.proofs.Quiescence.{quiescence_is_exact}
 
 none_if : (q : Option Action) → q ≡ None → (b : Bool) → (if b then q else None) ≡ None
 none_if q none true = none
@@ -64,11 +64,11 @@ module _ (losses : LossesGoOn) (ends : OneAttemptEnds) (stays : EndsStayHeld) (x
   few : length t.attempts < 18446744073709551615
   few = subst (λ (xs : List Attempt). length xs < 18446744073709551615) (sym rows_same) case.few
 
-  ended : HasLost link (buried link x) p t
+  ended : HasLost link (marked_dead link x) p t
   ended =
-      subst (λ (n : ℕ). HasLost n (buried link x) p t) number
-      (losses_end_in_turn losses stays ends (lost x o s h at timely case.known.own case.known.early link case.event_is case.kept) (buried link x) p t
-      (loss_goes_on x o s h at timely case.known.own case.known.early link case.event_is case.kept case.known.greeted case.known.streams case.rising case.known.going case.held) few)
+      subst (λ (n : ℕ). HasLost n (marked_dead link x) p t) number
+      (losses_end_in_turn losses stays ends (lost x o s h at timely case.known.own case.known.early link case.event_is case.kept) (marked_dead link x) p t
+      (loss_goes_on x o s h at timely case.known.own case.known.early link case.event_is case.kept case.known.prefaced case.known.streams case.rising case.known.going case.held) few)
 
   pub lost_answered : IsAnswered (lose link true x) reply.Done o s
   lost_answered = record {
@@ -85,7 +85,7 @@ module _ (losses : LossesGoOn) (ends : OneAttemptEnds) (stays : EndsStayHeld) (x
         entries = ended.same.entries ∙ ap (λ (z : Seen). z.entries) (dn over.Lost (action.LinkLost link) link x o s over_).boarded;
         setup = ended.same.setup ∙ ap (λ (z : Seen). z.setup) (dn over.Lost (action.LinkLost link) link x o s over_).boarded;
       };
-      at = record { current = ended.current; stage_is = ended.stage_is; calm = of_order calm_is_exact ended.entry ended.seen ended.calm };
+      at = record { current = ended.current; stage_is = ended.stage_is; quiescent = of_order quiescence_is_exact ended.entry ended.seen ended.quiescent };
       agrees = ended.agrees;
     };
     reply = ended.reply;

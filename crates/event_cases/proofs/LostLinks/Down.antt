@@ -8,8 +8,8 @@ use Rattle.channel_actions.proofs.Gone.{all_numbered}
 use Rattle.channel_actions.proofs.Stamps.{counted_at}
 use Rattle.channel_actions.specs.BoardActions.Boards.{IsBoarded}
 use Rattle.channel_actions.specs.KeptCalls.Early.{is_linked_up}
-use Rattle.call_cases.specs.OtherCalls.Others.{AreOfCall}
-use Rattle.channel_actions.specs.OwnLinks.Own.{AreOwnLinks}
+use Rattle.call_cases.specs.OtherCalls.Others.{ActionsAreOfCall}
+use Rattle.channel_actions.specs.OwnLinks.Own.{LinksAreOwn}
 use Rattle.event_cases.proofs.LostLinks.Stirred.{before_link, down_live, first_only, linked_by, live_now}
 use Rattle.attempt_cases.proofs.NetSteps.Stepped.{of_call}
 use Rattle.attempt_cases.proofs.NetSteps.Subbed.{subbed_generations, subbed_links, subbed_shut, subbed_subs}
@@ -40,8 +40,8 @@ use Rattle.session_actions.specs.declared.seen.Seen.{Seen}
 use Rattle.session_actions.specs.declared.subchannel.Subchannel.{Subchannel}
 use Rattle.session_order.proofs.Changed.{changed_away, changed_here, none_from, passes_not}
 use Rattle.session_order.proofs.Turns.{down_leaves}
-use Rattle.session_order.specs.Calm as order
-use Rattle.session_order.specs.Calm.{IsStill, is_link_new}
+use Rattle.session_order.specs.Quiescent as order
+use Rattle.session_order.specs.Quiescent.{IsStill, is_link_new}
 use Rattle.session_order.specs.Lines.{is_line}
 use Rattle.session_order.specs.declared.line.Line.{Line}
 use Rattle.session_order.specs.declared.line.Line.TheVariants as line
@@ -49,12 +49,12 @@ use Rattle.channel_actions.specs.KeptSessions.Kept.{IsKept}
 use Rattle.session_actions.specs.Events.{is_loss}
 use Rattle.session_actions.specs.Refusals.{is_shutdown_sub}
 use Rattle.session_order.proofs.Boards.{with_sub_current}
-use Rattle.session_order.proofs.Calms.{first_line_gives}
+use Rattle.session_order.proofs.Quiescence.{first_line_gives}
 
 -- the session with these links, at a point at which nothing follows at once but that, and ends of attempts
 pub record GoesDown (ls : List Link) (wants : Bool) (now : Option OpenEntry) (link : ℕ) (x : StateSeen) (o p : OpenEntry) (s : Seen) : Type 0 where
-  pub calm : order.IsCalm o s
-  pub own : AreOwnLinks s
+  pub quiescent : order.IsQuiescent o s
+  pub own : LinksAreOwn s
   pub boards : list_all is_linked_up s.subs ≡ true
   pub kept_s : IsKept s
   pub net : Sees s x.net
@@ -77,7 +77,7 @@ pub record IsDown (link : ℕ) (x : StateSeen) (p : OpenEntry) (s v : Seen) : Ty
   pub does : Does actions v seen
   pub posts : posted_in actions ≡ []
   pub boarded : IsBoarded v seen
-  pub of : AreOfCall 0 actions v
+  pub of : ActionsAreOfCall 0 actions v
   pub current : seen.current ≡ Some p
   pub links : seen.links ≡ v.links
   pub generations : map (λ (g : PolicyUse). g.generation) seen.policies ≡ map (λ (g : PolicyUse). g.generation) s.policies
@@ -126,7 +126,7 @@ module _ (ls : List Link) (wants : Bool) (now : Option OpenEntry) (link : ℕ) (
       ap (λ (q : Option Link). (is_connecting c.state && holds has_settings q) || holds is_going_down q) (same_by c c.link refl other)
 
   quiet_sub : (j : ℕ) (c : Subchannel) → numbered s.subs j ≡ Some c → is_link_new s c ≡ false
-  quiet_sub j c here = passes_not (is_link_new s) s.subs j c (g.calm line.Link) here
+  quiet_sub j c here = passes_not (is_link_new s) s.subs j c (g.quiescent line.Link) here
 
   none_action : (u : Seen) (c : Subchannel) → is_link_new u c ≡ false → link_action u c ≡ None
   none_action u c e =

@@ -1,23 +1,23 @@
 -- A link is lost: it is over, its subchannel goes down, and the first attempt on it is next to end. Nothing else follows at once then, and the responses of other links
 -- go on.
 use Rattle.channel_actions.proofs.Answering.{event_next, replied_entry}
-use Rattle.channel_actions.proofs.BoardActions.Calm.{to_order}
+use Rattle.channel_actions.proofs.BoardActions.Quiescent.{to_order}
 use Rattle.channel_actions.proofs.Dialling.{applied_next, open_in, unshut_by}
 use Rattle.channel_actions.proofs.KeptSessions.Along.{kept_stays}
-use Rattle.channel_actions.proofs.Links.Greeted.Along.{greeted_along}
+use Rattle.channel_actions.proofs.Links.Prefaced.Along.{prefaced_along}
 use Rattle.channel_actions.proofs.Streams.Own.Along.{streams_along}
 use Rattle.channel_actions.proofs.Refusing.{link_same}
 use Rattle.channel_actions.proofs.Stamps.{counted_at}
 use Rattle.channel_actions.specs.Agrees.{Agrees}
-use Rattle.channel_actions.specs.Calm.{IsAt}
-use Rattle.call_cases.specs.EndsFollow.Cuts.{AreUnreset}
+use Rattle.channel_actions.specs.Quiescent.{IsAt}
+use Rattle.call_cases.specs.EndsFollow.Cuts.{NoStreamIsToReset}
 use Rattle.channel_actions.specs.GoingCalls.Going.{CallsGoOn}
 use Rattle.channel_actions.specs.KeptCalls.Early.{IsEarlyKept}
 use Rattle.channel_actions.specs.KeptSessions.Kept.{IsKept}
 use Rattle.channel_actions.specs.Links.{HasLink, IsGoing, lines_in}
-use Rattle.channel_actions.specs.GreetedLinks.Greeted.{AreGreeted}
-use Rattle.channel_actions.specs.OwnStreams.Own.{AreOwnStreams}
-use Rattle.channel_actions.specs.OwnLinks.Own.{AreOwnLinks}
+use Rattle.channel_actions.specs.PrefacedLinks.Prefaced.{LinksArePrefaced}
+use Rattle.channel_actions.specs.OwnStreams.Own.{StreamsAreOwn}
+use Rattle.channel_actions.specs.OwnLinks.Own.{LinksAreOwn}
 use Rattle.event_cases.proofs.LostLinks.Over.{GoesOver}
 use Rattle.event_cases.proofs.LostLinks.OverAgrees as agreeing
 use Rattle.event_cases.proofs.LostLinks.OverAgrees.{same_slots}
@@ -28,7 +28,7 @@ use Rattle.end_cases.specs.AttemptEnds.Runs.{RunsRise}
 use Rattle.event_cases.specs.LostLinks.Losses.{LossGoesOn}
 use Rattle.channel_core.specs.Applying as channel
 use Rattle.channel_core.specs.States.{StateSeen}
-use Rattle.channel_core.specs.Steps.{buried, stamped_gone}
+use Rattle.channel_core.specs.Steps.{marked_dead, stamped_gone}
 use Rattle.grpc_base.specs.declared.event.Event.TheVariants as event
 use Rattle.grpc_base.specs.declared.event.Event.{Event}
 use Rattle.grpc_base.specs.declared.event.Refusal.TheVariants as refusal
@@ -51,10 +51,10 @@ use Rattle.session_actions.specs.declared.link.Link.{Link}
 use Rattle.session_actions.specs.declared.link.LinkOver.TheVariants as over
 use Rattle.session_actions.specs.declared.link.LinkOver.{LinkOver}
 use Rattle.session_actions.specs.declared.seen.Seen.{Seen}
-use Rattle.session_order.proofs.Calms.{calm_is_exact}
+use Rattle.session_order.proofs.Quiescence.{quiescence_is_exact}
 use Rattle.session_order.proofs.Overs.{lost_leaves}
-use Rattle.session_order.specs.Calm as order
-use Rattle.session_order.specs.Calm.{IsStill}
+use Rattle.session_order.specs.Quiescent as order
+use Rattle.session_order.specs.Quiescent.{IsStill}
 use Rattle.session_order.specs.Lines.{is_line}
 use Rattle.session_order.specs.declared.line.Line.TheVariants as line
 use Rattle.session_order.specs.declared.line.Line.{Line}
@@ -73,7 +73,7 @@ none_over : (o : Option LinkOver) (b : Bool) → (is_some o || b) ≡ false → 
 none_over None b e = refl
 none_over (Some z) b e = absurd (cc)
 
-module _ (x : StateSeen) (o : OpenEntry) (s : Seen) (h : Agrees x s) (at : IsAt stage.Event o s) (timely : next_deadline s ≡ None) (own_links : AreOwnLinks s)
+module _ (x : StateSeen) (o : OpenEntry) (s : Seen) (h : Agrees x s) (at : IsAt stage.Event o s) (timely : next_deadline s ≡ None) (own_links : LinksAreOwn s)
     (early : IsEarlyKept s) (link : ℕ) (is : o.event ≡ event.LinkLost link) (kept : channel.refusal_of o.event x ≡ None) where
   abbrev pub p : OpenEntry
   p = replied_entry reply.Done o
@@ -120,11 +120,11 @@ module _ (x : StateSeen) (o : OpenEntry) (s : Seen) (h : Agrees x s) (at : IsAt 
   pub kept_v : IsKept v
   kept_v = subst IsKept after_is (kept_stays s (action.LinkLost link) h.kept next)
 
-  pub calm_s : order.IsCalm o s
-  calm_s = to_order calm_is_exact o s at.calm
+  pub quiescent_s : order.IsQuiescent o s
+  quiescent_s = to_order quiescence_is_exact o s at.quiescent
 
   pub still_v : (m : Line) → is_line m line.WireEnd ≡ false → is_line m line.Link ≡ false → IsStill m p v
-  still_v m e f = lost_leaves link o s at.current is m p current_v (unstirred link m e f) (calm_s m)
+  still_v m e f = lost_leaves link o s at.current is m p current_v (unstirred link m e f) (quiescent_s m)
 
   -- the link goes on until then
   pub goes : IsGoing l s (h.links.each link l there).slot
@@ -134,7 +134,7 @@ module _ (x : StateSeen) (o : OpenEntry) (s : Seen) (h : Agrees x s) (at : IsAt 
   lost_over = record {
     agrees = h;
     current = at.current;
-    calm = calm_s;
+    quiescent = quiescent_s;
     own = own_links;
     boards = early.boards;
     link_ = l;
@@ -164,8 +164,8 @@ module _ (x : StateSeen) (o : OpenEntry) (s : Seen) (h : Agrees x s) (at : IsAt 
   pub own : lost.number ≡ link
   own = starts.own over.Lost (action.LinkLost link) link x o s lost_over
 
-  module _ (greeted : AreGreeted s) (streams : AreOwnStreams s) (rising : RunsRise s) (go : CallsGoOn x) (held : AreHeld x) where
-    pub loss_goes_on : LossGoesOn lost (buried link x) q after_
+  module _ (prefaced : LinksArePrefaced s) (streams : StreamsAreOwn s) (rising : RunsRise s) (go : CallsGoOn x) (held : AreHeld x) where
+    pub loss_goes_on : LossGoesOn lost (marked_dead link x) q after_
     loss_goes_on =
         let dn = agreeing.dn over.Lost (action.LinkLost link) link x o s lost_over in
         let those : List Action = agreeing.actions over.Lost (action.LinkLost link) link x o s lost_over in
@@ -177,11 +177,11 @@ module _ (x : StateSeen) (o : OpenEntry) (s : Seen) (h : Agrees x s) (at : IsAt 
           still = dn.still;
           over = starts.over_after over.Lost (action.LinkLost link) link x o s lost_over;
           quiet = starts.quiet_after over.Lost (action.LinkLost link) link x o s lost_over;
-          agrees = subst (λ (n : ℕ). Agrees (stamped_gone n (buried link x)) after_) (sym own)
+          agrees = subst (λ (n : ℕ). Agrees (stamped_gone n (marked_dead link x)) after_) (sym own)
               (agreeing.agrees over.Lost (action.LinkLost link) link x o s lost_over x.links (same_slots link x));
-          unreset = subst AreUnreset (sym dn.boarded) early.resets;
-          greeted = greeted_along those s after_ h.kept greeted does;
-          streams = streams_along those s after_ h.kept greeted streams does;
+          unreset = subst NoStreamIsToReset (sym dn.boarded) early.resets;
+          prefaced = prefaced_along those s after_ h.kept prefaced does;
+          streams = streams_along those s after_ h.kept prefaced streams does;
           rising = subst RunsRise (sym dn.boarded) rising;
           going = record { calls = go.calls; allows = go.allows };
           held = held;

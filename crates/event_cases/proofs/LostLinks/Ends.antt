@@ -18,12 +18,12 @@ use Rattle.channel_actions.proofs.Links.Frames.Untold.{actions_are_untold}
 use Rattle.channel_actions.proofs.Lines.{all_at_places}
 use Rattle.channel_actions.proofs.Stamps.{counted_at, map_same}
 use Rattle.channel_actions.specs.GoingCalls.Going.{CallsGoOn}
-use Rattle.channel_actions.specs.GreetedLinks.Greeted.{AreGreeted}
+use Rattle.channel_actions.specs.PrefacedLinks.Prefaced.{LinksArePrefaced}
 use Rattle.channel_actions.specs.KeptSessions.Kept.{IsKept}
-use Rattle.channel_actions.specs.LinkFrames.Alike.{CannotTell}
+use Rattle.channel_actions.specs.LinkFrames.Alike.{CannotDistinguish}
 use Rattle.channel_actions.specs.LinkFrames.Bears.{bears_on, is_placed_on}
 use Rattle.channel_actions.specs.Links.{lines_in}
-use Rattle.channel_actions.specs.OwnStreams.Own.{AreOwnStreams}
+use Rattle.channel_actions.specs.OwnStreams.Own.{StreamsAreOwn}
 use Rattle.end_cases.proofs.AttemptEnds.Unowed.{agrees_ahead}
 use Rattle.event_cases.proofs.LostLinks.First.{IsHead, head_is}
 use Rattle.event_cases.proofs.LostLinks.News.{IsPlacedOn, placed_on}
@@ -42,7 +42,7 @@ use Rattle.link_actions.proofs.Without as lists
 use Rattle.link_actions.specs.LossActions.Laws.{IsQuiet, loss_action}
 use Rattle.link_actions.specs.LossActions.Sees.{SeesOver, loss_of}
 use Rattle.link_actions.specs.ResetActions.Ahead.{SeesAhead}
-use Rattle.link_actions.specs.Sees.{ArePlaced, by_stream}
+use Rattle.link_actions.specs.Sees.{AttemptsStandInPlace, by_stream}
 use Rattle.session_actions.specs.Actions.{after, after_if, following}
 use Rattle.session_actions.specs.AttemptEnds.{attempt_ended, code_at_end, end_of, next_wire_end, reset_code_of, with_end}
 use Rattle.session_actions.specs.Attempts.{call_of, is_of, is_outstanding, is_queued}
@@ -57,8 +57,8 @@ use Rattle.session_actions.specs.declared.entry.OpenEntry.{OpenEntry}
 use Rattle.session_actions.specs.declared.link.Link.{Link}
 use Rattle.session_actions.specs.declared.response.Outcome.{Outcome}
 use Rattle.session_actions.specs.declared.seen.Seen.{Seen}
-use Rattle.session_order.proofs.Calms.{first_line_gives}
-use Rattle.session_order.specs.Calm.{IsStill}
+use Rattle.session_order.proofs.Quiescence.{first_line_gives}
+use Rattle.session_order.specs.Quiescent.{IsStill}
 use Rattle.session_order.specs.Lines.{is_line, rank}
 use Rattle.session_order.specs.declared.line.Line.{Line}
 use Rattle.session_order.specs.declared.line.Line.TheVariants as line
@@ -168,8 +168,8 @@ pub record OverGoesOn (waits : Line → Bool) (also : List ℕ) (l : Link) (x : 
   pub over : SeesOver l s
   pub quiet : AllByRecursion (IsQuiet l s) s.attempts
   pub agrees : AgreesAhead [] also (stamped_gone l.number x) s
-  pub greeted : AreGreeted s
-  pub streams : AreOwnStreams s
+  pub prefaced : LinksArePrefaced s
+  pub streams : StreamsAreOwn s
   pub rising : RunsRise s
   pub going : CallsGoOn x
   pub held : AreHeld x
@@ -184,7 +184,7 @@ lost_goes_on l x o s is = record {
   over = is.over;
   quiet = is.quiet;
   agrees = agrees_ahead [] (stamped_gone l.number x) s is.agrees is.unreset (is.still line.Reset refl);
-  greeted = is.greeted;
+  prefaced = is.prefaced;
   streams = is.streams;
   rising = is.rising;
   going = is.going;
@@ -208,7 +208,7 @@ module _ (waits : Line → Bool) (also : List ℕ) (l : Link) (x : StateSeen) (o
   kept : IsKept s
   kept = is.agrees.books.kept
 
-  pub places : ArePlaced 1 s.attempts
+  pub places : AttemptsStandInPlace 1 s.attempts
   places = is.over.places
 
   place : a.place ≡ suc head.index
@@ -317,10 +317,10 @@ module _ (waits : Line → Bool) (also : List ℕ) (l : Link) (x : StateSeen) (o
   x_links : (stamped_gone l.number x).links ≡ x.links
   x_links = ap (λ (z : StateSeen). z.links) (stamped_form l.number x)
 
-  untold : CannotTell (bears_on (action.AttemptEnds a.place e) s) s t
-  untold = subst (CannotTell (bears_on (action.AttemptEnds a.place e) s) s) after_is (actions_are_untold (action.AttemptEnds a.place e) s kept tt)
+  untold : CannotDistinguish (bears_on (action.AttemptEnds a.place e) s) s t
+  untold = subst (CannotDistinguish (bears_on (action.AttemptEnds a.place e) s) s) after_is (actions_are_untold (action.AttemptEnds a.place e) s kept tt)
 
-  placed_t : ArePlaced 1 t.attempts
+  placed_t : AttemptsStandInPlace 1 t.attempts
   placed_t = placed_of 1 t.attempts kept_t.book.places
 
   apart : (m : Link) → (m.number ≡ l.number → ⊥) → bears_on (action.AttemptEnds a.place e) s m.number ≡ false

@@ -7,12 +7,12 @@ use Rattle.attempt_ledger.specs.declared.row.Placed.{Placed}
 use Rattle.attempt_ledger.specs.declared.row.RowEnd.{RowEnd}
 use Rattle.channel_actions.proofs.Outstanding.{same_self}
 use Rattle.channel_actions.proofs.Links.Settings.Pairs.{same_is}
-use Rattle.channel_actions.specs.Sets.{AreExactly, is_in_outstanding}
+use Rattle.channel_actions.specs.Sets.{PairsAreExactly, is_in_outstanding}
 use Rattle.attempt_cases.proofs.ServeSteps.Order.{least_found}
 use Rattle.channel_core.specs.Steps.{row_on}
 use Rattle.link_actions.proofs.Without as lists
-use Rattle.link_actions.specs.Sees.{ArePlaced}
-use Rattle.picker_gate.specs.Pairs.{has, is_behind, is_same, next_behind}
+use Rattle.link_actions.specs.Sees.{AttemptsStandInPlace}
+use Rattle.picker_gate.specs.Pairs.{has, comes_after, is_same, next_after}
 use Rattle.session_actions.specs.Attempts.{is_outstanding}
 use Rattle.session_actions.specs.Links.{link_number}
 use Rattle.session_actions.specs.Reading.{is_outstanding_on, outstanding_on}
@@ -90,16 +90,16 @@ nothing p [] q is there = absurd (cc)
 nothing p (x ∷ xs) q is there = nothing_by p x q xs (p x) refl (is_same q x) refl (nothing p xs q) is there
 
 -- pairs of one link
-behind_on : (link m n : ℕ) → nat_lt m n ≡ true → is_behind (link, m) (link, n) ≡ true
-behind_on link m n e = grind (arith, nat_tests, e)
+after_on : (link m n : ℕ) → nat_lt m n ≡ true → comes_after (link, m) (link, n) ≡ true
+after_on link m n e = grind (arith, nat_tests, e)
 
-above_on : (link m : ℕ) (p : ℕ × ℕ) → is_behind (link, m) p ≡ true → (p.0 == link) ≡ true → nat_lt m p.1 ≡ true
+above_on : (link m : ℕ) (p : ℕ × ℕ) → comes_after (link, m) p ≡ true → (p.0 == link) ≡ true → nat_lt m p.1 ≡ true
 above_on link m p e f = grind (arith, nat_tests, e, f)
 
-not_below : (link n : ℕ) (p : ℕ × ℕ) → is_behind (link, n) p ≡ false → (p.0 == link) ≡ true → nat_lt n p.1 ≡ false
+not_below : (link n : ℕ) (p : ℕ × ℕ) → comes_after (link, n) p ≡ false → (p.0 == link) ≡ true → nat_lt n p.1 ≡ false
 not_below link n p e f = grind (arith, nat_tests, e, f)
 
-beyond_link : (link m n : ℕ) (p : ℕ × ℕ) → is_behind (link, m) p ≡ true → (p.0 == link) ≡ false → is_behind (link, n) p ≡ true
+beyond_link : (link m n : ℕ) (p : ℕ × ℕ) → comes_after (link, m) p ≡ true → (p.0 == link) ≡ false → comes_after (link, n) p ≡ true
 beyond_link link m n p e f = grind (arith, nat_tests, e, f)
 
 same_number : (m n : ℕ) → nat_lt m n ≡ false → nat_lt n m ≡ false → m ≡ n
@@ -133,7 +133,7 @@ in_by l s row (Some a) at h = record { attempt = a; there = at; out = pair_on l.
 pub of_set : (l : Link) (s : Seen) (row : ℕ) → is_in_outstanding s l.number row ≡ true → IsIn l s row
 of_set l s row h = in_by l s row (numbered s.attempts row) refl h
 
-module _ (l : Link) (s : Seen) (pairs : List (ℕ × ℕ)) (exact : AreExactly pairs (is_in_outstanding s)) (places : ArePlaced 1 s.attempts) (row : ℕ)
+module _ (l : Link) (s : Seen) (pairs : List (ℕ × ℕ)) (exact : PairsAreExactly pairs (is_in_outstanding s)) (places : AttemptsStandInPlace 1 s.attempts) (row : ℕ)
     (passed : (k : ℕ) → is_in_outstanding s l.number k ≡ true → nat_lt row k ≡ true) where
   abbrev last : ℕ × ℕ
   last = (l.number, row)
@@ -147,11 +147,11 @@ module _ (l : Link) (s : Seen) (pairs : List (ℕ × ℕ)) (exact : AreExactly p
   has_pair : (i : ℕ) (a : Attempt) → slice_get s.attempts i ≡ Some a → is_outstanding_on l a ≡ true → has pairs (l.number, a.place) ≡ true
   has_pair i a at out = exact.exact l.number a.place ∙ in_set l s a (at_place i a at) out
 
-  behind : (i : ℕ) (a : Attempt) → slice_get s.attempts i ≡ Some a → is_outstanding_on l a ≡ true → is_behind last (l.number, a.place) ≡ true
-  behind i a at out = behind_on l.number row a.place (passed a.place (in_set l s a (at_place i a at) out))
+  afterwards : (i : ℕ) (a : Attempt) → slice_get s.attempts i ≡ Some a → is_outstanding_on l a ≡ true → comes_after last (l.number, a.place) ≡ true
+  afterwards i a at out = after_on l.number row a.place (passed a.place (in_set l s a (at_place i a at) out))
 
   -- none is left
-  none_on : (p : ℕ × ℕ) (b : Bool) → (p.0 == l.number) ≡ b → is_behind last p ≡ true → has pairs p ≡ true → ((i : ℕ) (a : Attempt) → slice_get s.attempts i ≡ Some a → is_outstanding_on l a ≡ false)
+  none_on : (p : ℕ × ℕ) (b : Bool) → (p.0 == l.number) ≡ b → comes_after last p ≡ true → has pairs p ≡ true → ((i : ℕ) (a : Attempt) → slice_get s.attempts i ≡ Some a → is_outstanding_on l a ≡ false)
       → (if b then Some p.1 else None) ≡ None
   none_on p true e after there none =
       let same : p.0 ≡ l.number = eqb-true p.0 l.number e in
@@ -163,22 +163,22 @@ module _ (l : Link) (s : Seen) (pairs : List (ℕ × ℕ)) (exact : AreExactly p
       none_there (suc i) a at out = both_ways (is_outstanding_on l a) (none i a at) out
   none_on p false e after there none = refl
 
-  none_by_set : (o : Option (ℕ × ℕ)) → next_behind pairs last ≡ o → ((i : ℕ) (a : Attempt) → slice_get s.attempts i ≡ Some a → is_outstanding_on l a ≡ false) → row_on l.number o ≡ None
+  none_by_set : (o : Option (ℕ × ℕ)) → next_after pairs last ≡ o → ((i : ℕ) (a : Attempt) → slice_get s.attempts i ≡ Some a → is_outstanding_on l a ≡ false) → row_on l.number o ≡ None
   none_by_set None e none = refl
   none_by_set (Some p) e none =
-      let f = found (is_behind last) pairs p e in none_on p (p.0 == l.number) refl f.0 f.1 none
+      let f = found (comes_after last) pairs p e in none_on p (p.0 == l.number) refl f.0 f.1 none
 
-  pub none_next : slice_get (outstanding_on l s) 0 ≡ None → row_on l.number (next_behind pairs last) ≡ None
-  none_next e = none_by_set (next_behind pairs last) refl (no_head (is_outstanding_on l) s.attempts e)
+  pub none_next : slice_get (outstanding_on l s) 0 ≡ None → row_on l.number (next_after pairs last) ≡ None
+  none_next e = none_by_set (next_after pairs last) refl (no_head (is_outstanding_on l) s.attempts e)
 
   -- or the first one
   module _ (a : Attempt) (head : IsHead (is_outstanding_on l) s.attempts a) where
-    first_in : (p : ℕ × ℕ) (b : Bool) → (p.0 == l.number) ≡ b → next_behind pairs last ≡ Some p → is_behind last p ≡ true → has pairs p ≡ true → (if b then Some p.1 else None) ≡ Some a.place
+    first_in : (p : ℕ × ℕ) (b : Bool) → (p.0 == l.number) ≡ b → next_after pairs last ≡ Some p → comes_after last p ≡ true → has pairs p ≡ true → (if b then Some p.1 else None) ≡ Some a.place
     first_in p true e is after there =
         let same : p.0 ≡ l.number = eqb-true p.0 l.number e in
         let k : IsIn l s p.1 = of_set l s p.1 (ap (λ (n : ℕ). is_in_outstanding s n p.1) (sym same) ∙ sym (exact.exact p.0 p.1) ∙ there) in
-        let least : is_behind (l.number, a.place) p ≡ false
-        = least_found last p (l.number, a.place) pairs exact.rising is (behind head.index a head.there head.passes) (has_pair head.index a head.there head.passes) in
+        let least : comes_after (l.number, a.place) p ≡ false
+        = least_found last p (l.number, a.place) pairs exact.rising is (afterwards head.index a head.there head.passes) (has_pair head.index a head.there head.passes) in
         let not_above : nat_lt a.place p.1 ≡ false = not_below l.number a.place p least e in
         let not_before : nat_lt p.1 a.place ≡ false = ap (nat_lt p.1) (place_at head.index a head.there) ∙ earlier p.1 k.attempt k.there k.out in
         ap (λ (n : ℕ). Some n) (same_number p.1 a.place not_before not_above)
@@ -194,14 +194,14 @@ module _ (l : Link) (s : Seen) (pairs : List (ℕ × ℕ)) (exact : AreExactly p
         earlier zero b at out = absurd (cc)
         earlier (suc i) b at out = up i head.index (by_test i b (nat_lt i head.index) refl at out)
     first_in p false e is after there =
-        let least : is_behind (l.number, a.place) p ≡ false
-        = least_found last p (l.number, a.place) pairs exact.rising is (behind head.index a head.there head.passes) (has_pair head.index a head.there head.passes) in
-        absurd (both_ways (is_behind (l.number, a.place) p) least (beyond_link l.number row a.place p after e))
+        let least : comes_after (l.number, a.place) p ≡ false
+        = least_found last p (l.number, a.place) pairs exact.rising is (afterwards head.index a head.there head.passes) (has_pair head.index a head.there head.passes) in
+        absurd (both_ways (comes_after (l.number, a.place) p) least (beyond_link l.number row a.place p after e))
 
-    first_by : (o : Option (ℕ × ℕ)) → next_behind pairs last ≡ o → row_on l.number o ≡ Some a.place
+    first_by : (o : Option (ℕ × ℕ)) → next_after pairs last ≡ o → row_on l.number o ≡ Some a.place
     first_by None e =
-        absurd (both_ways (is_behind last (l.number, a.place)) (nothing (is_behind last) pairs (l.number, a.place) e (has_pair head.index a head.there head.passes)) (behind head.index a head.there head.passes))
-    first_by (Some p) e = let f = found (is_behind last) pairs p e in first_in p (p.0 == l.number) refl e f.0 f.1
+        absurd (both_ways (comes_after last (l.number, a.place)) (nothing (comes_after last) pairs (l.number, a.place) e (has_pair head.index a head.there head.passes)) (afterwards head.index a head.there head.passes))
+    first_by (Some p) e = let f = found (comes_after last) pairs p e in first_in p (p.0 == l.number) refl e f.0 f.1
 
-    pub first_next : row_on l.number (next_behind pairs last) ≡ Some a.place
-    first_next = first_by (next_behind pairs last) refl
+    pub first_next : row_on l.number (next_after pairs last) ≡ Some a.place
+    first_next = first_by (next_after pairs last) refl

@@ -17,7 +17,7 @@ use Rattle.channel_core.specs.Arrivals.{ended_on, lost_row}
 use Rattle.channel_core.specs.Books.{has_ended, has_stream, link_at, row_at}
 use Rattle.channel_core.specs.States.{StateSeen}
 use Rattle.channel_core.specs.Steps as channel
-use Rattle.channel_core.specs.Steps.{left_behind, loss, sealed, stamped_gone, told}
+use Rattle.channel_core.specs.Steps.{left_after, loss, sealed, stamped_gone, reported}
 use Rattle.link_actions.proofs.LossActions.Losses.{link_is}
 use Rattle.link_actions.specs.LossActions.Sees.{loss_of}
 use Rattle.session_actions.specs.Entries.{entry}
@@ -52,10 +52,10 @@ loss_by None a s n e = ap (loss false) (sym e)
 loss_by (Some stream) a s n e = ap (loss true) (sym e)
 
 ended_by : (link row : ℕ) (e : EndNews) (x : StateSeen) (o : Option Row) → row_at x.book row ≡ o → has_ended o ≡ false
-    → ended_on link row e x ≡ stamped_gone link (told row (news.Ended row e) (left_behind link row x))
+    → ended_on link row e x ≡ stamped_gone link (reported row (news.Ended row e) (left_after link row x))
 ended_by link row e x o at going =
-    ap (λ (q : Option Row). if has_ended q then x else stamped_gone link (told row (news.Ended row e) (left_behind link row x))) at
-    ∙ ap (λ (b : Bool). if b then x else stamped_gone link (told row (news.Ended row e) (left_behind link row x))) going
+    ap (λ (q : Option Row). if has_ended q then x else stamped_gone link (reported row (news.Ended row e) (left_after link row x))) at
+    ∙ ap (λ (b : Bool). if b then x else stamped_gone link (reported row (news.Ended row e) (left_after link row x))) going
 
 module _ (l : Link) (x : StateSeen) (s : Seen) (columns : SeesColumns (stamped_gone l.number x).book.ledger s) (at : numbered s.links l.number ≡ Some l) (a : Attempt)
     (there : numbered s.attempts a.place ≡ Some a) (out : is_outstanding_on l a ≡ true) where
@@ -86,11 +86,11 @@ module _ (l : Link) (x : StateSeen) (s : Seen) (columns : SeesColumns (stamped_g
   abbrev end : EndNews
   end = news_of a (loss_of a.row.stream) s
 
-  off_is : gone_with a.row.placed (told a.place (news.Ended a.place end) (taken_off a.row.call a.place a.row.placed x))
-      ≡ stamped_gone l.number (told a.place (news.Ended a.place end) (left_behind l.number a.place x))
+  off_is : gone_with a.row.placed (reported a.place (news.Ended a.place end) (taken_off a.row.call a.place a.row.placed x))
+      ≡ stamped_gone l.number (reported a.place (news.Ended a.place end) (left_after l.number a.place x))
   off_is =
-      ap (λ (q : Option Placed). gone_with q (told a.place (news.Ended a.place end) (taken_off a.row.call a.place q x))) p.placed
-      ∙ ap (λ (n : ℕ). stamped_gone n (told a.place (news.Ended a.place end) (left_behind n a.place x))) p.link
+      ap (λ (q : Option Placed). gone_with q (reported a.place (news.Ended a.place end) (taken_off a.row.call a.place q x))) p.placed
+      ∙ ap (λ (n : ℕ). stamped_gone n (reported a.place (news.Ended a.place end) (left_after n a.place x))) p.link
 
   pub ended_is : lost_row l.number false a.place x ≡ ended_in a end x
   ended_is =

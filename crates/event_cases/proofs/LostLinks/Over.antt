@@ -4,7 +4,7 @@ use Rattle.std.specs.List.{list_all}
 use Rattle.channel_actions.proofs.Stamps.{stamp_keeps}
 use Rattle.channel_actions.specs.Agrees.{Agrees}
 use Rattle.channel_actions.specs.KeptCalls.Early.{is_linked_up}
-use Rattle.channel_actions.specs.OwnLinks.Own.{AreOwnLinks}
+use Rattle.channel_actions.specs.OwnLinks.Own.{LinksAreOwn}
 use Rattle.event_cases.proofs.LostLinks.Down.{GoesDown, IsDown, down_next}
 use Rattle.event_cases.proofs.LostLinks.Stamped.{seen_at}
 use Rattle.channel_core.specs.Books.{link_at}
@@ -19,8 +19,8 @@ use Rattle.session_actions.specs.declared.link.Link.{Link}
 use Rattle.session_actions.specs.declared.link.LinkOver.{LinkOver}
 use Rattle.session_actions.specs.declared.seen.Seen.{Seen}
 use Rattle.session_order.proofs.Changed.{changed_away, changed_here}
-use Rattle.session_order.specs.Calm as order
-use Rattle.session_order.specs.Calm.{IsStill}
+use Rattle.session_order.specs.Quiescent as order
+use Rattle.session_order.specs.Quiescent.{IsStill}
 use Rattle.session_order.specs.Lines.{is_line}
 use Rattle.session_order.specs.declared.line.Line.{Line}
 use Rattle.session_order.specs.declared.line.Line.TheVariants as line
@@ -44,8 +44,8 @@ over_as why link now s = record s { links = changed (with_over why) link s.links
 pub record GoesOver (why : LinkOver) (act : Action) (link : ℕ) (x : StateSeen) (o : OpenEntry) (s : Seen) : Type 0 where
   pub agrees : Agrees x s
   pub current : s.current ≡ Some o
-  pub calm : order.IsCalm o s
-  pub own : AreOwnLinks s
+  pub quiescent : order.IsQuiescent o s
+  pub own : LinksAreOwn s
   pub boards : list_all is_linked_up s.subs ≡ true
   pub link_ : Link
   pub there : numbered s.links link ≡ Some link_
@@ -89,7 +89,7 @@ module _ (why : LinkOver) (act : Action) (link : ℕ) (x : StateSeen) (o : OpenE
 
   goes : GoesDown v.links true g.now link x o p s
   goes = record {
-    calm = g.calm;
+    quiescent = g.quiescent;
     own = g.own;
     boards = g.boards;
     kept_s = h.kept;

@@ -12,14 +12,14 @@ use Rattle.channel_actions.specs.BoardActions.Boards.{IsBoarded}
 use Rattle.channel_actions.specs.Clock.{DrawsAlike, SeesClock}
 use Rattle.channel_actions.specs.Columns.{links_noted}
 use Rattle.channel_actions.specs.KeptSessions.Kept.{IsKept}
-use Rattle.channel_actions.specs.LinkFrames.Alike.{CannotTell}
+use Rattle.channel_actions.specs.LinkFrames.Alike.{CannotDistinguish}
 use Rattle.channel_actions.specs.Links.{HasLink, SeesLinks}
-use Rattle.call_cases.specs.OtherCalls.Others.{AreOfCall, GoesApart}
+use Rattle.call_cases.specs.OtherCalls.Others.{ActionsAreOfCall, GoesApart}
 use Rattle.call_cases.proofs.ConfiguredCalls.Lists.{changed_length}
 use Rattle.attempt_cases.proofs.DialEvents.Nets.{one_call_more}
 use Rattle.attempt_cases.proofs.NetSettlings.Limits.{limits_form}
 use Rattle.attempt_cases.proofs.NetSettlings.Stamped.{map_stamped, stamp_over}
-use Rattle.attempt_cases.proofs.NetSteps.Alike.{links_cannot_tell, still}
+use Rattle.attempt_cases.proofs.NetSteps.Alike.{links_cannot_distinguish, still}
 use Rattle.attempt_cases.proofs.NetSteps.Clocks.{clock_goes_on, entry_goes_on}
 use Rattle.attempt_cases.proofs.NetSteps.Stepped.{IsBeside, agrees_after, booked}
 use Rattle.attempt_cases.proofs.NetSteps.Subbed.{current_stays, noted_gone_same}
@@ -28,8 +28,8 @@ use Rattle.channel_core.proofs.BookLaws.{number_changed, number_other}
 use Rattle.channel_core.proofs.Resting as resting
 use Rattle.channel_core.specs.Books.{link_at}
 use Rattle.channel_core.specs.States.{StateSeen}
-use Rattle.channel_core.specs.Steps.{buried, stamped_gone, sub_of}
-use Rattle.channel_core.specs.Tables.{buried_in}
+use Rattle.channel_core.specs.Steps.{marked_dead, stamped_gone, sub_of}
+use Rattle.channel_core.specs.Tables.{marked_dead_in}
 use Rattle.channel_core.specs.Tables as tables
 use Rattle.channel_net.specs.Runs.{Down}
 use Rattle.channel_net.specs.Steps.{NetSeen, net_down}
@@ -50,7 +50,7 @@ use Rattle.link_actions.specs.LossActions.Laws.{with_over}
 use Rattle.session_actions.specs.Sessions.{Does, link_seen}
 use Rattle.session_actions.specs.declared.link.LinkOver.{LinkOver}
 
--- what the channel keeps of the link itself does not matter any more: what it heard last may have changed it
+-- what the channel keeps of the link itself does not matter any more: what it received last may have changed it
 pub record IsSlots (link : ℕ) (x : StateSeen) (slots : List LinkSlot) : Type 0 where
   pub count : length slots ≡ length x.links
   pub others : (n : ℕ) → (link == n) ≡ false → numbered slots n ≡ numbered x.links n
@@ -108,12 +108,12 @@ module _ (why : LinkOver) (act : Action) (link : ℕ) (x : StateSeen) (o : OpenE
     net_then = net_down (sub_of (link_at x.book link)) link x.net
 
     abbrev w : StateSeen
-    w = netted net_then x.drawn true (buried_in link slots) x.book.ledger.generations (changed_at (gone_link E) x.book.ledger.links link) x
+    w = netted net_then x.drawn true (marked_dead_in link slots) x.book.ledger.generations (changed_at (gone_link E) x.book.ledger.links link) x
 
-    abbrev heard : StateSeen
-    heard = record x { links = slots }
+    abbrev handled : StateSeen
+    handled = record x { links = slots }
 
-    whole : stamped_gone link (buried link heard) ≡ w
+    whole : stamped_gone link (marked_dead link handled) ≡ w
     whole = limits_form x net_then x.drawn x.book.ledger.generations (link ∷ []) x.resolver slots x.book.ledger.links
 
     entry_is : entry s ≡ E
@@ -145,22 +145,22 @@ module _ (why : LinkOver) (act : Action) (link : ℕ) (x : StateSeen) (o : OpenE
     abbrev touched : ℕ → Bool
     touched n = link == n
 
-    others : (n : ℕ) → touched n ≡ false → numbered (buried_in link slots) n ≡ numbered x.links n
-    others n off = number_other tables.buried slots link n (λ e. eqb-false link n off (sym e)) ∙ these.others n off
+    others : (n : ℕ) → touched n ≡ false → numbered (marked_dead_in link slots) n ≡ numbered x.links n
+    others n off = number_other tables.marked_dead slots link n (λ e. eqb-false link n off (sym e)) ∙ these.others n off
 
-    untold : CannotTell touched s t
+    untold : CannotDistinguish touched s t
     untold =
-        links_cannot_tell touched s t boarded
+        links_cannot_distinguish touched s t boarded
         (λ n z off here. (
           z,
           sym (ap (λ (ls : List Link). numbered ls n) dn.links ∙ away_v why act link x o s g n (λ e. eqb-false link n off (sym e))) ∙ here,
           still z,
         ))
 
-    long : length t.links ≡ length (buried_in link slots)
+    long : length t.links ≡ length (marked_dead_in link slots)
     long =
         ap (λ (ls : List Link). length ls) dn.links ∙ changed_length over_link link s.links ∙ h.links.count
-        ∙ sym (resting.changed_length tables.buried slots link ∙ these.count)
+        ∙ sym (resting.changed_length tables.marked_dead slots link ∙ these.count)
 
     has_it : (z : Link) → numbered t.links link ≡ Some z → HasLink w t z link
     has_it z here =
@@ -169,8 +169,8 @@ module _ (why : LinkOver) (act : Action) (link : ℕ) (x : StateSeen) (o : OpenE
         let one : z ≡ over_link k = (cc) in
         let now = these.own old.slot old.there in
         subst (λ (c : Link). HasLink w t c link) (sym one) (record {
-          slot = tables.buried now.0;
-          there = number_changed tables.buried slots link ∙ ap (option_map tables.buried) now.1.0;
+          slot = tables.marked_dead now.0;
+          there = number_changed tables.marked_dead slots link ∙ ap (option_map tables.marked_dead) now.1.0;
           sees = record { over = refl; retiring = old.sees.retiring ∙ sym now.1.1; going = λ goes. absurd (let bad : Some why ≡ None = goes in (cc)) };
         })
 
@@ -186,7 +186,7 @@ module _ (why : LinkOver) (act : Action) (link : ℕ) (x : StateSeen) (o : OpenE
       does = does;
       apart = (
         g.of,
-        subst (AreOfCall 0 dn.actions) (sym g.then_) dn.of,
+        subst (ActionsAreOfCall 0 dn.actions) (sym g.then_) dn.of,
       );
       earlier = booked s h.kept;
       later = booked t kept_t;
@@ -207,5 +207,5 @@ module _ (why : LinkOver) (act : Action) (link : ℕ) (x : StateSeen) (o : OpenE
       orderly = one_call_more (Down (sub_of (link_at x.book link)) link) x.net h.orderly;
     }
 
-    pub agrees : Agrees (stamped_gone link (buried link heard)) t
+    pub agrees : Agrees (stamped_gone link (marked_dead link handled)) t
     agrees = subst (λ (z : StateSeen). Agrees z t) (sym whole) (agrees_after all_calls_stay sets_stay x s t h w beside)

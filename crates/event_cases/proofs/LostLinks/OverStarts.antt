@@ -25,7 +25,7 @@ use Rattle.session_actions.specs.declared.link.Link.{Link}
 use Rattle.session_actions.specs.declared.response.Outcome.{Outcome}
 use Rattle.session_actions.specs.declared.seen.Seen.{Seen}
 use Rattle.session_order.proofs.Changed.{passes_not}
-use Rattle.session_order.specs.Calm.{is_to_cut, is_to_end}
+use Rattle.session_order.specs.Quiescent.{is_to_cut, is_to_end}
 use Rattle.session_order.specs.declared.line.Line.TheVariants as line
 use Rattle.event_cases.proofs.LostLinks.Down.{IsDown}
 use Rattle.event_cases.proofs.LostLinks.Over.{GoesOver, away_v, l, p, v}
@@ -102,7 +102,7 @@ module _ (why : LinkOver) (act : Action) (link : ℕ) (x : StateSeen) (o : OpenE
   not_over row a here out = second (is_outstanding a) (is_over a mid) out (passes_not (is_to_cut mid) s.attempts row a uncut_mid here)
 
   not_over_s : (row : ℕ) (a : Attempt) → numbered s.attempts row ≡ Some a → is_outstanding a ≡ true → is_over a s ≡ false
-  not_over_s row a here out = second (is_outstanding a) (is_over a s) out (passes_not (is_to_cut s) s.attempts row a (g.calm line.Cut) here)
+  not_over_s row a here out = second (is_outstanding a) (is_over a s) out (passes_not (is_to_cut s) s.attempts row a (g.quiescent line.Cut) here)
 
   other_link : (a : Attempt) (z : IsOn a) → is_outstanding a ≡ true → is_outstanding_on lost a ≡ false → z.at.link ≡ link → ⊥
   other_link a z out off same =
@@ -124,7 +124,7 @@ module _ (why : LinkOver) (act : Action) (link : ℕ) (x : StateSeen) (o : OpenE
       ap (λ (b : Bool). if b && not (is_over a mid) then option_map (λ (z : Outcome). action.AttemptEnds a.place (end_of a z mid)) (outcome_of a mid) else None) out
   goes_by row a true here out off =
       let none : outcome_of a mid ≡ None
-      = outcome_same a out off ∙ no_outcome a s out (not_over_s row a here out) (passes_not (is_to_end s) s.attempts row a (g.calm line.WireEnd) here) in
+      = outcome_same a out off ∙ no_outcome a s out (not_over_s row a here out) (passes_not (is_to_end s) s.attempts row a (g.quiescent line.WireEnd) here) in
       ap (λ (r : Option Outcome). if is_outstanding a && not (is_over a mid) then option_map (λ (z : Outcome). action.AttemptEnds a.place (end_of a z mid)) r else None) none
       ∙ no_action None refl (is_outstanding a && not (is_over a mid))
 

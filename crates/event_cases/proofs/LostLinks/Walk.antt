@@ -7,7 +7,7 @@ use Rattle.call_actions.proofs.Ranks.{numbered_map}
 use Rattle.call_actions.specs.Laws.{news_of}
 use Rattle.channel_actions.proofs.Does.{does_on, none_on}
 use Rattle.call_cases.proofs.EndsFollow.Steps.{placed_of}
-use Rattle.channel_actions.proofs.Links.Greeted.Along.{greeted_along}
+use Rattle.channel_actions.proofs.Links.Prefaced.Along.{prefaced_along}
 use Rattle.channel_actions.proofs.KeptSessions.Along.{kept_stays}
 use Rattle.channel_actions.proofs.Streams.Own.Along.{streams_along}
 use Rattle.channel_actions.specs.Agrees.{Agrees}
@@ -15,7 +15,7 @@ use Rattle.channel_actions.specs.GoingCalls.Going.{CallsGoOn}
 use Rattle.channel_actions.specs.GoingCalls.Laws.{LossesGoOn}
 use Rattle.channel_actions.specs.KeptSessions.Kept.{IsKept}
 use Rattle.channel_actions.specs.Points.{IsSameEntry}
-use Rattle.channel_actions.specs.Sets.{AreExactly, is_in_outstanding}
+use Rattle.channel_actions.specs.Sets.{PairsAreExactly, is_in_outstanding}
 use Rattle.end_cases.proofs.AttemptEnds.Rising.{runs_stay}
 use Rattle.event_cases.proofs.LostLinks.After.{link_by, over_still, quiet_still}
 use Rattle.event_cases.proofs.LostLinks.Ends.{OverGoesOn, e, end_next, head, lost_goes_on, none_waits, out, there}
@@ -40,7 +40,7 @@ use Rattle.link_actions.proofs.Ended.{is_ended}
 use Rattle.link_actions.proofs.LossActions.Losses.{losses_go_in_order}
 use Rattle.link_actions.proofs.Without as lists
 use Rattle.link_actions.specs.LossActions.Laws.{loss_action}
-use Rattle.link_actions.specs.Sees.{ArePlaced}
+use Rattle.link_actions.specs.Sees.{AttemptsStandInPlace}
 use Rattle.session_actions.specs.Actions.{after, after_if}
 use Rattle.session_actions.specs.AttemptEnds.{with_end}
 use Rattle.session_actions.specs.Attempts.{is_outstanding}
@@ -59,7 +59,7 @@ use Rattle.session_actions.specs.declared.link.Link.{Link}
 use Rattle.session_actions.specs.declared.seen.Seen.{Seen}
 use Rattle.session_order.proofs.Changed.{changed_here}
 use Rattle.session_order.proofs.Lines.{lines_are_still}
-use Rattle.session_order.specs.Calm.{IsStill}
+use Rattle.session_order.specs.Quiescent.{IsStill}
 use Rattle.session_order.specs.Lines.{is_line}
 use Rattle.session_order.specs.declared.line.Line.{Line}
 use Rattle.session_order.specs.declared.line.Line.TheVariants as line
@@ -122,7 +122,7 @@ pub record HasDone (most row link : ℕ) (x : StateSeen) (o : OpenEntry) (s : Se
   pub reply : entry.reply ≡ o.reply
   pub turn : entry.turn ≡ o.turn
   pub current : seen.current ≡ Some entry
-  pub calm : (m : Line) → IsStill m entry seen
+  pub quiescent : (m : Line) → IsStill m entry seen
   pub agrees : Agrees (stamped_gone link (rows_lost most link true row x)) seen
 
 one_only : (x : Option Attempt) (a b : Attempt) → x ≡ Some a → x ≡ Some b → a ≡ b
@@ -253,7 +253,7 @@ module _ (ends : OneAttemptEnds) (stays : EndsStayHeld) (going : LossesGoOn) whe
     pub number_is : m.number ≡ l.number
     number_is = ap (λ (k : Link). k.number) found.1.1
 
-    places_t : ArePlaced 1 t.attempts
+    places_t : AttemptsStandInPlace 1 t.attempts
     places_t = placed_of 1 t.attempts kept_t.book.places
 
     pub lost_then : lost_row l.number true a.place x ≡ sealed y
@@ -280,8 +280,8 @@ module _ (ends : OneAttemptEnds) (stays : EndsStayHeld) (going : LossesGoOn) whe
           quiet = quiet_still s t is.agrees.kept kept_t passed fewer (is.still line.Cut refl) (hr.still line.Cut refl) l m number_is is.quiet;
           agrees = subst (λ (z : StateSeen). Agrees z t) (sym again) hr.agrees;
           unreset = hr.unreset;
-          greeted = greeted_along these s t is.agrees.kept is.greeted does;
-          streams = streams_along these s t is.agrees.kept is.greeted is.streams does;
+          prefaced = prefaced_along these s t is.agrees.kept is.prefaced does;
+          streams = streams_along these s t is.agrees.kept is.prefaced is.streams does;
           rising = rises these s t is.agrees.kept is.rising does;
           going = subst CallsGoOn lost_then (going l.number a.place true x is.going);
           held = subst AreHeld (sym (all_sealed_is [] y)) (held_y (stays a (news_of a (out none_waits [] l x o s over_ a first) s) x is.held));
@@ -334,7 +334,7 @@ module _ (ends : OneAttemptEnds) (stays : EndsStayHeld) (going : LossesGoOn) whe
       reply = k.reply ∙ he.reply;
       turn = k.turn ∙ he.turn;
       current = k.current;
-      calm = k.calm;
+      quiescent = k.quiescent;
       agrees = subst (λ (z : StateSeen). Agrees (stamped_gone l.number z) k.seen) (sym turns)
           (subst (λ (n : ℕ). Agrees (stamped_gone n (rows_lost most n true a.place (lost_row l.number true a.place x))) k.seen) number_is k.agrees);
     }
@@ -366,9 +366,9 @@ module _ (ends : OneAttemptEnds) (stays : EndsStayHeld) (going : LossesGoOn) whe
     at_end line.Drop e = absurd (cc)
     at_end line.Add e = absurd (cc)
 
-    calm_by : (k : Line) (b : Bool) → is_line k line.WireEnd ≡ b → IsStill k o s
-    calm_by k true e = at_end k e
-    calm_by k false e = is.still k e
+    quiescent_by : (k : Line) (b : Bool) → is_line k line.WireEnd ≡ b → IsStill k o s
+    quiescent_by k true e = at_end k e
+    quiescent_by k false e = is.still k e
 
     pub rests : (most row : ℕ) → rows_lost most l.number true row x ≡ x → HasDone most row l.number x o s
     rests most row same = record {
@@ -382,15 +382,15 @@ module _ (ends : OneAttemptEnds) (stays : EndsStayHeld) (going : LossesGoOn) whe
       reply = refl;
       turn = refl;
       current = is.current;
-      calm = λ k. calm_by k (is_line k line.WireEnd) refl;
+      quiescent = λ k. quiescent_by k (is_line k line.WireEnd) refl;
       agrees = subst (λ (z : StateSeen). Agrees (stamped_gone l.number z) s) (sym same) is.agrees;
     }
 
   -- which row the channel ends next
   module _ (l : Link) (x : StateSeen) (o : OpenEntry) (s : Seen) (is : LossGoesOn l x o s) (row : ℕ) (above : (k : ℕ) → is_in_outstanding s l.number k ≡ true → nat_lt row k ≡ true) where
-    exact : AreExactly x.outstanding (is_in_outstanding s)
+    exact : PairsAreExactly x.outstanding (is_in_outstanding s)
     exact =
-        subst (λ (pairs : List (ℕ × ℕ)). AreExactly pairs (is_in_outstanding s)) (ap (λ (z : StateSeen). z.outstanding) (stamped_form l.number x)) is.agrees.sets.outstanding
+        subst (λ (pairs : List (ℕ × ℕ)). PairsAreExactly pairs (is_in_outstanding s)) (ap (λ (z : StateSeen). z.outstanding) (stamped_form l.number x)) is.agrees.sets.outstanding
 
     pub row_none : slice_get (outstanding_on l s) 0 ≡ None → next_on l.number row x ≡ None
     row_none none = none_next l s x.outstanding exact is.over.places row above none
@@ -459,7 +459,7 @@ module _ (ends : OneAttemptEnds) (stays : EndsStayHeld) (going : LossesGoOn) whe
         reply = k.reply;
         turn = k.turn;
         current = k.current;
-        calm = k.calm;
+        quiescent = k.quiescent;
         agrees = subst (λ (n : ℕ). Agrees (stamped_gone l.number (rows_lost n l.number true 0 x)) k.seen) (sym is_most) k.agrees;
       }
 

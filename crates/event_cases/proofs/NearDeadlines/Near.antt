@@ -1,6 +1,6 @@
 -- Timeouts of requests and configs are short, so deadlines are near.
 use Rattle.channel_actions.proofs.KeptSessions.Lists.{all_wide}
-use Rattle.channel_actions.specs.DrainLends.Laws.{AreNear}
+use Rattle.channel_actions.specs.DrainLends.Laws.{DeadlinesAreClose}
 use Rattle.event_cases.proofs.HeldKinds.Along.{Each, Reads, each_if, none_held, same_by}
 use Rattle.event_cases.proofs.HeldKinds.Events.{config_is_of_event}
 use Rattle.event_cases.proofs.NearDeadlines.Timed.{IsTimed, is_timed, timed}

@@ -1,7 +1,7 @@
 -- The requests of a session have timeouts that may be, where those that were posted have, and no call begins later than now.
 use Rattle.channel_actions.proofs.Changes.{Small, asked_in, noted_now, placed_in, read_in, small_in, sub_now, taken_in, written_in}
 use Rattle.channel_actions.proofs.KeptSessions.Lists.{all_changed, all_more, all_wide, last_more}
-use Rattle.channel_actions.specs.Posted.{ArePosted, IsPosted}
+use Rattle.channel_actions.specs.Posted.{EventsArePosted, IsPosted}
 use Rattle.grpc_base.specs.Limits.{duration_limit}
 use Rattle.grpc_base.specs.Requests.{RequestSeen}
 use Rattle.grpc_base.specs.declared.event.Entry.{Entry}
@@ -227,7 +227,7 @@ abbrev Brings : Action → Type 0
 Brings (action.EntryOpens posted word e) = IsPosted e
 Brings _ = Unit {0}
 
-brought : (a : Action) (rest : List Stamped) → ArePosted (option_to_list (posted_by a) ++ rest) → Brings a × ArePosted rest
+brought : (a : Action) (rest : List Stamped) → EventsArePosted (option_to_list (posted_by a) ++ rest) → Brings a × EventsArePosted rest
 brought (action.EntryOpens posted word e) rest all = (all.0, all.1)
 brought a rest all = (tt, all)
 
@@ -236,11 +236,11 @@ timed_if (Some o) a s at p k = timed_in o a s at k
 timed_if None (action.EntryOpens posted word e) s at p k = opened_now posted word e s at p k
 timed_if None a s at p k = k
 
-timed_along : (actions : List Action) (s t : Seen) → IsTimed s → ArePosted (posted_in actions) → Does actions s t → IsTimed t
+timed_along : (actions : List Action) (s t : Seen) → IsTimed s → EventsArePosted (posted_in actions) → Does actions s t → IsTimed t
 timed_along [] s t k posted does = subst IsTimed (sym does) k
 timed_along (a ∷ actions) s t k posted does =
-    let both : Brings a × ArePosted (posted_in actions) = brought a (posted_in actions) posted in
+    let both : Brings a × EventsArePosted (posted_in actions) = brought a (posted_in actions) posted in
     timed_along actions (after a s) t (timed_if s.current a s refl both.0 k) both.1 does.1
 
-pub timed : (setup : Setup) (actions : List Action) (s : Seen) → Does actions (new_session setup) s → ArePosted (posted_in actions) → IsTimed s
+pub timed : (setup : Setup) (actions : List Action) (s : Seen) → Does actions (new_session setup) s → EventsArePosted (posted_in actions) → IsTimed s
 timed setup actions s does posted = timed_along actions (new_session setup) s (record { calls = refl; of_posted = tt }) posted does

@@ -28,7 +28,7 @@ use Rattle.json_text.specs.Reading.{reading}
 use Rattle.json_text.specs.Tree.{Tree}
 use Rattle.service_config.specs.Choice.{chosen_for, entry_for, entry_of, taken}
 use Rattle.service_config.specs.Entries.{NameSeen, added, added_from, entries_from, entries_if, entry_at, has_name, method_of, methods_in, names_in, read_entry, settings_in}
-use Rattle.service_config.specs.Reading.{config_at, config_in, config_in_tree, config_of, kind_in, told_by}
+use Rattle.service_config.specs.Reading.{config_at, config_in, config_in_tree, config_of, kind_in, reported_by}
 use Rattle.service_config.specs.declared.config.Config.{Config}
 use Rattle.service_config.specs.declared.config.Method.{Method}
 use Rattle.service_config.specs.declared.entry.Settings.{Settings}
@@ -160,12 +160,12 @@ at_tree : (kinds : KindsSeen) (v : Tree) → IfOk (config_in_tree kinds v) HasSh
 unfolding config_in_tree
 at_tree kinds v = bound Anything HasShort (fields_at object.Config v) _ (any (fields_at object.Config v)) (λ fields a. config_short kinds fields)
 
-told_short : (r : Result Config Fault) → IfOk r HasShort → IfOk (told_by r) HasShort
-told_short (Ok c) h = h
-told_short (Err f) h = tt
+reported_short : (r : Result Config Fault) → IfOk r HasShort → IfOk (reported_by r) HasShort
+reported_short (Ok c) h = h
+reported_short (Err f) h = tt
 
 at_short : (kinds : KindsSeen) (r : Result Tree JsonFault) → IfOk (config_at kinds r) HasShort
-at_short kinds (Ok v) = told_short (config_in_tree kinds v) (at_tree kinds v)
+at_short kinds (Ok v) = reported_short (config_in_tree kinds v) (at_tree kinds v)
 at_short kinds (Err f) = tt
 
 of_result : (r : Result Config ConfigFault) (c : Config) → r ≡ Ok c → IfOk r HasShort → AreShort c.methods

@@ -7,7 +7,7 @@ use Rattle.attempt_ledger.specs.Numbering.{is_transparent}
 use Rattle.attempt_ledger.specs.declared.row.RowEnd.{RowEnd}
 use Rattle.attempt_ledger.specs.declared.row.RowKind.{RowKind}
 use Rattle.call_actions.proofs.Ranks.{numbered_more}
-use Rattle.call_cases.proofs.CallPosts.Told.{map_changed}
+use Rattle.call_cases.proofs.CallPosts.Report.{map_changed}
 use Rattle.event_cases.proofs.PassedAtOnce.Lines.{is_of_settling}
 use Rattle.event_cases.specs.PassedAtOnce.Laws.{ActionsLeavePassed}
 use Rattle.event_cases.specs.PassedAtOnce.Passed.{HasStream, IsPassedStill, Served, is_at_once, served, unqueued}

@@ -9,7 +9,7 @@ use Rattle.channel_actions.proofs.Moved.{agrees_moved}
 use Rattle.channel_actions.proofs.Posted.{kinds_same}
 use Rattle.channel_actions.proofs.Settles.{is_with_open, with_open}
 use Rattle.channel_actions.specs.Agrees.{Agrees}
-use Rattle.channel_actions.specs.Calm.{IsAt}
+use Rattle.channel_actions.specs.Quiescent.{IsAt}
 use Rattle.channel_actions.specs.Stages.{IsAnswered}
 use Rattle.channel_core.specs.Applying as channel
 use Rattle.channel_core.specs.Applying.{AnswersBy, answered_question, config_read, config_taken, misconfigured, readdressed_by, resolved, then_readdressed}
@@ -26,8 +26,8 @@ use Rattle.grpc_base.specs.declared.kind.Kind.{Kind}
 use Rattle.grpc_base.specs.declared.kind.Kind.TheVariants as kind
 use Rattle.channel_actions.proofs.KeptSessions.Beside.{kept_moved}
 use Rattle.lb_policy.specs.Table.{PolicySeen}
-use Rattle.net_actions.specs.Sees.{AreKinds}
-use Rattle.channel_actions.proofs.BoardActions.Calm.{of_order, to_order}
+use Rattle.net_actions.specs.Sees.{KindsAgree}
+use Rattle.channel_actions.proofs.BoardActions.Quiescent.{of_order, to_order}
 use Rattle.policy_rack.specs.Kinds.{has_policy, kinds_of}
 use Rattle.event_cases.specs.ResultEvents.Laws.{FirstBadConfigsAreAnswered}
 use Rattle.service_config.specs.declared.config.Config.{Config}
@@ -47,9 +47,9 @@ use Rattle.session_actions.specs.declared.seen.PolicyKind.{PolicyKind}
 use Rattle.session_actions.specs.declared.seen.Seen.{Seen}
 use Rattle.session_order.proofs.Entered.{IsQuietFor, moved_on}
 use Rattle.session_order.proofs.Posts.{answered_still, answered_with}
-use Rattle.session_order.specs.Calm as order
-use Rattle.session_order.specs.Calm.{IsStill, lacks_kind}
-use Rattle.session_order.specs.Laws.{CalmIsExact}
+use Rattle.session_order.specs.Quiescent as order
+use Rattle.session_order.specs.Quiescent.{IsStill, lacks_kind}
+use Rattle.session_order.specs.Laws.{QuiescenceIsExact}
 use Rattle.session_order.specs.declared.line.Line.{Line}
 use Rattle.session_order.specs.declared.line.Line.TheVariants as line
 
@@ -77,9 +77,9 @@ off_two true false c e = refl
 off_two false b c e = refl
 off_two true true c e = absurd (cc)
 
-module _ (exact : CalmIsExact) (x : StateSeen) (o : OpenEntry) (s : Seen) (h : Agrees x s) (at : IsAt stage.Event o s) (fresh : o.turn ≡ None) (timely : next_deadline s ≡ None)
+module _ (exact : QuiescenceIsExact) (x : StateSeen) (o : OpenEntry) (s : Seen) (h : Agrees x s) (at : IsAt stage.Event o s) (fresh : o.turn ≡ None) (timely : next_deadline s ≡ None)
     (addresses : List Address) (config : Option (List ℕ)) (fault : ConfigFault) (brings : o.event ≡ event.Resolved addresses config)
-    (kept : channel.refusal_of o.event x ≡ None) (bare : x.held ≡ None) (bad : config_read (kinds_of x.net.asker.rack.policies) config ≡ Err fault) where
+    (kept : channel.refusal_of o.event x ≡ None) (awaiting_config : x.held ≡ None) (bad : config_read (kinds_of x.net.asker.rack.policies) config ≡ Err fault) where
   abbrev r : Reply
   r = reply.BadConfig fault
 
@@ -112,7 +112,7 @@ module _ (exact : CalmIsExact) (x : StateSeen) (o : OpenEntry) (s : Seen) (h : A
       ∙ ap (λ (c : Option OpenEntry). record z { current = option_map (answered_with r) c }) at.current
 
   none_is : held_config s ≡ None
-  none_is = none_held (held_config s) x.held h.configs.held bare
+  none_is = none_held (held_config s) x.held h.configs.held awaiting_config
 
   if_either : (b : Bool) → (if b then option_map (λ (c : HeldConfig). c.config.kind) (held_config s) else None) ≡ None
   if_either true = ap (option_map (λ (c : HeldConfig). c.config.kind)) none_is
@@ -125,7 +125,7 @@ module _ (exact : CalmIsExact) (x : StateSeen) (o : OpenEntry) (s : Seen) (h : A
   other : (l : Line) → IsQuietFor l p z → IsStill l p t
   other l quiet =
       subst (IsStill l p) (ap (λ (c : Option OpenEntry). record z { current = option_map (answered_with r) c }) at.current)
-      (moved_on (answered_with r) o z at.current l quiet (answered_still s l o (to_order exact o s at.calm l)) p (ap (option_map (answered_with r)) at.current))
+      (moved_on (answered_with r) o z at.current l quiet (answered_still s l o (to_order exact o s at.quiescent l)) p (ap (option_map (answered_with r)) at.current))
 
   not_cancelled : (c : Call) → (is_after_event p && cancels p.event c.number) ≡ false
   not_cancelled c = ap (λ (e : Event). is_after_event p && cancels e c.number) brings
@@ -133,31 +133,31 @@ module _ (exact : CalmIsExact) (x : StateSeen) (o : OpenEntry) (s : Seen) (h : A
   not_sent : (c : Call) → (is_after_event p && sends_too_long p.event c z) ≡ false
   not_sent c = ap (λ (e : Event). is_after_event p && sends_too_long e c z) brings
 
-  calm : order.IsCalm p t
-  calm line.Cancelled = other line.Cancelled not_cancelled
-  calm line.Request = other line.Request not_sent
-  calm line.Retire =
+  quiescent : order.IsQuiescent p t
+  quiescent line.Cancelled = other line.Cancelled not_cancelled
+  quiescent line.Request = other line.Request not_sent
+  quiescent line.Retire =
       none_each (is_to_retire p t)
       (λ g. off_by (is_live_policy g) s.shut (is_pending g) (holds (λ (k : Kind). is_other_kind k g) (wanted_kind p t)) open_now (ap (holds (λ (k : Kind). is_other_kind k g)) unwanted)) s.policies
-  calm line.Begin = ap (holds (lacks_kind t)) unwanted
-  calm line.Give =
+  quiescent line.Begin = ap (holds (lacks_kind t)) unwanted
+  quiescent line.Give =
       none_each (wants_addresses p t)
       (λ g. off_two (is_live_policy g) (holds (λ (k : Kind). is_same_kind g.generation.kind k) (wanted_kind p t)) _ (ap (holds (λ (k : Kind). is_same_kind g.generation.kind k)) unwanted)) s.policies
-  calm line.Cut = other line.Cut tt
-  calm line.Transparent = other line.Transparent tt
-  calm line.Inherited = other line.Inherited tt
-  calm line.Row = other line.Row tt
-  calm line.Final = other line.Final tt
-  calm line.Overflow = other line.Overflow tt
-  calm line.Head = other line.Head tt
-  calm line.Response = other line.Response tt
-  calm line.Pick = other line.Pick tt
-  calm line.Link = other line.Link tt
-  calm line.WireEnd = other line.WireEnd tt
-  calm line.Reset = other line.Reset tt
-  calm line.Shut = other line.Shut tt
-  calm line.Drop = other line.Drop tt
-  calm line.Add = other line.Add tt
+  quiescent line.Cut = other line.Cut tt
+  quiescent line.Transparent = other line.Transparent tt
+  quiescent line.Inherited = other line.Inherited tt
+  quiescent line.Row = other line.Row tt
+  quiescent line.Final = other line.Final tt
+  quiescent line.Overflow = other line.Overflow tt
+  quiescent line.Head = other line.Head tt
+  quiescent line.Response = other line.Response tt
+  quiescent line.Pick = other line.Pick tt
+  quiescent line.Link = other line.Link tt
+  quiescent line.WireEnd = other line.WireEnd tt
+  quiescent line.Reset = other line.Reset tt
+  quiescent line.Shut = other line.Shut tt
+  quiescent line.Drop = other line.Drop tt
+  quiescent line.Add = other line.Add tt
 
   abbrev y : StateSeen
   y = misconfigured (answered_question x)
@@ -174,7 +174,7 @@ module _ (exact : CalmIsExact) (x : StateSeen) (o : OpenEntry) (s : Seen) (h : A
   pub state_is : (resolved addresses config x).state ≡ y
   state_is =
       ap (λ (c : Result Config ConfigFault). (then_readdressed addresses (config_taken c (answered_question x))).state) bad
-      ∙ ap (λ (c : Option Config). readdressed_by (option_map (λ (d : Config). d.kind) c) addresses y) bare
+      ∙ ap (λ (c : Option Config). readdressed_by (option_map (λ (d : Config). d.kind) c) addresses y) awaiting_config
 
   pub reply_is : (resolved addresses config x).reply ≡ r
   reply_is = ap (λ (c : Result Config ConfigFault). (then_readdressed addresses (config_taken c (answered_question x))).reply) bad
@@ -188,7 +188,7 @@ module _ (exact : CalmIsExact) (x : StateSeen) (o : OpenEntry) (s : Seen) (h : A
       does = (event_next o s at timely a (ap (λ (e : Event). event_action e s) brings ∙ next), sym does);
       posts = refl;
       same = record { moment = refl; word = refl; event = refl; entries = refl; setup = refl };
-      at = record { current = refl; stage_is = refl; calm = of_order exact p t calm };
+      at = record { current = refl; stage_is = refl; quiescent = of_order exact p t quiescent };
       agrees = agrees;
     };
     reply = refl;
@@ -196,7 +196,7 @@ module _ (exact : CalmIsExact) (x : StateSeen) (o : OpenEntry) (s : Seen) (h : A
     none = ap (λ (e : Event). if is_after_event p then frame_of_event e p t else None) brings;
   }
 
-pub first_bad_configs : CalmIsExact → FirstBadConfigsAreAnswered
+pub first_bad_configs : QuiescenceIsExact → FirstBadConfigsAreAnswered
 first_bad_configs exact x y r o s h at fresh timely case answers =
     let given : AnswersBy None (event.Resolved case.addresses case.config) x y r
     = subst (λ (e : Event). AnswersBy None e x y r) case.event_is (subst (λ (z : Option Refusal). AnswersBy z o.event x y r) case.kept answers) in

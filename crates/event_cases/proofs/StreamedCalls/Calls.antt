@@ -10,8 +10,8 @@ use Rattle.attempt_ledger.specs.declared.ledger.CallSeen.{CallSeen}
 use Rattle.attempt_ledger.specs.declared.ledger.Ledger.{Ledger}
 use Rattle.attempt_ledger.specs.declared.row.RowEnd.{RowEnd}
 use Rattle.call_actions.proofs.Ranks.{any_map_all, fold_map, numbered_map}
-use Rattle.call_actions.specs.Order.{AreNumbered, IsInOrder, IsInTurn, goes_on_followed, goes_on_older, has_ended, is_beyond, is_own_mark, is_retried}
-use Rattle.call_actions.specs.Sees.{AreDue, Sees, bucket_of, is_live, live_row, live_rows}
+use Rattle.call_actions.specs.Order.{AttemptsAreNumbered, IsInOrder, IsInTurn, goes_on_followed, goes_on_older, has_ended, is_beyond, is_own_mark, is_retried}
+use Rattle.call_actions.specs.Sees.{DuesAgree, Sees, bucket_of, is_live, live_row, live_rows}
 use Rattle.call_core.specs.Laws as channel
 use Rattle.call_core.specs.Steps.{Stepped}
 use Rattle.channel_actions.proofs.Drains.Calls.Streamed.{streamed_is}
@@ -36,7 +36,7 @@ use Rattle.event_cases.specs.StreamedCalls.Laws.{CallsAreServed, DuesStay, IsLed
 use Rattle.channel_actions.proofs.Streams.Opened.Dues.{last_same, made_count, next_same, state_same}
 use Rattle.channel_actions.proofs.Streams.Opened.Rows.{commitment_is, counted_same, followed_same, h, queued_same, some_same, t}
 use Rattle.channel_actions.proofs.Streams.Opened.Streams.{streams_of}
-use Rattle.call_actions.specs.TakeActions.Serves.{ArePlaced, Holds, IsLeft, Serves, came, is_ended_at}
+use Rattle.call_actions.specs.TakeActions.Serves.{AttemptsStandInPlace, Holds, IsLeft, Serves, came, is_ended_at}
 
 -- lists
 map_cond : (f : Attempt → Attempt) (b : Bool) (x : Attempt) (xs : List Attempt) → cond b (f x ∷ map f xs) (map f xs) ≡ map f (cond b (x ∷ xs) xs)
@@ -61,11 +61,11 @@ fold_same : (f g : ℕ → ℕ → ℕ) → ((n p : ℕ) → f n p ≡ g n p) �
 fold_same f g same n [] = refl
 fold_same f g same n (p ∷ ps) = ap (λ (m : ℕ). fold f m ps) (same n p) ∙ fold_same f g same (g n p) ps
 
-placed_so : (n : ℕ) (f : Attempt → Attempt) → ((a : Attempt) → (f a).place ≡ a.place) → (xs : List Attempt) → ArePlaced n xs → ArePlaced n (map f xs)
+placed_so : (n : ℕ) (f : Attempt → Attempt) → ((a : Attempt) → (f a).place ≡ a.place) → (xs : List Attempt) → AttemptsStandInPlace n xs → AttemptsStandInPlace n (map f xs)
 placed_so n f same [] p = tt
 placed_so n f same (a ∷ xs) p = (same a ∙ p.0, placed_so (suc n) f same xs p.1)
 
-numbered_so : (n : ℕ) (f : Attempt → Attempt) → ((a : Attempt) → (f a).place ≡ a.place) → (xs : List Attempt) → AreNumbered n xs → AreNumbered n (map f xs)
+numbered_so : (n : ℕ) (f : Attempt → Attempt) → ((a : Attempt) → (f a).place ≡ a.place) → (xs : List Attempt) → AttemptsAreNumbered n xs → AttemptsAreNumbered n (map f xs)
 numbered_so n f same [] p = tt
 numbered_so n f same (a ∷ xs) p = (same a ∙ p.0, numbered_so (suc n) f same xs p.1)
 
@@ -144,7 +144,7 @@ module _ (s : Seen) (g : ℕ → Option ℕ) (ls : List Link) (current : Option 
     ended = k.ended;
     attempts = record {
       sent = made_count s g ls current c ∙ k.attempts.sent;
-      due = subst (λ (d : DueState). AreDue d x.call.attempts) (sym (state_same s g ls current c)) k.attempts.due;
+      due = subst (λ (d : DueState). DuesAgree d x.call.attempts) (sym (state_same s g ls current c)) k.attempts.due;
       unplaced = k.attempts.unplaced;
       delayed = λ keeps free. delayed_same c x.call.attempts.sent ∙ k.attempts.delayed keeps free;
       last = λ free. last_same s g ls current c ∙ k.attempts.last free;

@@ -56,11 +56,11 @@ none_more g (c ∷ xs) b none h =
 
 -- the clock of subchannels
 module _ (o : OpenEntry) (s : Seen) (clock : next_of_clock s ≡ None) where
-  abbrev Rests : Action → Type 0
-  Rests a = next_of_clock (after_in o a s) ≡ None
+  abbrev AtRest : Action → Type 0
+  AtRest a = next_of_clock (after_in o a s) ≡ None
 
   abbrev AllRest : Option Action → Type 0
-  AllRest q = (a : Action) → q ≡ Some a → Rests a
+  AllRest q = (a : Action) → q ≡ Some a → AtRest a
 
   either : (p q : Option Action) → AllRest p → AllRest q → AllRest (option_or p q)
   either None q f g = g
@@ -69,9 +69,9 @@ module _ (o : OpenEntry) (s : Seen) (clock : next_of_clock s ≡ None) where
   none : AllRest None
   none a e = absurd (cc)
 
-  by_map : {X : Type 0} (f : X → Action) → ((x : X) → Rests (f x)) → (q : Option X) → AllRest (option_map f q)
+  by_map : {X : Type 0} (f : X → Action) → ((x : X) → AtRest (f x)) → (q : Option X) → AllRest (option_map f q)
   by_map f each None a e = absurd (cc)
-  by_map f each (Some x) a e = let one : f x ≡ a = (cc) in subst Rests one (each x)
+  by_map f each (Some x) a e = let one : f x ≡ a = (cc) in subst AtRest one (each x)
 
   given_by : (n : ℕ) (q : Option (List Address)) → next_of_clock (option_map_or (λ (l : List Address). with_policy (given_addresses l s) n s) q s) ≡ None
   given_by n None = clock
@@ -82,7 +82,7 @@ module _ (o : OpenEntry) (s : Seen) (clock : next_of_clock s ≡ None) where
   shut_by subs None e = e
   shut_by subs (Some b) e = e
 
-  shut_now : (b : Subchannel) → Rests (action.SubchannelShut b.number)
+  shut_now : (b : Subchannel) → AtRest (action.SubchannelShut b.number)
   shut_now b =
       let subs : List Subchannel = changed (without_link conn.Shutdown) b.number s.subs in
       shut_by subs (numbered subs b.number)
@@ -90,7 +90,7 @@ module _ (o : OpenEntry) (s : Seen) (clock : next_of_clock s ≡ None) where
 
   begin_by : (k : Kind) (b : Bool) → AllRest (if b then None else Some (action.PolicyBegins k))
   begin_by k true a e = absurd (cc)
-  begin_by k false a e = let one : action.PolicyBegins k ≡ a = (cc) in subst Rests one clock
+  begin_by k false a e = let one : action.PolicyBegins k ≡ a = (cc) in subst AtRest one clock
 
   begun_by : (q : Option Kind) → AllRest (option_and_then (begin_if s) q)
   begun_by None a e = absurd (cc)

@@ -8,8 +8,8 @@ use Rattle.channel_actions.proofs.BoardActions.Boards.{boards_leave_rest, one_bo
 use Rattle.channel_actions.proofs.Does.{none_on}
 use Rattle.channel_actions.proofs.KeptSessions.Along.{kept_along}
 use Rattle.channel_actions.specs.Agrees.{Agrees}
-use Rattle.channel_actions.specs.BoardActions.Boards.{AreOfBoard, IsBoarded}
-use Rattle.channel_actions.specs.Calm.{IsAt}
+use Rattle.channel_actions.specs.BoardActions.Boards.{ActionsAreOfBoard, IsBoarded}
+use Rattle.channel_actions.specs.Quiescent.{IsAt}
 use Rattle.channel_actions.specs.KeptSessions.Kept.{IsKept}
 use Rattle.call_cases.proofs.CallPosts.Answered.{to_order}
 use Rattle.event_cases.proofs.FirstShutdowns.Answered.{links_along}
@@ -20,7 +20,7 @@ use Rattle.attempt_cases.proofs.NetSteps.Clocks.{entry_goes_on}
 use Rattle.attempt_cases.proofs.NetSteps.Subbed.{current_stays}
 use Rattle.event_cases.proofs.TakeOvers.Kept.{clock_along}
 use Rattle.event_cases.specs.GenerationStamps.Stamps.{dropped, generations_after, is_dropped, is_live_stamp, is_pending_stamp}
-use Rattle.attempt_cases.specs.NetChains.Chains.{IsApartCalm, IsChained, IsPickThere}
+use Rattle.attempt_cases.specs.NetChains.Chains.{IsApartQuiescent, IsChained, IsPickThere}
 use Rattle.attempt_cases.specs.NetChains.Laws.{ChainsAreNext}
 use Rattle.channel_core.specs.States.{StateSeen}
 use Rattle.channel_net.specs.Steps.{NetSeen, left, net_taken_over, taken_over_stamps}
@@ -34,7 +34,7 @@ use Rattle.net_actions.proofs.Quiet.{with_uses}
 use Rattle.net_actions.proofs.TakeOverWhole.{takes_over}
 use Rattle.net_actions.proofs.Uses.{UseAt, use_at}
 use Rattle.net_actions.specs.Runs.{Becomes, DoesAll}
-use Rattle.net_actions.specs.Sees.{AreNumbered, Sees}
+use Rattle.net_actions.specs.Sees.{PoliciesAreNumbered, Sees}
 use Rattle.session_actions.specs.Actions.{after, after_if, following}
 use Rattle.session_actions.specs.CallEnds.{is_refusal, is_replied}
 use Rattle.session_actions.specs.Configs.{held_config}
@@ -55,7 +55,7 @@ use Rattle.session_actions.specs.declared.policy.PolicyUse.{PolicyUse}
 use Rattle.session_actions.specs.declared.seen.Seen.{Seen}
 use Rattle.session_actions.specs.declared.subchannel.Subchannel.{Subchannel}
 use Rattle.session_order.proofs.Changed.{passes_not}
-use Rattle.session_order.specs.Laws.{CalmIsExact, PoliciesStirApart}
+use Rattle.session_order.specs.Laws.{QuiescenceIsExact, PoliciesStirApart}
 use Rattle.session_order.specs.declared.line.Line.TheVariants as line
 use Rattle.session_order.specs.declared.line.Line.{Line}
 
@@ -97,7 +97,7 @@ pub record IsOver (x : StateSeen) (o : OpenEntry) (s : Seen) : Type 0 where
   pub links : seen.links ≡ s.links
   pub clock : next_of_clock seen ≡ None
 
-module _ (exact : CalmIsExact) (apart : PoliciesStirApart) (chains : ChainsAreNext) (x : StateSeen) (o : OpenEntry) (s : Seen) (h : Agrees x s)
+module _ (exact : QuiescenceIsExact) (apart : PoliciesStirApart) (chains : ChainsAreNext) (x : StateSeen) (o : OpenEntry) (s : Seen) (h : Agrees x s)
     (at : IsAt stage.Settling o s) (picks : IsPickThere s) (clock : next_of_clock s ≡ None) (number : ℕ) (takes : next_take_over s ≡ Some (action.PolicyTakesOver number)) where
   abbrev a : Action
   a = action.PolicyTakesOver number
@@ -122,7 +122,7 @@ module _ (exact : CalmIsExact) (apart : PoliciesStirApart) (chains : ChainsAreNe
       let retires : is_to_retire o s it.0 ≡ true
       = ap (λ (b : Bool). is_live_policy it.0 && (b || (is_pending it.0 && holds (λ (k : Kind). is_other_kind k it.0) (wanted_kind o s)))) e
       ∙ ap (λ (b : Bool). b && true) live in
-      let never : is_to_retire o s it.0 ≡ false = passes_not (is_to_retire o s) s.policies (suc there.place) it.0 (to_order o s at.calm line.Retire) there.own in
+      let never : is_to_retire o s it.0 ≡ false = passes_not (is_to_retire o s) s.policies (suc there.place) it.0 (to_order o s at.quiescent line.Retire) there.own in
       let bad : true ≡ false = sym retires ∙ never in absurd (cc)
 
   is_open : s.shut ≡ false
@@ -146,17 +146,17 @@ module _ (exact : CalmIsExact) (apart : PoliciesStirApart) (chains : ChainsAreNe
       (picks ask sub (sym (ap (λ (v : Seen). last_of v.asks) boarded) ∙ is) answer)
 
   rest : IsChained b.runs.actions o u b.end
-  rest = chains b.runs.actions o u b.end b.runs.does on (λ l e. apart.over number o s at.current l o on e (to_order o s at.calm l)) there
+  rest = chains b.runs.actions o u b.end b.runs.does on (λ l e. apart.over number o s at.current l o on e (to_order o s at.quiescent l)) there
 
   follows : following s ≡ Some a
-  follows = next exact apart chains takes_over o s x.net number [] at.current at.stage_is at.calm clock takes
+  follows = next exact apart chains takes_over o s x.net number [] at.current at.stage_is at.quiescent clock takes
 
   -- the stamps of policies
   uses : u ≡ with_uses (map (over (entry s)) s.policies) s
   uses = ap (λ (k : ℕ). policy_took_over k s) (sym it.1.1) ∙ taken_over_now s it.0 h.net.uses_are it.1.0
 
-  numbers : AreNumbered 1 u.policies
-  numbers = subst (λ (v : Seen). AreNumbered 1 v.policies) (sym uses) (over_uses (entry s) s.policies h.net.uses_are).numbers
+  numbers : PoliciesAreNumbered 1 u.policies
+  numbers = subst (λ (v : Seen). PoliciesAreNumbered 1 v.policies) (sym uses) (over_uses (entry s) s.policies h.net.uses_are).numbers
 
   shut_is : u.shut ≡ false
   shut_is = ap (λ (v : Seen). v.shut) boarded ∙ is_open
@@ -196,7 +196,7 @@ module _ (exact : CalmIsExact) (apart : PoliciesStirApart) (chains : ChainsAreNe
       board = (refl, rest.board);
       posts = none_on (a ∷ []) b.runs.actions refl rest.posts;
       current = rest.current;
-      calm = rest.calm;
+      quiescent = rest.quiescent;
     };
     sees = b.sees;
     policy = policy;

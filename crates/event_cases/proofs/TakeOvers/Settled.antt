@@ -5,12 +5,12 @@ use Rattle.std.specs.Prelude.{option_and_then}
 use Rattle.attempt_ledger.specs.declared.ledger.Generation.{Generation}
 use Rattle.attempt_ledger.specs.declared.ledger.LinkSeen.{LinkSeen}
 use Rattle.channel_actions.proofs.BoardActions.Boards.{boards_leave_rest}
-use Rattle.channel_actions.proofs.BoardActions.Calm.{of_order}
+use Rattle.channel_actions.proofs.BoardActions.Quiescent.{of_order}
 use Rattle.channel_actions.proofs.Does.{does_on, none_on}
 use Rattle.channel_actions.proofs.Links.Own.Owned.{own_along}
 use Rattle.channel_actions.specs.Agrees.{Agrees}
 use Rattle.channel_actions.specs.BoardActions.Boards.{IsBoarded}
-use Rattle.channel_actions.specs.Calm.{IsAt}
+use Rattle.channel_actions.specs.Quiescent.{IsAt}
 use Rattle.channel_actions.specs.Clock.{DrawsAlike}
 use Rattle.channel_actions.specs.Columns.{links_noted}
 use Rattle.channel_actions.specs.KeptSessions.Kept.{IsKept}
@@ -31,11 +31,11 @@ use Rattle.attempt_cases.proofs.NetSteps.Subbed.{current_stays}
 use Rattle.event_cases.proofs.TakeOvers.Kept.{shut_rounds}
 use Rattle.event_cases.proofs.TakeOvers.Over.{IsOver, is_over}
 use Rattle.event_cases.proofs.TakeOvers.Stamped.{board_stamps, stamps_of_generations}
-use Rattle.channel_actions.specs.TheirLinks.Theirs.{AreTheirs}
-use Rattle.event_cases.specs.LeftLinks.Laws.{AreLeft, LeftLinksAreStamped}
+use Rattle.channel_actions.specs.TheirLinks.Theirs.{LinksAreTheirs}
+use Rattle.event_cases.specs.LeftLinks.Laws.{LinksAreLeft, LeftLinksAreStamped}
 use Rattle.attempt_cases.specs.NetChains.Chains.{IsPickThere}
 use Rattle.attempt_cases.specs.NetChains.Laws.{ChainsAreNext}
-use Rattle.channel_actions.specs.GreetedLinks.Joined.{AreJoined}
+use Rattle.channel_actions.specs.PrefacedLinks.Joined.{PrefacedLinksAreJoined}
 use Rattle.attempt_cases.specs.NetSettlings.Points.{IsClocked, IsJoined, Leads}
 use Rattle.attempt_cases.specs.NetSteps.Steps.{netted}
 use Rattle.event_cases.specs.TakeOvers.Laws.{NetsAreSettled}
@@ -66,7 +66,7 @@ use Rattle.session_actions.specs.declared.entry.Stage.TheVariants as stage
 use Rattle.session_actions.specs.declared.link.Link.{Link}
 use Rattle.session_actions.specs.declared.policy.PolicyUse.{PolicyUse}
 use Rattle.session_actions.specs.declared.seen.Seen.{Seen}
-use Rattle.session_order.specs.Laws.{BoardsStir, CalmIsExact, PoliciesStirApart}
+use Rattle.session_order.specs.Laws.{BoardsStir, QuiescenceIsExact, PoliciesStirApart}
 use Rattle.subchannel.specs.Boards.{kept}
 use Rattle.subchannel.specs.Records.{SubRecord}
 
@@ -81,9 +81,9 @@ pub over_by : (s : Seen) (p : Option PolicyUse) (a : Action)
 over_by s None a e = absurd (cc)
 over_by s (Some g) a e = (g.number, if_over (policies.may_take_over s g) g.number a e)
 
-module _ (exact : CalmIsExact) (stir : BoardsStir) (apart : PoliciesStirApart) (chains : ChainsAreNext) (wishes : WishesConnect) (none_connects : NoneConnects)
+module _ (exact : QuiescenceIsExact) (stir : BoardsStir) (apart : PoliciesStirApart) (chains : ChainsAreNext) (wishes : WishesConnect) (none_connects : NoneConnects)
     (calls_stay : AllCallsStay) (sets_stay : SetsStay) (kept_along : KeptAlong) (links_stay : LinksStay) (left_stamped : LeftLinksAreStamped)
-    (x : StateSeen) (o : OpenEntry) (s : Seen) (h : Agrees x s) (joined : AreJoined s) (theirs : AreTheirs s) (picks : IsPickThere s) (at : IsAt stage.Settling o s)
+    (x : StateSeen) (o : OpenEntry) (s : Seen) (h : Agrees x s) (joined : PrefacedLinksAreJoined s) (theirs : LinksAreTheirs s) (picks : IsPickThere s) (at : IsAt stage.Settling o s)
     (begun : IsClocked o s) (number : ℕ) (takes : next_take_over s ≡ Some (action.PolicyTakesOver number)) where
   over : IsOver x o s
   over = is_over exact apart chains x o s h at picks begun.clock number takes
@@ -125,7 +125,7 @@ module _ (exact : CalmIsExact) (stir : BoardsStir) (apart : PoliciesStirApart) (
       ∙ sym (ap (λ (l : List SubRecord). shut_links l x.net.links) board_is)
 
   -- the stamps of links that are left
-  are_left : AreLeft x s t n1 gone
+  are_left : LinksAreLeft x s t n1 gone
   are_left = record {
     attempts = ap (λ (v : Seen). v.attempts) boarded_t;
     links = over.links;
@@ -140,11 +140,11 @@ module _ (exact : CalmIsExact) (stir : BoardsStir) (apart : PoliciesStirApart) (
   noted_t = left_stamped x s t n1 gone h theirs are_left
 
   -- links are joined as before
-  joined_t : AreJoined t
+  joined_t : PrefacedLinksAreJoined t
   joined_t = record {
     own = own_along kept_along over.actions s t h.kept joined.own over.chained.does;
-    greeted = λ row a placed l here there is.
-        joined.greeted row a placed l (ap (λ (v : Seen). numbered v.attempts row) (sym boarded_t) ∙ here) there (ap (λ (ls : List Link). numbered ls placed.link) (sym over.links) ∙ is);
+    prefaced = λ row a placed l here there is.
+        joined.prefaced row a placed l (ap (λ (v : Seen). numbered v.attempts row) (sym boarded_t) ∙ here) there (ap (λ (ls : List Link). numbered ls placed.link) (sym over.links) ∙ is);
   }
 
   abbrev ages : List Generation
@@ -157,7 +157,7 @@ module _ (exact : CalmIsExact) (stir : BoardsStir) (apart : PoliciesStirApart) (
     board = over.chained.board;
     posts = over.chained.posts;
     current = over.chained.current;
-    still = over.chained.calm;
+    still = over.chained.quiescent;
     sees = over.sees;
     ages = over.ages;
     joined = joined_t;
@@ -240,7 +240,7 @@ module _ (exact : CalmIsExact) (stir : BoardsStir) (apart : PoliciesStirApart) (
         entries = ap (λ (v : Seen). v.entries) boarded;
         setup = ap (λ (v : Seen). v.setup) boarded;
       };
-      at = record { current = on.current; stage_is = at.stage_is; calm = of_order exact o w on.still };
+      at = record { current = on.current; stage_is = at.stage_is; quiescent = of_order exact o w on.still };
       agrees = subst (λ (v : StateSeen). Agrees v w) (sym settled_is) agrees;
     };
     reply = refl;
@@ -253,9 +253,9 @@ module _ (exact : CalmIsExact) (stir : BoardsStir) (apart : PoliciesStirApart) (
   }
 
 -- by whether one may take over
-settled_by : (exact : CalmIsExact) (stir : BoardsStir) (apart : PoliciesStirApart) (chains : ChainsAreNext) (wishes : WishesConnect) (none_connects : NoneConnects)
+settled_by : (exact : QuiescenceIsExact) (stir : BoardsStir) (apart : PoliciesStirApart) (chains : ChainsAreNext) (wishes : WishesConnect) (none_connects : NoneConnects)
     (calls_stay : AllCallsStay) (sets_stay : SetsStay) (kept_along : KeptAlong) (links_stay : LinksStay) (left_stamped : LeftLinksAreStamped)
-    (x : StateSeen) (o : OpenEntry) (s : Seen) (h : Agrees x s) (joined : AreJoined s) (theirs : AreTheirs s) (picks : IsPickThere s) (at : IsAt stage.Settling o s)
+    (x : StateSeen) (o : OpenEntry) (s : Seen) (h : Agrees x s) (joined : PrefacedLinksAreJoined s) (theirs : LinksAreTheirs s) (picks : IsPickThere s) (at : IsAt stage.Settling o s)
     (begun : IsClocked o s) (a : Option Action) → next_take_over s ≡ a → Leads (channel.net_settled x) o s IsJoined
 settled_by exact stir apart chains wishes none_connects calls_stay sets_stay kept_along links_stay left_stamped x o s h joined theirs picks at begun None none =
     wishes_are_parts exact stir take_overs_are_same wishes none_connects calls_stay sets_stay kept_along links_stay x o s h joined at
@@ -265,6 +265,6 @@ settled_by exact stir apart chains wishes none_connects calls_stay sets_stay kep
     led exact stir apart chains wishes none_connects calls_stay sets_stay kept_along links_stay left_stamped x o s h joined theirs picks at begun it.0
     (some ∙ ap (λ (d : Action). Some d) it.1)
 
-pub nets_are_settled : CalmIsExact → BoardsStir → PoliciesStirApart → ChainsAreNext → WishesConnect → NoneConnects → AllCallsStay → SetsStay → KeptAlong → LinksStay → NetsAreSettled
+pub nets_are_settled : QuiescenceIsExact → BoardsStir → PoliciesStirApart → ChainsAreNext → WishesConnect → NoneConnects → AllCallsStay → SetsStay → KeptAlong → LinksStay → NetsAreSettled
 nets_are_settled exact stir apart chains wishes none_connects calls_stay sets_stay kept_along links_stay left_stamped x o s h joined theirs picks at begun =
     settled_by exact stir apart chains wishes none_connects calls_stay sets_stay kept_along links_stay left_stamped x o s h joined theirs picks at begun (next_take_over s) refl

@@ -7,7 +7,7 @@ use Rattle.channel_actions.proofs.KeptSessions.Along.{kept_stays}
 use Rattle.channel_actions.proofs.KeptSessions.Lists.{all_at, counted_places, own_number}
 use Rattle.channel_actions.proofs.Streams.Opened.Responses.{retiring_same}
 use Rattle.channel_actions.specs.KeptSessions.Kept.{IsKept}
-use Rattle.channel_actions.proofs.Links.Greeted.Along.{greeted_stays}
+use Rattle.channel_actions.proofs.Links.Prefaced.Along.{prefaced_stays}
 use Rattle.channel_actions.proofs.Streams.Own.Along.{frames_are_sendable}
 use Rattle.channel_actions.proofs.Streams.Own.Frames.{passed_opens, sent_next}
 use Rattle.channel_actions.proofs.Streams.Own.Steps.{each_filter, each_from, first_has}
@@ -77,13 +77,13 @@ module _ (s : Seen) (l : Link) (c : Call) (kept : IsKept s) (line : numbered s.l
   abbrev IsThere : Attempt → Type 0
   IsThere a = numbered s.attempts a.place ≡ Some a
 
-  abbrev Goes : Attempt → Type 0
-  Goes a = IsThere a × (is_outstanding_on l a ≡ true)
+  abbrev Continues : Attempt → Type 0
+  Continues a = IsThere a × (is_outstanding_on l a ≡ true)
 
-  first_waits : (a : Attempt) → slice_get (waiting_on l s) 0 ≡ Some a → Goes a × (is_none a.row.stream ≡ true)
+  first_waits : (a : Attempt) → slice_get (waiting_on l s) 0 ≡ Some a → Continues a × (is_none a.row.stream ≡ true)
   first_waits a got =
-      first_has (λ (q : Attempt). Goes q × (is_none q.row.stream ≡ true)) (waiting_on l s) a got
-      (each_filter Goes (λ (q : Attempt). is_none q.row.stream) (outstanding_on l s)
+      first_has (λ (q : Attempt). Continues q × (is_none q.row.stream ≡ true)) (waiting_on l s) a got
+      (each_filter Continues (λ (q : Attempt). is_none q.row.stream) (outstanding_on l s)
       (each_filter IsThere (is_outstanding_on l) s.attempts
       (each_from IsThere s.attempts (λ i q at. own_number (λ (z : Attempt). z.place) s.attempts i q kept.attempts at))))
 
@@ -101,7 +101,7 @@ module _ (s : Seen) (l : Link) (c : Call) (kept : IsKept s) (line : numbered s.l
       → came c (with_entry h (with_link (with_sent (sent.Frame f)) l.number (option_map_or (λ (a : Attempt). with_attempt (with_stream f.stream) a.place s) o s))) ≡ came c s
   opened_by f None h got kind next sends e = plain (sent.Frame f) (option_map h s.current)
   opened_by f (Some a) h got kind next sends e =
-      let waits : Goes a × (is_none a.row.stream ≡ true) = first_waits a got in
+      let waits : Continues a × (is_none a.row.stream ≡ true) = first_waits a got in
       let on : (at : Placed) × (a.row.placed ≡ Some at) × (at.link ≡ l.number)
       = placed_by l a.row.placed (and_parts (is_outstanding a) (holds (λ (at : Placed). at.link == l.number) a.row.placed) waits.0.1).1 in
       let goes : is_none a.row.ended ≡ true
@@ -172,8 +172,8 @@ one_entry None s link x l kept at silent sends = record { items = λ c. refl; li
 one_entry (Some o) s link x l kept at silent sends = one_found s link x l (numbered s.links link) kept refl at silent sends
 
 pub writes_leave_items : WritesLeaveItems
-writes_leave_items [] link s t l kept greeted at silent does c = ap (came c) does
-writes_leave_items (x ∷ sent) link s t l kept greeted at silent does c =
+writes_leave_items [] link s t l kept prefaced at silent does c = ap (came c) does
+writes_leave_items (x ∷ sent) link s t l kept prefaced at silent does c =
     let act : Action = action.FrameWritten link x in
-    let one : Stays link s (after act s) = one_entry s.current s link x l kept at silent (frames_are_sendable s link x l kept greeted does.0 at) in
-    writes_leave_items sent link (after act s) t one.line (kept_stays s act kept does.0) (greeted_stays s act kept greeted does.0) one.here one.silent does.1 c ∙ one.items c
+    let one : Stays link s (after act s) = one_entry s.current s link x l kept at silent (frames_are_sendable s link x l kept prefaced does.0 at) in
+    writes_leave_items sent link (after act s) t one.line (kept_stays s act kept does.0) (prefaced_stays s act kept prefaced does.0) one.here one.silent does.1 c ∙ one.items c

@@ -5,5 +5,5 @@ use Rattle.session_actions.specs.Words.{numbered}
 use Rattle.session_actions.specs.declared.config.HeldConfig.{HeldConfig}
 use Rattle.session_actions.specs.declared.seen.Seen.{Seen}
 
-abbrev pub AreThrottled : Seen → Type 0
-AreThrottled s = (k : ℕ) (h : HeldConfig) → numbered s.configs k ≡ Some h → is_some h.run ≡ is_some h.config.throttle
+abbrev pub BucketsFollowConfigs : Seen → Type 0
+BucketsFollowConfigs s = (k : ℕ) (h : HeldConfig) → numbered s.configs k ≡ Some h → is_some h.run ≡ is_some h.config.throttle

@@ -8,7 +8,7 @@ use Rattle.grpc_base.specs.Kinds.{has_kind}
 use Rattle.grpc_base.specs.declared.kind.Kind.{Kind}
 use Rattle.grpc_base.specs.declared.address.Address.{Address}
 use Rattle.net_actions.specs.Runs.{DoesAll, IsOfCalls}
-use Rattle.net_actions.specs.Sees.{AreNumbered, Sees}
+use Rattle.net_actions.specs.Sees.{PoliciesAreNumbered, Sees}
 use Rattle.policy_rack.specs.Kinds.{kinds_of}
 use Rattle.session_actions.specs.Entries.{entry}
 use Rattle.session_actions.specs.Policies.{next_take_over, policy_took_over, result_of, wanted_kind}
@@ -20,7 +20,7 @@ use Rattle.session_actions.specs.declared.seen.Seen.{Seen}
 -- of the session alone: what the lines of policies leave, one after another
 abbrev pub GenerationsAlong : Type 0
 GenerationsAlong =
-    (actions : List Action) (o : OpenEntry) (s t : Seen) → AreNumbered 1 s.policies → (s.shut ≡ true → result_of o ≡ None) → DoesAll actions o s t
+    (actions : List Action) (o : OpenEntry) (s t : Seen) → PoliciesAreNumbered 1 s.policies → (s.shut ≡ true → result_of o ≡ None) → DoesAll actions o s t
     → map (λ g. g.generation) t.policies ≡ generations_after s.shut (wanted_kind o s) (entry s) (map (λ g. g.generation) s.policies)
 
 -- a result, for a kind that the channel has a policy of

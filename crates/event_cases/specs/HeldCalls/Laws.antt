@@ -7,8 +7,8 @@ use Rattle.channel_actions.specs.Known.{IsKnown}
 use Rattle.channel_actions.specs.Stages.{EventsAnswered}
 use Rattle.attempt_cases.specs.DrainEvents.Laws.{HasRun, IsDrain}
 use Rattle.event_cases.specs.DrainedCalls.Laws.{IsHeld}
-use Rattle.channel_actions.specs.GreetedLinks.Greeted.{AreGreeted}
-use Rattle.channel_actions.specs.OwnStreams.Own.{AreOwnStreams}
+use Rattle.channel_actions.specs.PrefacedLinks.Prefaced.{LinksArePrefaced}
+use Rattle.channel_actions.specs.OwnStreams.Own.{StreamsAreOwn}
 use Rattle.channel_actions.specs.SoundBuffers.Held.{BuffersAreSound}
 use Rattle.channel_core.specs.Books.{slot_at}
 use Rattle.channel_core.specs.Draining.{DrainLeaves}
@@ -22,7 +22,7 @@ use Rattle.session_actions.specs.declared.seen.Seen.{Seen}
 
 abbrev pub KnownCallsAreHeld : Type 0
 KnownCallsAreHeld =
-    (x y : StateSeen) (s t : Seen) (link room : ℕ) (r : Reply) → Agrees x s → BuffersAreSound x → AreGreeted s → AreOwnStreams s → (leaves : DrainLeaves link room x r y)
+    (x y : StateSeen) (s t : Seen) (link room : ℕ) (r : Reply) → Agrees x s → BuffersAreSound x → LinksArePrefaced s → StreamsAreOwn s → (leaves : DrainLeaves link room x r y)
     → (run : HasRun s t y link leaves.fed) → run.before.over ≡ None
     → (number : ℕ) (c : Call) (slot : CallSlot) → numbered s.calls number ≡ Some c → slot_at leaves.fed number ≡ Some slot → IsHeld s t c slot
 

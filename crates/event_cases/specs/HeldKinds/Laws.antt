@@ -3,7 +3,7 @@
 -- Example: a channel was made with pick_first and round_robin. A result whose config names a policy that it does not know, and then round_robin, is of round_robin.
 use Rattle.std.specs.Prelude.{List, Some, true, ℕ, ◌≡◌}
 use Rattle.channel_actions.specs.TransparentRetries.Laws.{PlansAreShort}
-use Rattle.event_cases.specs.ConfigReads.Throttled.{AreThrottled}
+use Rattle.event_cases.specs.ConfigReads.Throttled.{BucketsFollowConfigs}
 use Rattle.grpc_base.specs.Kinds.{has_kind}
 use Rattle.grpc_base.specs.declared.kind.Kind.TheVariants as kind
 use Rattle.session_actions.specs.Configs.{kinds_in}
@@ -22,7 +22,7 @@ HeldKindsAreThere =
     (setup : Setup) (actions : List Action) (s : Seen) → has_kind (kinds_in setup.policies) kind.PickFirst ≡ true → Does actions (new_session setup) s → KindsAreThere s
 
 abbrev pub ConfigsAreThrottled : Type 0
-ConfigsAreThrottled = (setup : Setup) (actions : List Action) (s : Seen) → Does actions (new_session setup) s → AreThrottled s
+ConfigsAreThrottled = (setup : Setup) (actions : List Action) (s : Seen) → Does actions (new_session setup) s → BucketsFollowConfigs s
 
 -- a plan allows 5 attempts at most (gRFC A6, "Maximum Number of Retries")
 abbrev pub HeldPlansAreShort : Type 0

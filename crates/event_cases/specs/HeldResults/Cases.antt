@@ -2,8 +2,8 @@
 -- Example: a channel holds a config of round_robin. A result with the addresses 10.0.0.1:80 and 10.0.0.2:80 and an invalid config is answered with BadConfig, and
 -- round_robin gets these two addresses. SubchannelShut and SubchannelAdded follow for those that went and came.
 use Rattle.std.specs.Prelude.{Err, List, None, Ok, Option, Result, Some, true, ℕ, ◌≡◌}
-use Rattle.channel_actions.specs.TheirLinks.Theirs.{AreTheirs}
-use Rattle.event_cases.specs.ConfigReads.Throttled.{AreThrottled}
+use Rattle.channel_actions.specs.TheirLinks.Theirs.{LinksAreTheirs}
+use Rattle.event_cases.specs.ConfigReads.Throttled.{BucketsFollowConfigs}
 use Rattle.attempt_cases.specs.NetChains.Chains.{IsPickThere}
 use Rattle.channel_core.specs.Applying as channel
 use Rattle.channel_core.specs.Applying.{config_read}
@@ -35,6 +35,6 @@ pub record IsHeldResult (e : Event) (x : StateSeen) (s : Seen) : Type 0 where
   pub list : IsAddressList addresses
   -- of the session alone: configs have runs where they have throttle settings, the last pick request was answered with a subchannel that was made, and an open
   -- link is its subchannel's own
-  pub throttled : AreThrottled s
+  pub throttled : BucketsFollowConfigs s
   pub picks : IsPickThere s
-  pub theirs : AreTheirs s
+  pub theirs : LinksAreTheirs s

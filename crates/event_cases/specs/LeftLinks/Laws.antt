@@ -4,7 +4,7 @@
 use Rattle.channel_actions.specs.Agrees.{Agrees}
 use Rattle.channel_actions.specs.Columns.{links_noted}
 use Rattle.channel_actions.specs.KeptSessions.Kept.{IsKept}
-use Rattle.channel_actions.specs.TheirLinks.Theirs.{AreTheirs}
+use Rattle.channel_actions.specs.TheirLinks.Theirs.{LinksAreTheirs}
 use Rattle.channel_core.specs.States.{StateSeen}
 use Rattle.channel_core.specs.Steps.{links_left}
 use Rattle.channel_net.specs.Steps.{NetSeen, left}
@@ -18,7 +18,7 @@ use Rattle.std.specs.List.{list_any}
 use Rattle.std.specs.Prelude.{List, Some, false, true, ℕ, ◌==◌, ◌≡◌}
 
 -- no attempt and no link changed; and these links are those of the subchannels that were shut
-pub record AreLeft (x : StateSeen) (s t : Seen) (n : NetSeen) (gone : List ℕ) : Type 0 where
+pub record LinksAreLeft (x : StateSeen) (s t : Seen) (n : NetSeen) (gone : List ℕ) : Type 0 where
   pub attempts : t.attempts ≡ s.attempts
   pub links : t.links ≡ s.links
   pub entry_is : entry t ≡ entry s
@@ -31,5 +31,5 @@ pub record AreLeft (x : StateSeen) (s t : Seen) (n : NetSeen) (gone : List ℕ) 
 
 abbrev pub LeftLinksAreStamped : Type 0
 LeftLinksAreStamped =
-    (x : StateSeen) (s t : Seen) (n : NetSeen) (gone : List ℕ) → Agrees x s → AreTheirs s → AreLeft x s t n gone
+    (x : StateSeen) (s t : Seen) (n : NetSeen) (gone : List ℕ) → Agrees x s → LinksAreTheirs s → LinksAreLeft x s t n gone
     → links_noted t ≡ (links_left (left n gone) x).book.ledger.links

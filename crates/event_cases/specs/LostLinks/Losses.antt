@@ -5,11 +5,11 @@
 use Rattle.std.specs.List.{AllByRecursion}
 use Rattle.std.specs.Prelude.{List, None, Some, [], false, length, true, ℕ, ◌<◌, ◌≡◌}
 use Rattle.channel_actions.specs.Agrees.{Agrees}
-use Rattle.call_cases.specs.EndsFollow.Cuts.{AreUnreset}
+use Rattle.call_cases.specs.EndsFollow.Cuts.{NoStreamIsToReset}
 use Rattle.channel_actions.specs.GoingCalls.Going.{CallsGoOn}
-use Rattle.channel_actions.specs.GreetedLinks.Greeted.{AreGreeted}
+use Rattle.channel_actions.specs.PrefacedLinks.Prefaced.{LinksArePrefaced}
 use Rattle.channel_actions.specs.Known.{IsKnown}
-use Rattle.channel_actions.specs.OwnStreams.Own.{AreOwnStreams}
+use Rattle.channel_actions.specs.OwnStreams.Own.{StreamsAreOwn}
 use Rattle.channel_actions.specs.Points.{IsSameEntry}
 use Rattle.end_cases.specs.AttemptEnds.Ends.{AreHeld}
 use Rattle.end_cases.specs.AttemptEnds.Runs.{RunsRise}
@@ -28,7 +28,7 @@ use Rattle.session_actions.specs.declared.entry.OpenEntry.{OpenEntry}
 use Rattle.session_actions.specs.declared.entry.Stage.TheVariants as stage
 use Rattle.session_actions.specs.declared.link.Link.{Link}
 use Rattle.session_actions.specs.declared.seen.Seen.{Seen}
-use Rattle.session_order.specs.Calm.{IsStill}
+use Rattle.session_order.specs.Quiescent.{IsStill}
 use Rattle.session_order.specs.Lines.{is_line}
 use Rattle.session_order.specs.declared.line.Line.{Line}
 use Rattle.session_order.specs.declared.line.Line.TheVariants as line
@@ -42,10 +42,10 @@ pub record LossGoesOn (l : Link) (x : StateSeen) (o : OpenEntry) (s : Seen) : Ty
   pub over : SeesOver l s
   pub quiet : AllByRecursion (IsQuiet l s) s.attempts
   pub agrees : Agrees (stamped_gone l.number x) s
-  pub unreset : AreUnreset s
+  pub unreset : NoStreamIsToReset s
   -- attempts are only on links with SETTINGS, and no two of a link have one stream
-  pub greeted : AreGreeted s
-  pub streams : AreOwnStreams s
+  pub prefaced : LinksArePrefaced s
+  pub streams : StreamsAreOwn s
   pub rising : RunsRise s
   -- of the channel alone (`going_calls`), and what its buffers hold
   pub going : CallsGoOn x
@@ -63,7 +63,7 @@ pub record HasLost (link : ℕ) (x : StateSeen) (o : OpenEntry) (s : Seen) : Typ
   pub reply : entry.reply ≡ o.reply
   pub turn : entry.turn ≡ o.turn
   pub current : seen.current ≡ Some entry
-  pub calm : (m : Line) → IsStill m entry seen
+  pub quiescent : (m : Line) → IsStill m entry seen
   pub agrees : Agrees (stamped_gone link (rows_lost most_rows link true 0 x)) seen
 
 -- the environment loses a link that is not gone. (Fewer than 2^64 - 1 attempts were made.)

@@ -2,9 +2,9 @@
 -- Deadlines/Timeouts; "Service Config in gRPC": timeout).
 -- Example: call 1 began at 3 s with a timeout of 10^18 ns, which is the longest, and its config says 5 s. At 3 s its deadline is 5 s ahead.
 use Rattle.std.specs.Prelude.{List}
-use Rattle.channel_actions.specs.DrainLends.Laws.{AreNear}
+use Rattle.channel_actions.specs.DrainLends.Laws.{DeadlinesAreClose}
 use Rattle.channel_actions.specs.Known.{IsKnown}
-use Rattle.channel_actions.specs.Posted.{ArePosted}
+use Rattle.channel_actions.specs.Posted.{EventsArePosted}
 use Rattle.channel_core.specs.States.{StateSeen}
 use Rattle.session_actions.specs.Laws.{posted_in}
 use Rattle.session_actions.specs.Sessions.{Does, new_session}
@@ -13,8 +13,8 @@ use Rattle.session_actions.specs.declared.seen.Seen.{Seen}
 use Rattle.session_actions.specs.declared.seen.Setup.{Setup}
 
 abbrev pub DeadlinesAreNear : Type 0
-DeadlinesAreNear = (setup : Setup) (actions : List Action) (s : Seen) → Does actions (new_session setup) s → ArePosted (posted_in actions) → AreNear s
+DeadlinesAreNear = (setup : Setup) (actions : List Action) (s : Seen) → Does actions (new_session setup) s → EventsArePosted (posted_in actions) → DeadlinesAreClose s
 
 -- so it is with what runs keep
 abbrev pub KnownDeadlinesAreNear : Type 0
-KnownDeadlinesAreNear = (x : StateSeen) (s : Seen) → IsKnown x s → AreNear s
+KnownDeadlinesAreNear = (x : StateSeen) (s : Seen) → IsKnown x s → DeadlinesAreClose s

@@ -6,7 +6,7 @@ use Rattle.std.specs.List.{list_all}
 use Rattle.std.specs.Prelude.{None, is_some, map, true, ◌≡◌}
 use Rattle.attempt_buffer.specs.Buffers.{Buffered}
 use Rattle.attempt_ledger.specs.declared.ledger.Ledger.{Ledger}
-use Rattle.call_actions.specs.Order.{AreNumbered, IsInOrder, IsInTurn}
+use Rattle.call_actions.specs.Order.{AttemptsAreNumbered, IsInOrder, IsInTurn}
 use Rattle.call_core.specs.Steps.{Stepped}
 use Rattle.channel_actions.specs.DrainCalls.Laws.{IsOnlyStreamed}
 use Rattle.session_actions.specs.DueAttempts.{next_due}
@@ -32,15 +32,15 @@ pub record IsLedgerOf (old ledger : Ledger) (t : Seen) : Type 0 where
 -- where an entry is being made before and after, what came of its response is the same, and its buffer holds what the session has
 abbrev pub CallsAreServed : Type 0
 CallsAreServed =
-    (s t : Seen) (c : Call) (x : Stepped) (b : Buffered) (ledger : Ledger) → AreNumbered 1 s.attempts → IsOnlyStreamed s t → is_some t.current ≡ is_some s.current
+    (s t : Seen) (c : Call) (x : Stepped) (b : Buffered) (ledger : Ledger) → AttemptsAreNumbered 1 s.attempts → IsOnlyStreamed s t → is_some t.current ≡ is_some s.current
     → Serves s c x → IsLedgerOf x.ledger ledger t → came c t ≡ came c s → (c.end ≡ None → Holds t c b) → Serves t c (with_left b ledger x)
 
 -- what a session keeps in order of it is so still, and its next attempt is due when it was
 abbrev pub OrdersStay : Type 0
-OrdersStay = (s t : Seen) (c : Call) → AreNumbered 1 s.attempts → IsOnlyStreamed s t → IsInOrder s c → IsInOrder t c
+OrdersStay = (s t : Seen) (c : Call) → AttemptsAreNumbered 1 s.attempts → IsOnlyStreamed s t → IsInOrder s c → IsInOrder t c
 
 abbrev pub TurnsStay : Type 0
-TurnsStay = (s t : Seen) (c : Call) → AreNumbered 1 s.attempts → IsOnlyStreamed s t → IsInTurn s c → IsInTurn t c
+TurnsStay = (s t : Seen) (c : Call) → AttemptsAreNumbered 1 s.attempts → IsOnlyStreamed s t → IsInTurn s c → IsInTurn t c
 
 abbrev pub DuesStay : Type 0
-DuesStay = (s t : Seen) (c : Call) → AreNumbered 1 s.attempts → IsOnlyStreamed s t → next_due c t ≡ next_due c s
+DuesStay = (s t : Seen) (c : Call) → AttemptsAreNumbered 1 s.attempts → IsOnlyStreamed s t → next_due c t ≡ next_due c s

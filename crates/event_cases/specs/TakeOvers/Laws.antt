@@ -2,11 +2,11 @@
 -- Example: generation 2 is pending and READY, and alone lists subchannel 2; generation 1 alone lists subchannel 1. PolicyTakesOver 2, SubchannelShut 1; and of a
 -- further subchannel that generation 2 wishes, SubchannelConnects.
 use Rattle.channel_actions.specs.Agrees.{Agrees}
-use Rattle.channel_actions.specs.Calm.{IsAt}
-use Rattle.channel_actions.specs.TheirLinks.Theirs.{AreTheirs}
+use Rattle.channel_actions.specs.Quiescent.{IsAt}
+use Rattle.channel_actions.specs.TheirLinks.Theirs.{LinksAreTheirs}
 use Rattle.event_cases.specs.LeftLinks.Laws.{LeftLinksAreStamped}
 use Rattle.attempt_cases.specs.NetChains.Chains.{IsPickThere}
-use Rattle.channel_actions.specs.GreetedLinks.Joined.{AreJoined}
+use Rattle.channel_actions.specs.PrefacedLinks.Joined.{PrefacedLinksAreJoined}
 use Rattle.attempt_cases.specs.NetSettlings.Points.{IsClocked, IsJoined, Leads}
 use Rattle.channel_core.specs.States.{StateSeen}
 use Rattle.channel_core.specs.Steps.{net_settled}
@@ -18,5 +18,5 @@ use Rattle.session_actions.specs.declared.seen.Seen.{Seen}
 -- subchannel that was made)
 abbrev pub NetsAreSettled : Type 0
 NetsAreSettled =
-    LeftLinksAreStamped → (x : StateSeen) (o : OpenEntry) (s : Seen) → Agrees x s → AreJoined s → AreTheirs s → IsPickThere s → IsAt stage.Settling o s → IsClocked o s
+    LeftLinksAreStamped → (x : StateSeen) (o : OpenEntry) (s : Seen) → Agrees x s → PrefacedLinksAreJoined s → LinksAreTheirs s → IsPickThere s → IsAt stage.Settling o s → IsClocked o s
     → Leads (net_settled x) o s IsJoined

@@ -5,8 +5,8 @@
 use Rattle.std.specs.Prelude.{List, [], false, length, map, ℕ, ◌≡◌, ◌≤◌, Some}
 use Rattle.call_actions.specs.TakeActions.Serves.{came}
 use Rattle.channel_actions.specs.KeptSessions.Kept.{IsKept}
-use Rattle.channel_actions.specs.GreetedLinks.Greeted.{AreGreeted}
-use Rattle.link_actions.specs.StreamActions.Sees.{AreUnheard}
+use Rattle.channel_actions.specs.PrefacedLinks.Prefaced.{LinksArePrefaced}
+use Rattle.link_actions.specs.StreamActions.Sees.{NewStreamsAreUnreceived}
 use Rattle.session_actions.specs.Deliveries.{response_items}
 use Rattle.session_actions.specs.Links.{is_retiring}
 use Rattle.session_actions.specs.Reading.{opened_streams}
@@ -25,10 +25,10 @@ abbrev pub IsSilent : Link → Type 0
 IsSilent l = (limit k : ℕ) → next_stream l ≤ k → is_retiring l ≡ false → response_items (response_in limit k l.traffic) ≡ []
 
 -- it is so of the links of a channel that agree with a session
-abbrev pub UnheardAreSilent : Type 0
-UnheardAreSilent = (l : Link) → AreUnheard l (length (opened_streams l)) → IsSilent l
+abbrev pub UnreceivedAreSilent : Type 0
+UnreceivedAreSilent = (l : Link) → NewStreamsAreUnreceived l (length (opened_streams l)) → IsSilent l
 
 abbrev pub WritesLeaveItems : Type 0
 WritesLeaveItems =
-    (sent : List Sent) (link : ℕ) (s t : Seen) (l : Link) → IsKept s → AreGreeted s → numbered s.links link ≡ Some l → IsSilent l
+    (sent : List Sent) (link : ℕ) (s t : Seen) (l : Link) → IsKept s → LinksArePrefaced s → numbered s.links link ≡ Some l → IsSilent l
     → Does (map (λ x. action.FrameWritten link x) sent) s t → (c : Call) → came c t ≡ came c s

@@ -7,12 +7,12 @@ use Rattle.std.specs.Prelude.{option_and_then}
 use Rattle.attempt_ledger.specs.declared.ledger.LinkSeen.{LinkSeen}
 use Rattle.attempt_ledger.specs.declared.news.News.{News}
 use Rattle.attempt_ledger.specs.declared.news.News.TheVariants as news
-use Rattle.channel_actions.proofs.Links.Greeted.Along.{greeted_along}
+use Rattle.channel_actions.proofs.Links.Prefaced.Along.{prefaced_along}
 use Rattle.channel_actions.proofs.KeptSessions.Along.{kept_stays}
 use Rattle.channel_actions.proofs.Streams.Own.Along.{streams_along}
 use Rattle.channel_actions.proofs.Stamps.{counted_at}
 use Rattle.channel_actions.specs.Agrees.{Agrees}
-use Rattle.call_cases.specs.EndsFollow.Cuts.{AreUnreset}
+use Rattle.call_cases.specs.EndsFollow.Cuts.{NoStreamIsToReset}
 use Rattle.channel_actions.specs.KeptSessions.Kept.{IsKept}
 use Rattle.channel_actions.specs.Links.{IsGoing, SeesLinkOf, lines_in}
 use Rattle.end_cases.proofs.AttemptEnds.Unowed.{agrees_ahead}
@@ -29,25 +29,25 @@ use Rattle.end_cases.specs.AttemptEnds.Laws.{all_sealed}
 use Rattle.end_cases.specs.AttemptEnds.Runs.{RunsRise}
 use Rattle.channel_core.proofs.BookLaws.{number_changed, number_other}
 use Rattle.channel_core.proofs.Resting.{changed_length}
-use Rattle.channel_core.specs.Arrivals.{frame_heard, lost, read_to}
+use Rattle.channel_core.specs.Arrivals.{frame_received, lost, read_to}
 use Rattle.channel_core.specs.Arrivals as arrivals
 use Rattle.channel_core.specs.States.{StateSeen}
-use Rattle.channel_core.specs.Steps.{buried, stamped_gone, with_ledger_links}
-use Rattle.channel_core.specs.Tables.{Heard, heard_by, heard_in, heard_link, with_link}
+use Rattle.channel_core.specs.Steps.{marked_dead, stamped_gone, with_ledger_links}
+use Rattle.channel_core.specs.Tables.{Received, received_by, received_in, received_link, with_link}
 use Rattle.channel_core.specs.declared.state.links.LinkSlot.{LinkSlot}
 use Rattle.frame_cases.proofs.BrokenLinks.Waits.{sooner_by, waits_late}
 use Rattle.frame_cases.proofs.BrokenLinks.Walk.{BreakGoesOn}
 use Rattle.frame_cases.proofs.PassedBytes.Noted.{reread}
-use Rattle.frame_cases.proofs.PieceWalks.Slots.{IsSlot, hears_now, others_coming}
+use Rattle.frame_cases.proofs.PieceWalks.Slots.{IsSlot, receives_now, others_coming}
 use Rattle.frame_cases.proofs.PieceWalks.Stops.{kept_slot, sees_old}
 use Rattle.frame_cases.proofs.PieceWalks.Walk.{same_event}
 use Rattle.frame_cases.proofs.QuietFrames.ReadStill.{frame_follows}
-use Rattle.frame_cases.specs.PieceWalks.Points.{IsHearing, coming, with_rest}
+use Rattle.frame_cases.specs.PieceWalks.Points.{IsReceiving, coming, with_rest}
 use Rattle.grpc_base.specs.declared.event.Event.TheVariants as event
-use Rattle.grpc_link.specs.Links.{told_all}
-use Rattle.h2_link.specs.Heard.{front_of, heard_with}
+use Rattle.grpc_link.specs.Links.{reported_all}
+use Rattle.h2_link.specs.Received.{prefix_of, received_with}
 use Rattle.h2_link.specs.Steps.{broke}
-use Rattle.h2_link.specs.Wire.{Told, Wire}
+use Rattle.h2_link.specs.Wire.{Report, Wire}
 use Rattle.ledger_stamps.specs.Steps.{changed_at, read_link}
 use Rattle.link_actions.proofs.LossActions.Over.{breaks_are_same}
 use Rattle.link_actions.proofs.Reading.{reads_are_same}
@@ -70,9 +70,9 @@ use Rattle.session_actions.specs.declared.link.LinkOver.TheVariants as over
 use Rattle.session_actions.specs.declared.link.NextRead.{NextRead}
 use Rattle.session_actions.specs.declared.link.NextRead.TheVariants as nextread
 use Rattle.session_actions.specs.declared.seen.Seen.{Seen}
-use Rattle.session_order.proofs.Calms.{calm_is_exact}
+use Rattle.session_order.proofs.Quiescence.{quiescence_is_exact}
 use Rattle.session_order.proofs.Overs.{broken_leaves}
-use Rattle.session_order.specs.Calm as order
+use Rattle.session_order.specs.Quiescent as order
 use Rattle.session_order.specs.declared.line.Line.TheVariants as line
 
 -- bytes that break a link are of one that is not over
@@ -95,13 +95,13 @@ shows_if link code l s true none e = record { unbroken = none_of_it l.over none;
 shows_if link code l s false none e = absurd (cc)
 
 -- what the link sees of it
-front_broken : (l : Link) (s : Seen) (w : Wire) (code : ℕ) (f : Option (ℕ × Told)) → IsSameRead l s w (nextread.Broken code) f
+prefix_broken : (l : Link) (s : Seen) (w : Wire) (code : ℕ) (f : Option (ℕ × Report)) → IsSameRead l s w (nextread.Broken code) f
     → (taken : ℕ) × (f ≡ Some (taken, broke w code))
-front_broken l s w code None same = absurd same
-front_broken l s w code (Some v) same = (v.0, ap (λ (t : Told). Some (v.0, t)) same)
+prefix_broken l s w code None same = absurd same
+prefix_broken l s w code (Some v) same = (v.0, ap (λ (t : Report). Some (v.0, t)) same)
 
-module _ (link : ℕ) (piece : List ℕ) (x : StateSeen) (o : OpenEntry) (s : Seen) (is : IsHearing link piece x o s) (h : Heard) (code : ℕ)
-    (next : next_frame_read link s ≡ Some (action.LinkBreaks link code)) (hears : heard_in link piece x.links ≡ Some h) where
+module _ (link : ℕ) (piece : List ℕ) (x : StateSeen) (o : OpenEntry) (s : Seen) (is : IsReceiving link piece x o s) (h : Received) (code : ℕ)
+    (next : next_frame_read link s ≡ Some (action.LinkBreaks link code)) (receives : received_in link piece x.links ≡ Some h) where
   abbrev pub l : Link
   l = is.l
 
@@ -117,7 +117,7 @@ module _ (link : ℕ) (piece : List ℕ) (x : StateSeen) (o : OpenEntry) (s : Se
   pub shown : ShowsBreak l s code
   shown = shows_if link code l s (is_none l.over) refl (sym (ap (option_and_then (read_next link s)) is.here) ∙ next)
 
-  -- the slot, and what it hears
+  -- the slot, and what it receives
   abbrev pub kept : IsSlot link piece x (h0.links.each link l is.here).slot
   kept = kept_slot link piece x o s h0 is.at.current l is.here
 
@@ -136,60 +136,60 @@ module _ (link : ℕ) (piece : List ℕ) (x : StateSeen) (o : OpenEntry) (s : Se
   abbrev pub bytes : List ℕ
   bytes = slot.link.link.rest ++ piece
 
-  abbrev pub hb : Heard
-  hb = heard_by slot link piece x.links
+  abbrev pub hb : Received
+  hb = received_by slot link piece x.links
 
   pub h_is : h ≡ hb
   h_is =
-      one_some h hb (heard_in link piece x.links) hears
-      (hears_now link piece x slot kept.there (sym sees.over ∙ ap (λ (q : Option LinkOver). is_some q) shown.unbroken) going.streams.sees.sees.reads.whole)
+      one_some h hb (received_in link piece x.links) receives
+      (receives_now link piece x slot kept.there (sym sees.over ∙ ap (λ (q : Option LinkOver). is_some q) shown.unbroken) going.streams.sees.sees.reads.whole)
 
-  pub front : (taken : ℕ) × (front_of w bytes ≡ Some (taken, broke w code))
-  front =
-      front_broken l s w code (front_of w bytes)
-      (subst (λ (n : NextRead). IsSameRead l s w n (front_of w bytes)) shown.shows (reads_are_same l s w bytes going.streams.sees.sees going.rest))
+  pub prefix : (taken : ℕ) × (prefix_of w bytes ≡ Some (taken, broke w code))
+  prefix =
+      prefix_broken l s w code (prefix_of w bytes)
+      (subst (λ (n : NextRead). IsSameRead l s w n (prefix_of w bytes)) shown.shows (reads_are_same l s w bytes going.streams.sees.sees going.rest))
 
   pub news_is : h.news ≡ news.Broken code ∷ []
   news_is =
-      ap (λ (k : Heard). k.news) h_is
-      ∙ ap (λ (f : Option (ℕ × Told)). (told_all (record { link = (heard_with slot.link.link piece f).link; readers = slot.link.readers }) (heard_with slot.link.link piece f).news).news) front.1
+      ap (λ (k : Received). k.news) h_is
+      ∙ ap (λ (f : Option (ℕ × Report)). (reported_all (record { link = (received_with slot.link.link piece f).link; readers = slot.link.readers }) (received_with slot.link.link piece f).news).news) prefix.1
 
   pub few : read_bytes l ≤ 18446744073709551615
   few = let a = is.fair.within in let c = is.few in omega (arith, a, c)
 
   pub read_is : h.read ≡ read_bytes l
   read_is =
-      ap (λ (k : Heard). k.read) h_is ∙ ap (λ (f : Option (ℕ × Told)). (heard_with slot.link.link piece f).link.wire.read) front.1
+      ap (λ (k : Received). k.read) h_is ∙ ap (λ (f : Option (ℕ × Report)). (received_with slot.link.link piece f).link.wire.read) prefix.1
       ∙ going.streams.sees.sees.reads.read ∙ min-eq_left few
 
-  -- the channel, once it heard them
-  abbrev pub heard_x : StateSeen
-  heard_x = record x { links = h.links }
+  -- the channel, once it received them
+  abbrev pub received_x : StateSeen
+  received_x = record x { links = h.links }
 
-  pub told_is : read_to link h.read heard_x ≡ heard_x
-  told_is = ap (λ (ks : List LinkSeen). with_ledger_links ks heard_x) (reread link h.read s x.book.ledger.links l is.here h0.columns.links read_is)
+  pub reported_is : read_to link h.read received_x ≡ received_x
+  reported_is = ap (λ (ks : List LinkSeen). with_ledger_links ks received_x) (reread link h.read s x.book.ledger.links l is.here h0.columns.links read_is)
 
-  pub heard_is : frame_heard link h x ≡ all_sealed (link ∷ []) (lost link false heard_x)
-  heard_is =
-      ap (λ (ns : List News). arrivals.heard link ns (read_to link h.read heard_x)) news_is ∙ ap (arrivals.heard link (news.Broken code ∷ [])) told_is
+  pub received_is : frame_received link h x ≡ all_sealed (link ∷ []) (lost link false received_x)
+  received_is =
+      ap (λ (ns : List News). arrivals.handled link ns (read_to link h.read received_x)) news_is ∙ ap (arrivals.handled link (news.Broken code ∷ [])) reported_is
 
-  pub links_are : h.links ≡ changed_at (with_link (heard_link piece)) x.links link
-  links_are = ap (λ (k : Heard). k.links) h_is
+  pub links_are : h.links ≡ changed_at (with_link (received_link piece)) x.links link
+  links_are = ap (λ (k : Received). k.links) h_is
 
   pub coming_there : numbered (coming link piece x).links link ≡ Some (with_rest piece slot)
   coming_there = number_changed (with_rest piece) x.links link ∙ ap (option_map (with_rest piece)) kept.there
 
   pub slots : IsSlots link (coming link piece x) h.links
   slots = record {
-    count = ap (λ (ks : List LinkSlot). length ks) links_are ∙ changed_length (with_link (heard_link piece)) x.links link ∙ sym (changed_length (with_rest piece) x.links link);
+    count = ap (λ (ks : List LinkSlot). length ks) links_are ∙ changed_length (with_link (received_link piece)) x.links link ∙ sym (changed_length (with_rest piece) x.links link);
     others = λ n off.
-        ap (λ (ks : List LinkSlot). numbered ks n) links_are ∙ number_other (with_link (heard_link piece)) x.links link n (λ same. eqb-false link n off (sym same))
+        ap (λ (ks : List LinkSlot). numbered ks n) links_are ∙ number_other (with_link (received_link piece)) x.links link n (λ same. eqb-false link n off (sym same))
         ∙ sym (others_coming link piece x n off);
     own = λ old at. (
-      with_link (heard_link piece) slot,
+      with_link (received_link piece) slot,
       (
-        ap (λ (ks : List LinkSlot). numbered ks link) links_are ∙ number_changed (with_link (heard_link piece)) x.links link
-            ∙ ap (option_map (with_link (heard_link piece))) kept.there,
+        ap (λ (ks : List LinkSlot). numbered ks link) links_are ∙ number_changed (with_link (received_link piece)) x.links link
+            ∙ ap (option_map (with_link (received_link piece))) kept.there,
         ap (λ (k : LinkSlot). k.retiring) (one_some (with_rest piece slot) old (numbered (coming link piece x).links link) coming_there at),
       ),
     );
@@ -202,14 +202,14 @@ module _ (link : ℕ) (piece : List ℕ) (x : StateSeen) (o : OpenEntry) (s : Se
   pub after_is : after act s ≡ link_broken link s
   after_is = ap (λ (c : Option OpenEntry). after_if c act s) is.at.current
 
-  pub calm_s : order.IsCalm o s
-  calm_s = (calm_is_exact o s).0 (is.at.calm.calls, is.at.calm.links, is.at.calm.policies)
+  pub quiescent_s : order.IsQuiescent o s
+  quiescent_s = (quiescence_is_exact o s).0 (is.at.quiescent.calls, is.at.quiescent.links, is.at.quiescent.policies)
 
   abbrev pub broken_over : GoesOver over.Broken act link (coming link piece x) o s
   broken_over = record {
     agrees = h0;
     current = is.at.current;
-    calm = calm_s;
+    quiescent = quiescent_s;
     own = is.known.own;
     boards = is.known.early.boards;
     link_ = l;
@@ -220,9 +220,9 @@ module _ (link : ℕ) (piece : List ℕ) (x : StateSeen) (o : OpenEntry) (s : Se
     now_is = is.at.current;
     next = follows;
     then_ = after_is;
-    still = λ m e f. broken_leaves link code o s is.at.current tt m o is.at.current (unstirred link m e f) (calm_s m);
+    still = λ m e f. broken_leaves link code o s is.at.current tt m o is.at.current (unstirred link m e f) (quiescent_s m);
     over = subst (λ (n : ℕ). SeesOver (with_over over.Broken l) (link_broken n s)) own
-        (breaks_are_same l s w (lines_in l s) bytes front.0 code (broke w code) going.streams shown.unbroken going.rest front.1 refl).over;
+        (breaks_are_same l s w (lines_in l s) bytes prefix.0 code (broke w code) going.streams shown.unbroken going.rest prefix.1 refl).over;
     kept = subst IsKept after_is (kept_stays s act h0.kept follows);
     of = record { acts = refl; passes = λ c here other. refl };
   }
@@ -245,11 +245,11 @@ module _ (link : ℕ) (piece : List ℕ) (x : StateSeen) (o : OpenEntry) (s : Se
   pub does_t : Does those s t
   does_t = agreeing.does over.Broken act link (coming link piece x) o s broken_over
 
-  pub agrees_t : Agrees (stamped_gone link (buried link heard_x)) t
+  pub agrees_t : Agrees (stamped_gone link (marked_dead link received_x)) t
   agrees_t = agreeing.agrees over.Broken act link (coming link piece x) o s broken_over h.links slots
 
   module _ (rising : RunsRise s) (held : AreHeld x) where
-    pub break_goes_on : BreakGoesOn is.whole (link ∷ []) lost_l (buried link heard_x) o t
+    pub break_goes_on : BreakGoesOn is.whole (link ∷ []) lost_l (marked_dead link received_x) o t
     break_goes_on = record {
       event_is = is.event_is ∙ ap (λ (n : ℕ). event.Arrived n is.whole) (sym number_is);
       stage_is = is.at.stage_is;
@@ -260,10 +260,10 @@ module _ (link : ℕ) (piece : List ℕ) (x : StateSeen) (o : OpenEntry) (s : Se
         still = λ m off waits. down.still m off;
         over = starts.over_after over.Broken act link (coming link piece x) o s broken_over;
         quiet = starts.quiet_after over.Broken act link (coming link piece x) o s broken_over;
-        agrees = subst (λ (n : ℕ). AgreesAhead [] (link ∷ []) (stamped_gone n (buried link heard_x)) t) (sym number_is)
-            (agrees_ahead (link ∷ []) (stamped_gone link (buried link heard_x)) t agrees_t (subst AreUnreset (sym down.boarded) is.known.early.resets) (down.still line.Reset refl));
-        greeted = greeted_along those s t h0.kept is.known.greeted does_t;
-        streams = streams_along those s t h0.kept is.known.greeted is.known.streams does_t;
+        agrees = subst (λ (n : ℕ). AgreesAhead [] (link ∷ []) (stamped_gone n (marked_dead link received_x)) t) (sym number_is)
+            (agrees_ahead (link ∷ []) (stamped_gone link (marked_dead link received_x)) t agrees_t (subst NoStreamIsToReset (sym down.boarded) is.known.early.resets) (down.still line.Reset refl));
+        prefaced = prefaced_along those s t h0.kept is.known.prefaced does_t;
+        streams = streams_along those s t h0.kept is.known.prefaced is.known.streams does_t;
         rising = subst RunsRise (sym down.boarded) rising;
         going = record { calls = is.known.going.calls; allows = is.known.going.allows };
         held = held;

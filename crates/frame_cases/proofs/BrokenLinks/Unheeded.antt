@@ -1,7 +1,7 @@
 -- What the channel keeps of the bytes of a link that is over does not matter.
 use Rattle.std.proofs.Common.{◌≡◌, ◌==◌, ap, refl, subst, sym, ◌∙◌, true, false, List, [], Option, None, Some, ℕ, is_some, length}
 use Rattle.std.specs.Option.{option_map}
-use Rattle.channel_actions.proofs.Links.Frames.Tellings.{untold}
+use Rattle.channel_actions.proofs.Links.Frames.Distinguishing.{untold}
 use Rattle.channel_actions.specs.Agrees.{Agrees}
 use Rattle.channel_actions.specs.Links.{HasLink}
 use Rattle.attempt_cases.proofs.DrainEvents.Rooms.{one_some}

@@ -6,14 +6,14 @@ use Rattle.attempt_ledger.specs.declared.row.RowEnd.{RowEnd}
 use Rattle.call_actions.specs.Laws.{news_of}
 use Rattle.channel_actions.proofs.Does.{does_on, none_on}
 use Rattle.call_cases.proofs.EndsFollow.Steps.{placed_of}
-use Rattle.channel_actions.proofs.Links.Greeted.Along.{greeted_along}
+use Rattle.channel_actions.proofs.Links.Prefaced.Along.{prefaced_along}
 use Rattle.channel_actions.proofs.Streams.Own.Along.{streams_along}
 use Rattle.channel_actions.specs.Agrees.{Agrees}
 use Rattle.channel_actions.specs.GoingCalls.Going.{CallsGoOn}
 use Rattle.channel_actions.specs.GoingCalls.Laws.{LossesGoOn}
 use Rattle.channel_actions.specs.KeptSessions.Kept.{IsKept}
 use Rattle.channel_actions.specs.Points.{IsSameEntry}
-use Rattle.channel_actions.specs.Sets.{AreExactly, is_in_outstanding}
+use Rattle.channel_actions.specs.Sets.{PairsAreExactly, is_in_outstanding}
 use Rattle.event_cases.proofs.LostLinks.After.{over_still, quiet_still}
 use Rattle.event_cases.proofs.LostLinks.Ends.{OverGoesOn, e, end_next, head, none_waits, out, there}
 use Rattle.event_cases.proofs.LostLinks.First.{IsHead, IsIn, first_next, head_is, in_set, none_next, of_set}
@@ -37,7 +37,7 @@ use Rattle.link_actions.proofs.Ended.{is_ended}
 use Rattle.link_actions.proofs.LossActions.Losses.{losses_go_in_order}
 use Rattle.link_actions.proofs.Without as lists
 use Rattle.link_actions.specs.LossActions.Laws.{loss_action}
-use Rattle.link_actions.specs.Sees.{ArePlaced}
+use Rattle.link_actions.specs.Sees.{AttemptsStandInPlace}
 use Rattle.session_actions.specs.Actions.{after, after_if}
 use Rattle.session_actions.specs.AttemptEnds.{with_end}
 use Rattle.session_actions.specs.Attempts.{is_outstanding}
@@ -56,7 +56,7 @@ use Rattle.session_actions.specs.declared.link.Link.{Link}
 use Rattle.session_actions.specs.declared.seen.Seen.{Seen}
 use Rattle.session_order.proofs.Changed.{changed_here}
 use Rattle.session_order.proofs.Lines.{lines_are_still}
-use Rattle.session_order.specs.Calm.{IsStill}
+use Rattle.session_order.specs.Quiescent.{IsStill}
 use Rattle.session_order.specs.Lines.{is_line}
 use Rattle.session_order.specs.declared.line.Line.{Line}
 use Rattle.session_order.specs.declared.line.Line.TheVariants as line
@@ -96,7 +96,7 @@ pub record HasBroken (also : List ℕ) (link : ℕ) (x : StateSeen) (o : OpenEnt
   pub turn : entry.turn ≡ o.turn
   pub current : seen.current ≡ Some entry
   pub passed : IsPassedStill s seen
-  pub calm : (m : Line) → IsStill m entry seen
+  pub quiescent : (m : Line) → IsStill m entry seen
   pub agrees : Agrees (all_sealed also (stamped_gone link (rows_lost most_rows link false 0 x))) seen
 
 module _ (piece : List ℕ) (also : List ℕ) (ends : OneAttemptEnds) (stays : EndsStayHeld) (going : LossesGoOn) where
@@ -208,7 +208,7 @@ module _ (piece : List ℕ) (also : List ℕ) (ends : OneAttemptEnds) (stays : E
     kept_t : IsKept t
     kept_t = he.agrees.books.kept
 
-    places_t : ArePlaced 1 t.attempts
+    places_t : AttemptsStandInPlace 1 t.attempts
     places_t = placed_of 1 t.attempts kept_t.book.places
 
     -- the link then
@@ -246,8 +246,8 @@ module _ (piece : List ℕ) (also : List ℕ) (ends : OneAttemptEnds) (stays : E
             over = over_still s t kept_s kept_t passed he.fewer l m g.over found.1.0 found.1.1 places_t;
             quiet = quiet_still s t kept_s kept_t passed he.fewer (g.still line.Cut refl refl) (he.still line.Cut refl) l m number_is g.quiet;
             agrees = subst (λ (z : StateSeen). AgreesAhead [] also z t) (sym again) he.agrees;
-            greeted = greeted_along these s t kept_s g.greeted he.does;
-            streams = streams_along these s t kept_s g.greeted g.streams he.does;
+            prefaced = prefaced_along these s t kept_s g.prefaced he.does;
+            streams = streams_along these s t kept_s g.prefaced g.streams he.does;
             rising = rises these s t kept_s g.rising he.does;
             going = subst CallsGoOn lost_then (going l.number a.place false x g.going);
             held = stays a (news_of a (out resets_wait also l x o s g a first) s) x g.held;
@@ -335,9 +335,9 @@ module _ (piece : List ℕ) (also : List ℕ) (ends : OneAttemptEnds) (stays : E
   -- which row the channel ends next
   module _ (l : Link) (x : StateSeen) (o : OpenEntry) (s : Seen) (is : BreakGoesOn piece also l x o s) (row : ℕ)
       (above : (k : ℕ) → is_in_outstanding s l.number k ≡ true → nat_lt row k ≡ true) where
-    exact : AreExactly x.outstanding (is_in_outstanding s)
+    exact : PairsAreExactly x.outstanding (is_in_outstanding s)
     exact =
-        subst (λ (pairs : List (ℕ × ℕ)). AreExactly pairs (is_in_outstanding s)) (ap (λ (z : StateSeen). z.outstanding) (stamped_form l.number x)) is.goes.agrees.books.sets.outstanding
+        subst (λ (pairs : List (ℕ × ℕ)). PairsAreExactly pairs (is_in_outstanding s)) (ap (λ (z : StateSeen). z.outstanding) (stamped_form l.number x)) is.goes.agrees.books.sets.outstanding
 
     pub row_none : slice_get (outstanding_on l s) 0 ≡ None → next_on l.number row x ≡ None
     row_none none = none_next l s x.outstanding exact is.goes.over.places row above none
@@ -405,7 +405,7 @@ module _ (piece : List ℕ) (also : List ℕ) (ends : OneAttemptEnds) (stays : E
       current = hr.current;
       passed = passed_then s f.seen hr.seen f.passed
           (deaf_passed l.number piece hr.actions f.entry f.entry f.seen hr.seen hr.does hr.posts f.current f.stage_is hr.current f.stage_is deaf_then);
-      calm = λ m. hr.still m refl;
+      quiescent = λ m. hr.still m refl;
       agrees = subst (λ (n : ℕ). Agrees (all_sealed also (stamped_gone l.number (rows_lost n l.number false 0 x))) hr.seen) (sym is_most) hr.agrees;
     }
 

@@ -6,9 +6,9 @@ use Rattle.attempt_ledger.specs.declared.news.News.TheVariants as news
 use Rattle.frame_cases.proofs.EndedFrames.Gains.{EndsPlainly, ends_reported, gained_end, is_of_response, read_plain}
 use Rattle.frame_cases.proofs.QuietFrames.Responses as responses
 use Rattle.frame_cases.proofs.QuietFrames.Responses.{HasAttempt, HasGrown, or_false}
-use Rattle.frame_cases.specs.FrameKinds.Laws.{Ends, Greets, Heads, Large, Messages, Quiet, is_end, is_head, is_large, is_message, is_ready, kind_of}
+use Rattle.frame_cases.specs.FrameKinds.Laws.{Ends, Prefaces, Heads, Large, Messages, Quiet, is_end, is_head, is_large, is_message, is_ready, kind_of}
 use Rattle.frame_cases.specs.QuietFrames.Laws.{HasNothingNew}
-use Rattle.grpc_link.specs.Links.{Told as Reported}
+use Rattle.grpc_link.specs.Links.{Report as Reported}
 use Rattle.grpc_link.specs.Response.{message_news}
 use Rattle.grpc_link.specs.declared.readers.TagReader.{TagReader}
 use Rattle.h2_frame.specs.Numbers.{goaway_type}
@@ -19,7 +19,7 @@ use Rattle.link_actions.proofs.History.{settings_more}
 use Rattle.link_actions.proofs.LossActions.Over.{all_go}
 use Rattle.link_actions.specs.LossActions.Sees.{IsGoing, end_news}
 use Rattle.link_actions.specs.ResponseActions.Gained.{gained, is_done, is_listed_fairly}
-use Rattle.link_actions.specs.ResponseActions.Laws.{IsEnded, IsReported, reported, seen_at}
+use Rattle.link_actions.specs.ResponseActions.Laws.{IsEnded, IsFrameReported, frame_reported, seen_at}
 use Rattle.link_actions.specs.ResponseActions.Readers.{SeesReaders}
 use Rattle.link_actions.specs.StreamActions.Laws.{Comes, IsOn, read_link}
 use Rattle.link_actions.specs.StreamActions.Sees.{SeesStreams, response_of}
@@ -47,7 +47,7 @@ pub record IsReadWithEnd (l m : Link) (s t : Seen) (n seen : ℕ) (ns : List New
   pub end : (response_of m t n attempt).end ≡ Some outcome
   pub news_are : ns ≡ map (message_news attempt.place seen) more ++ news.Ended attempt.place (end_news outcome seen) ∷ []
   pub gains : HasLast more (response_of l s n attempt) (response_of m t n attempt)
-  pub bare : is_none (response_of l s n attempt).head ≡ true → more ≡ []
+  pub awaiting_config : is_none (response_of l s n attempt).head ≡ true → more ≡ []
   pub cause_is : is_of_response outcome.cause ≡ true
   pub ended : IsEnded m t w g readers n attempt
   pub others : (k : ℕ) (b : Attempt) → IsOn l s k b → (n == k) ≡ false → HasNothingNew (response_of l s k b) (response_of m t k b)
@@ -55,7 +55,7 @@ pub record IsReadWithEnd (l m : Link) (s t : Seen) (n seen : ℕ) (ns : List New
   pub settings : has_settings m ≡ has_settings l
 
 -- an end is reported
-ends_by : (a b c d e : Bool) → (if a then Ends else if b then Large else if c then Heads else if d then Messages else if e then Greets else Quiet) ≡ Ends → a ≡ true
+ends_by : (a b c d e : Bool) → (if a then Ends else if b then Large else if c then Heads else if d then Messages else if e then Prefaces else Quiet) ≡ Ends → a ≡ true
 ends_by true b c d e h = refl
 ends_by false true c d e h = absurd (cc)
 ends_by false false true d e h = absurd (cc)
@@ -72,7 +72,7 @@ no_ends false P e = absurd (let no : ⊥ = (cc) in no)
 
 module _ (l : Link) (s : Seen) (w : Wire) (g : ℕ → Line) (readers : List TagReader) (r : ReadFrame) (is : SeesStreams l s w g) (reads : SeesReaders l s readers) (comes : Comes l w r)
     (unbroken : l.over ≡ None) (fairly : list_all is_listed_fairly l.traffic ≡ true) (no_goaway : (r.frame.kind == goaway_type) ≡ false)
-    (kind : kind_of (reported w readers r.frame).news ≡ Ends) where
+    (kind : kind_of (frame_reported w readers r.frame).news ≡ Ends) where
   abbrev m : Link
   m = read_link r l s
 
@@ -80,7 +80,7 @@ module _ (l : Link) (s : Seen) (w : Wire) (g : ℕ → Line) (readers : List Tag
   u = frame_read l.number r s
 
   abbrev out : Reported
-  out = reported w readers r.frame
+  out = frame_reported w readers r.frame
 
   abbrev Last : Type 0
   Last = IsReadWithEnd l m s u r.frame.stream (seen_at r) out.news out.link.link.wire g out.link.readers
@@ -95,7 +95,7 @@ module _ (l : Link) (s : Seen) (w : Wire) (g : ℕ → Line) (readers : List Tag
     going : IsGoing p
     going = all_go l s w g r.frame.stream own.attempt is own.on
 
-    its_report : IsReported l s m u out g r.frame.stream (seen_at r) own.attempt
+    its_report : IsFrameReported l s m u out g r.frame.stream (seen_at r) own.attempt
     its_report = responses.own_reported l s w g readers r is reads comes unbroken fairly no_goaway own
 
     grown : HasGrown p q
@@ -123,7 +123,7 @@ module _ (l : Link) (s : Seen) (w : Wire) (g : ℕ → Line) (readers : List Tag
       end = its_end.1;
       news_are = its_report.news ∙ gained_end own.attempt.place (seen_at r) p q its_end.0 grown going.small plain its_end.1;
       gains = record { head = plain.head its_end.0 its_end.1; messages = grown.messages; large = plain.large its_end.0 its_end.1 };
-      bare = grown.bare;
+      awaiting_config = grown.awaiting_config;
       cause_is = plain.cause_is its_end.0 its_end.1;
       ended = its_report.ends done;
       others = λ k b on off. responses.other_response l s w g readers r is reads comes unbroken fairly no_goaway k b on off;

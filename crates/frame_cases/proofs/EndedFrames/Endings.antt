@@ -7,7 +7,7 @@ use Rattle.channel_actions.proofs.Calls.Going.Arms.{kept_same}
 use Rattle.channel_actions.specs.GoingCalls.Going.{GoesOn}
 use Rattle.end_cases.specs.AttemptEnds.Ends.{is_of_ends}
 use Rattle.channel_core.specs.declared.state.slots.CallSlot.{CallSlot}
-use Rattle.frame_cases.proofs.MessageFrames.Told.{with_more}
+use Rattle.frame_cases.proofs.MessageFrames.Report.{with_more}
 use Rattle.frame_cases.specs.QuietFrames.Laws.{HasNothingNew}
 use Rattle.grpc_base.specs.declared.fields.Field.{Field}
 use Rattle.session_actions.specs.Deliveries.{response_items}

@@ -10,7 +10,7 @@ use Rattle.attempt_ledger.specs.declared.news.News.{News}
 use Rattle.attempt_ledger.specs.declared.news.News.TheVariants as news
 use Rattle.attempt_ledger.specs.declared.row.RowCause.{RowCause}
 use Rattle.attempt_ledger.specs.declared.row.RowCause.TheVariants as cause
-use Rattle.frame_cases.proofs.QuietFrames.Responses.{HasGrown, dropped_front}
+use Rattle.frame_cases.proofs.QuietFrames.Responses.{HasGrown, dropped_prefix}
 use Rattle.frame_cases.specs.FrameKinds.Laws.{is_end}
 use Rattle.grpc_base.specs.declared.fields.Field.{Field}
 use Rattle.grpc_frame.specs.Messages.{messages_of}
@@ -149,7 +149,7 @@ pub gained_end : (tag seen : ℕ) (p q : Response) (o : Outcome) (grown : HasGro
     → gained tag seen p q ≡ map (message_news tag seen) grown.more ++ news.Ended tag (end_news o seen) ∷ []
 gained_end tag seen p q o grown small plain is =
     let none : List News = [] in
-    let left : drop (length p.messages) q.messages ≡ grown.more = ap (drop (length p.messages)) grown.messages ∙ dropped_front p.messages grown.more in
+    let left : drop (length p.messages) q.messages ≡ grown.more = ap (drop (length p.messages)) grown.messages ∙ dropped_prefix p.messages grown.more in
     let ms : List News = map (message_news tag seen) (drop (length p.messages) q.messages) in
     let ends : List News = end_gained tag (option_map (λ (x : Outcome). end_news x seen) q.end) in
     ap (λ (h : Option (List Field)). head_gained tag seen p.head h ++ ms ++ large_gained tag seen q.large ++ ends) (plain.head o is)

@@ -16,7 +16,7 @@ use Rattle.end_cases.specs.AttemptEnds.Ends.{ended_in, gone_with, taken_off}
 use Rattle.channel_core.proofs.BookLaws.{number_changed, number_other}
 use Rattle.channel_core.specs.Books.{BookActs, book_acted, call_of, has_drawn, link_of, row_at}
 use Rattle.channel_core.specs.States.{StateSeen}
-use Rattle.channel_core.specs.Steps.{act_done, acts_done, drawn_if, next_word, reset_on, stamped_gone, told}
+use Rattle.channel_core.specs.Steps.{act_done, acts_done, drawn_if, next_word, reset_on, stamped_gone, reported}
 use Rattle.channel_core.specs.Tables.{reset_in, reset_link, with_link}
 use Rattle.channel_core.specs.declared.state.links.LinkSlot.{LinkSlot}
 use Rattle.picker_gate.specs.Pairs.{is_same}
@@ -57,10 +57,10 @@ module _ {Y : Type 0} (F : LinkSlot → Y) (same : (row : ℕ) (slot : LinkSlot)
   acts_keep n j [] x = refl
   acts_keep n j (a ∷ acts) x = acts_keep n j acts (act_done n a x) ∙ act_keeps n j a x
 
-  pub told_keeps_slots : (row : ℕ) (n : News) (x : StateSeen) (j : ℕ) → of_link (told row n x) j ≡ of_link x j
-  told_keeps_slots row n x j =
+  pub reported_keeps_slots : (row : ℕ) (n : News) (x : StateSeen) (j : ℕ) → of_link (reported row n x) j ≡ of_link x j
+  reported_keeps_slots row n x j =
       let number : ℕ = call_of (row_at x.book row) in
-      let b : BookActs = book_acted (call.heard_news row n x.book.moment (next_word x)) number x.book in
+      let b : BookActs = book_acted (call.received_news row n x.book.moment (next_word x)) number x.book in
       acts_keep number j b.acts (record (drawn_if (has_drawn (row_at b.book row)) x) { book = b.book })
 
   gone_keeps : (p : Option Placed) (x : StateSeen) (j : ℕ) → of_link (gone_with p x) j ≡ of_link x j
@@ -73,6 +73,6 @@ module _ {Y : Type 0} (F : LinkSlot → Y) (same : (row : ℕ) (slot : LinkSlot)
 
   pub ended_keeps_slots : (a : Attempt) (end : EndNews) (x : StateSeen) (j : ℕ) → of_link (ended_in a end x) j ≡ of_link x j
   ended_keeps_slots a end x j =
-      gone_keeps a.row.placed (told a.place (news.Ended a.place end) (taken_off a.row.call a.place a.row.placed x)) j
-      ∙ told_keeps_slots a.place (news.Ended a.place end) (taken_off a.row.call a.place a.row.placed x) j
+      gone_keeps a.row.placed (reported a.place (news.Ended a.place end) (taken_off a.row.call a.place a.row.placed x)) j
+      ∙ reported_keeps_slots a.place (news.Ended a.place end) (taken_off a.row.call a.place a.row.placed x) j
       ∙ off_keeps a.row.call a.place a.row.placed x j

@@ -31,7 +31,7 @@ use Rattle.frame_cases.proofs.EndedFrames.KeptSlots.{ended_keeps_slots}
 use Rattle.frame_cases.proofs.PieceWalks.Unread.{IsUnread, unread_passed, unread_stays}
 use Rattle.grpc_base.specs.declared.event.Event.TheVariants as event
 use Rattle.link_actions.proofs.Ended.{is_ended}
-use Rattle.link_actions.specs.Sees.{ArePlaced}
+use Rattle.link_actions.specs.Sees.{AttemptsStandInPlace}
 use Rattle.session_actions.specs.Actions.{after, after_if}
 use Rattle.session_actions.specs.AttemptEnds.{attempt_ended, end_of, outcome_of, with_end}
 use Rattle.session_actions.specs.Attempts.{is_outstanding, is_over}
@@ -49,7 +49,7 @@ use Rattle.session_actions.specs.declared.link.LinkOver.{LinkOver}
 use Rattle.session_actions.specs.declared.response.Outcome.{Outcome}
 use Rattle.session_actions.specs.declared.seen.Seen.{Seen}
 use Rattle.session_order.proofs.Changed.{changed_here, none_from, passes_not}
-use Rattle.session_order.specs.Calm.{IsStill, is_to_cut, is_to_end}
+use Rattle.session_order.specs.Quiescent.{IsStill, is_to_cut, is_to_end}
 use Rattle.session_order.specs.Lines.{is_line}
 use Rattle.session_order.specs.declared.line.Line.{Line}
 use Rattle.session_order.specs.declared.line.Line.TheVariants as line
@@ -78,7 +78,7 @@ pub record HasEndedAlone (link : ℕ) (a : Attempt) (out : Outcome) (z : StateSe
   pub turn : entry.turn ≡ o.turn
   pub current : seen.current ≡ Some entry
   pub passed : IsPassedStill t seen
-  pub calm : (m : Line) → IsStill m entry seen
+  pub quiescent : (m : Line) → IsStill m entry seen
   pub agrees : Agrees (all_sealed (link ∷ []) (ended_in a (news_of a out t) z)) seen
 
 over_by : (o : Option LinkOver) (b : Bool) → is_some o ≡ b → b ≡ false → o ≡ None
@@ -141,7 +141,7 @@ module _ (ends : OneAttemptEnds) (link : ℕ) (whole : List ℕ) (l : Link) (a :
   u_is : after act t ≡ u
   u_is = ap (λ (q : Option OpenEntry). after_if q act t) is.next.current
 
-  places_t : ArePlaced 1 t.attempts
+  places_t : AttemptsStandInPlace 1 t.attempts
   places_t = placed_of 1 t.attempts kept_t.book.places
 
   links_u : u.links ≡ t.links
@@ -354,6 +354,6 @@ module _ (ends : OneAttemptEnds) (link : ℕ) (whole : List ℕ) (l : Link) (a :
     turn = he.turn;
     current = hr.current;
     passed = passed_then t he.seen hr.seen passed resets_passed;
-    calm = λ k. hr.still k refl;
+    quiescent = λ k. hr.still k refl;
     agrees = hr.agrees;
   }

@@ -9,7 +9,7 @@ use Rattle.call_cases.proofs.EndsFollow.Codes.{code_for, code_in, ended_code, en
 use Rattle.end_cases.specs.AttemptEnds.Ahead.{is_owed_on, owed_reset, resets_owed}
 use Rattle.link_actions.proofs.Ended.{is_ended}
 use Rattle.link_actions.proofs.ResponseActions.Counted.{codes_stay}
-use Rattle.link_actions.specs.Sees.{ArePlaced, by_stream}
+use Rattle.link_actions.specs.Sees.{AttemptsStandInPlace, by_stream}
 use Rattle.link_actions.specs.StreamActions.Laws.{IsOn, reset_for}
 use Rattle.session_actions.specs.AttemptEnds.{attempt_ended, code_to_reset, end_of, reset_code_of, with_end}
 use Rattle.session_actions.specs.Entries.{entry}
@@ -21,7 +21,7 @@ use Rattle.session_actions.specs.declared.link.Link.{Link}
 use Rattle.session_actions.specs.declared.response.Outcome.{Outcome}
 use Rattle.session_actions.specs.declared.seen.Seen.{Seen}
 use Rattle.session_order.proofs.Changed.{changed_away, changed_here, passes_not}
-use Rattle.session_order.specs.Calm.{is_to_reset}
+use Rattle.session_order.specs.Quiescent.{is_to_reset}
 use Rattle.std.specs.List.{list_all, list_any}
 
 -- one of a list passes at most
@@ -68,7 +68,7 @@ and_false : (a b : Bool) → b ≡ false → (a && b) ≡ false
 and_false true b e = e
 and_false false b e = refl
 
-module _ (s : Seen) (a : Attempt) (e : RowEnd) (places : ArePlaced 1 s.attempts) (there : numbered s.attempts a.place ≡ Some a) (none : list_any (is_to_reset s) s.attempts ≡ false) where
+module _ (s : Seen) (a : Attempt) (e : RowEnd) (places : AttemptsStandInPlace 1 s.attempts) (there : numbered s.attempts a.place ≡ Some a) (none : list_any (is_to_reset s) s.attempts ≡ false) where
   abbrev t : Seen
   t = attempt_ended a.place e s
 
@@ -110,7 +110,7 @@ module _ (s : Seen) (a : Attempt) (e : RowEnd) (places : ArePlaced 1 s.attempts)
 
 -- its code
 module _ (l : Link) (s : Seen) (n : ℕ) (a : Attempt) (out : Outcome) (code : Option ℕ) (at : numbered s.links l.number ≡ Some l) (on : IsOn l s n a) (link_is : link_of a s ≡ Some l)
-    (places : ArePlaced 1 s.attempts) (unreset : a.reset ≡ false) (reads : list_all (is_read_by (read_bytes l)) l.traffic ≡ true)
+    (places : AttemptsStandInPlace 1 s.attempts) (unreset : a.reset ≡ false) (reads : list_all (is_read_by (read_bytes l)) l.traffic ≡ true)
     (code_is : code_to_reset a (end_of a out s) n s l ≡ code) where
   abbrev end : RowEnd
   end = end_of a out s

@@ -23,7 +23,7 @@ use Rattle.channel_actions.specs.Agrees.{Agrees}
 use Rattle.channel_actions.specs.Calls.{HasSlot}
 use Rattle.channel_actions.specs.GoingCalls.Going.{CallsGoOn, GoesOn}
 use Rattle.channel_actions.specs.KeptSessions.Kept.{IsKept}
-use Rattle.channel_actions.specs.LinkFrames.Alike.{CannotTell}
+use Rattle.channel_actions.specs.LinkFrames.Alike.{CannotDistinguish}
 use Rattle.channel_actions.specs.LinkFrames.Bears.{bears_on, is_placed_on}
 use Rattle.channel_actions.specs.Links.{HasLink, IsGoing, SeesLinkOf, lines_in}
 use Rattle.end_cases.proofs.AttemptEnds.Gone.{going_gone}
@@ -33,35 +33,35 @@ use Rattle.event_cases.proofs.LostLinks.Ends.{before_end, lives_by, none_waits}
 use Rattle.end_cases.specs.AttemptEnds.Ahead.{AgreesOffLinks, HasLinkAhead, IsAhead, LinksAhead, resets_owed}
 use Rattle.end_cases.specs.AttemptEnds.Ends.{AreHeld, EndNext, IsHeld, gone_with}
 use Rattle.end_cases.specs.AttemptEnds.Runs.{RunsRise}
-use Rattle.channel_core.specs.Arrivals.{frame_heard, heard_all}
+use Rattle.channel_core.specs.Arrivals.{frame_received, received_all}
 use Rattle.channel_core.specs.Books.{row_at, slot_at}
 use Rattle.channel_core.specs.States.{StateSeen}
 use Rattle.channel_core.specs.Steps as channel
 use Rattle.channel_core.specs.Steps.{stamped_gone, with_ledger_links}
-use Rattle.channel_core.specs.Tables.{Heard, heard_in, with_call}
+use Rattle.channel_core.specs.Tables.{Received, received_in, with_call}
 use Rattle.channel_core.specs.declared.state.links.LinkSlot.{LinkSlot}
 use Rattle.channel_core.specs.declared.state.slots.CallSlot.{CallSlot}
 use Rattle.frame_cases.proofs.EndedFrames.Comes.{HasLast, IsReadWithEnd, end_comes}
 use Rattle.frame_cases.proofs.EndedFrames.Gains.{never_cut, never_unsent}
 use Rattle.frame_cases.proofs.EndedFrames.OneEnd.{IsAboutToEnd}
 use Rattle.frame_cases.proofs.EndedFrames.Owed as owed
-use Rattle.frame_cases.proofs.EndedFrames.Told as told_
-use Rattle.frame_cases.proofs.EndedFrames.Told.{ended_coming, told_more}
-use Rattle.frame_cases.proofs.MessageFrames.Told.{IsTold, with_more}
+use Rattle.frame_cases.proofs.EndedFrames.Report as reported_
+use Rattle.frame_cases.proofs.EndedFrames.Report.{ended_coming, reported_more}
+use Rattle.frame_cases.proofs.MessageFrames.Report.{IsReported, with_more}
 use Rattle.frame_cases.proofs.OwnFrames.Calls as calls
 use Rattle.frame_cases.proofs.OwnFrames.Came as own_came
 use Rattle.frame_cases.proofs.OwnFrames.Came.{items_more, message_items, some_placed}
 use Rattle.frame_cases.proofs.OwnFrames.Frame as frame
 use Rattle.frame_cases.proofs.OwnFrames.Links as own_links
 use Rattle.frame_cases.proofs.PassedBytes.Agreeing.{recalled}
-use Rattle.frame_cases.proofs.QuietFrames.Heard as quiet
+use Rattle.frame_cases.proofs.QuietFrames.Received as quiet
 use Rattle.frame_cases.proofs.QuietFrames.Lines as lines
 use Rattle.frame_cases.proofs.QuietFrames.ReadStill as read
 use Rattle.frame_cases.specs.FrameKinds.Laws.{Ends, kind_of}
-use Rattle.frame_cases.specs.PieceWalks.Points.{IsHearing, coming, with_rest}
+use Rattle.frame_cases.specs.PieceWalks.Points.{IsReceiving, coming, with_rest}
 use Rattle.frame_cases.specs.QuietFrames.Laws.{HasNothingNew}
 use Rattle.grpc_base.specs.declared.fields.Field.{Field}
-use Rattle.grpc_link.specs.Links.{Told as Reported}
+use Rattle.grpc_link.specs.Links.{Report as Reported}
 use Rattle.grpc_link.specs.Response.{message_news}
 use Rattle.h2_frame.specs.Frames.{FrameSeen}
 use Rattle.h2_frame.specs.Numbers.{goaway_type}
@@ -73,7 +73,7 @@ use Rattle.link_actions.proofs.ResponseActions.Ended.{ends_keep_readers}
 use Rattle.link_actions.specs.LossActions.Sees.{end_news}
 use Rattle.link_actions.specs.ResetActions.Ahead.{SeesAhead}
 use Rattle.link_actions.specs.ResponseActions.Laws.{IsEnded, seen_at}
-use Rattle.link_actions.specs.Sees.{ArePlaced}
+use Rattle.link_actions.specs.Sees.{AttemptsStandInPlace}
 use Rattle.link_actions.specs.StreamActions.Laws.{IsOn, reset_for}
 use Rattle.link_actions.specs.StreamActions.Sees.{response_of}
 use Rattle.session_actions.specs.Actions.{after, following}
@@ -98,30 +98,30 @@ use Rattle.session_actions.specs.declared.response.Outcome.{Outcome}
 use Rattle.session_actions.specs.declared.response.Response.{Response}
 use Rattle.session_actions.specs.declared.seen.Seen.{Seen}
 use Rattle.session_order.proofs.Begun.{last_in}
-use Rattle.session_order.proofs.Calms.{first_line_gives}
+use Rattle.session_order.proofs.Quiescence.{first_line_gives}
 use Rattle.session_order.proofs.Changed.{passes_not}
-use Rattle.session_order.specs.Calm as order
-use Rattle.session_order.specs.Calm.{is_to_cut, is_to_end}
+use Rattle.session_order.specs.Quiescent as order
+use Rattle.session_order.specs.Quiescent.{is_to_cut, is_to_end}
 use Rattle.session_order.specs.Lines.{is_line}
 use Rattle.session_order.specs.Stirs.{stirs}
 use Rattle.session_order.specs.declared.line.Line.{Line}
 use Rattle.session_order.specs.declared.line.Line.TheVariants as line
 use Rattle.frame_cases.proofs.EndedFrames.Endings.{items_same, only_first, second, first_off, none_by, no_action, any_there, more_goes, all_go, no_wire_end}
 
-module _ (link : ℕ) (piece : List ℕ) (x : StateSeen) (o : OpenEntry) (s : Seen) (is : IsHearing link piece x o s) (h : Heard) (r : ReadFrame)
-    (next : next_frame_read link s ≡ Some (action.FrameRead link r)) (hears : heard_in link piece x.links ≡ Some h) (no_goaway : (r.frame.kind == goaway_type) ≡ false)
+module _ (link : ℕ) (piece : List ℕ) (x : StateSeen) (o : OpenEntry) (s : Seen) (is : IsReceiving link piece x o s) (h : Received) (r : ReadFrame)
+    (next : next_frame_read link s ≡ Some (action.FrameRead link r)) (receives : received_in link piece x.links ≡ Some h) (no_goaway : (r.frame.kind == goaway_type) ≡ false)
     (kind : kind_of h.news ≡ Ends) where
   abbrev pub l : Link
   l = is.l
 
   abbrev pub m : Link
-  m = read.m link piece x o s is h r next hears
+  m = read.m link piece x o s is h r next receives
 
   abbrev pub t : Seen
-  t = read.t link piece x o s is h r next hears
+  t = read.t link piece x o s is h r next receives
 
   abbrev pub slot : LinkSlot
-  slot = read.slot link piece x o s is h r next hears
+  slot = read.slot link piece x o s is h r next receives
 
   abbrev pub left : List ℕ
   left = drop h.taken piece
@@ -130,7 +130,7 @@ module _ (link : ℕ) (piece : List ℕ) (x : StateSeen) (o : OpenEntry) (s : Se
   frames = owed_for r.frame l s
 
   abbrev pub out_ : Reported
-  out_ = read.out link piece x o s is h r next hears
+  out_ = read.out link piece x o s is h r next receives
 
   abbrev pub n : ℕ
   n = r.frame.stream
@@ -139,32 +139,32 @@ module _ (link : ℕ) (piece : List ℕ) (x : StateSeen) (o : OpenEntry) (s : Se
   h0 = is.agrees
 
   own : l.number ≡ link
-  own = read.own link piece x o s is h r next hears
+  own = read.own link piece x o s is h r next receives
 
   places : (i : ℕ) (b : Attempt) → numbered s.attempts i ≡ Some b → b.place ≡ i
-  places = read.places link piece x o s is h r next hears
+  places = read.places link piece x o s is h r next receives
 
-  abbrev pub calm_s : order.IsCalm o s
-  calm_s = frame.calm_s link piece x o s is h r next hears
+  abbrev pub quiescent_s : order.IsQuiescent o s
+  quiescent_s = frame.quiescent_s link piece x o s is h r next receives
 
   pub kept_t : IsKept t
-  kept_t = read.kept_t link piece x o s is h r next hears
+  kept_t = read.kept_t link piece x o s is h r next receives
 
   pub there_m : numbered t.links link ≡ Some m
-  there_m = read.there link piece x o s is h r next hears
+  there_m = read.there link piece x o s is h r next receives
 
   going_m : m.over ≡ None
-  going_m = (read.shown link piece x o s is h r next hears).unbroken
+  going_m = (read.shown link piece x o s is h r next receives).unbroken
 
   -- what came
   pub news_are : h.news ≡ out_.news
-  news_are = ap (λ (k : Heard). k.news) (read.h_is link piece x o s is h r next hears) ∙ ap (λ (k : Reported). k.news) (read.told_is link piece x o s is h r next hears)
+  news_are = ap (λ (k : Received). k.news) (read.h_is link piece x o s is h r next receives) ∙ ap (λ (k : Reported). k.news) (read.reported_is link piece x o s is h r next receives)
 
   pub last : IsReadWithEnd l m s (frame_read l.number r s) n (seen_at r) out_.news out_.link.link.wire (lines_in l s) out_.link.readers
   last =
-      end_comes l s slot.link.link.wire (lines_in l s) slot.link.readers r (read.going link piece x o s is h r next hears).streams
-      (read_so l s slot.link.readers (read.going link piece x o s is h r next hears).readers) (read.come link piece x o s is h r next hears).comes
-      (read.shown link piece x o s is h r next hears).unbroken is.fair.listed no_goaway (ap kind_of (sym news_are) ∙ kind)
+      end_comes l s slot.link.link.wire (lines_in l s) slot.link.readers r (read.going link piece x o s is h r next receives).streams
+      (read_so l s slot.link.readers (read.going link piece x o s is h r next receives).readers) (read.come link piece x o s is h r next receives).comes
+      (read.shown link piece x o s is h r next receives).unbroken is.fair.listed no_goaway (ap kind_of (sym news_are) ∙ kind)
 
   abbrev pub a : Attempt
   a = last.attempt
@@ -180,18 +180,18 @@ module _ (link : ℕ) (piece : List ℕ) (x : StateSeen) (o : OpenEntry) (s : Se
 
   -- the response to the attempt
   its : HasLast more (response a s) (response a t)
-  its = frame.gained_so link piece x o s is h r next hears a on (HasLast more) last.gains
+  its = frame.gained_so link piece x o s is h r next receives a on (HasLast more) last.gains
 
   its_end : (response a t).end ≡ Some out
   its_end =
-      ap (λ (p : Response). p.end) (frame.after_is link piece x o s is h r next hears a on)
-      ∙ ap (λ (z : Seen). (response_of m z n a).end) (sym (read.read_l link piece x o s is h r next hears)) ∙ last.end
+      ap (λ (p : Response). p.end) (frame.after_is link piece x o s is h r next receives a on)
+      ∙ ap (λ (z : Seen). (response_of m z n a).end) (sym (read.read_l link piece x o s is h r next receives)) ∙ last.end
 
   abbrev pub out_a : is_outstanding a ≡ true
-  out_a = frame.out link piece x o s is h r next hears a on
+  out_a = frame.out link piece x o s is h r next receives a on
 
   pub goes_a : a.row.ended ≡ None
-  goes_a = frame.ended link piece x o s is h r next hears a on
+  goes_a = frame.ended link piece x o s is h r next receives a on
 
   pub its_place : (at : Placed) × ((a.row.placed ≡ Some at) × (at.link ≡ l.number))
   its_place = some_placed a.row.placed l.number (and_parts (is_outstanding a) (holds (λ (at : Placed). at.link == l.number) a.row.placed) on.out).1
@@ -209,26 +209,26 @@ module _ (link : ℕ) (piece : List ℕ) (x : StateSeen) (o : OpenEntry) (s : Se
   link_t = ap (λ (q : Option Placed). option_and_then (λ (p : Placed). numbered t.links p.link) q) placed ∙ ap (numbered t.links) at_link ∙ there_m
 
   others_new : (i : ℕ) (b : Attempt) → numbered s.attempts i ≡ Some b → (b.place == a.place) ≡ false → HasNothingNew (response b s) (response b t)
-  others_new = frame.others_new link piece x o s is h r next hears a on last.others
+  others_new = frame.others_new link piece x o s is h r next receives a on last.others
 
   -- its call
   abbrev pub going_x : CallsGoOn (coming link piece x)
-  going_x = frame.going link piece x o s is h r next hears
+  going_x = frame.going link piece x o s is h r next receives
 
   abbrev pub c : Call
-  c = frame.c link piece x o s is h r next hears a on
+  c = frame.c link piece x o s is h r next receives a on
 
   abbrev pub number : ℕ
   number = a.row.call
 
   pub at_c : numbered s.calls number ≡ Some c
-  at_c = frame.at link piece x o s is h r next hears a on
+  at_c = frame.at link piece x o s is h r next receives a on
 
   abbrev pub has : HasSlot (coming link piece x) s c number
-  has = frame.has link piece x o s is h r next hears a on
+  has = frame.has link piece x o s is h r next receives a on
 
   mine : is_of c a ≡ true
-  mine = calls.mine (coming link piece x) o s h0 going_x calm_s a on.there out_a
+  mine = calls.mine (coming link piece x) o s h0 going_x quiescent_s a on.there out_a
 
   -- where messages came, a head came before
   pub headed : (more ≡ [] → ⊥) → is_some (response a s).head ≡ true
@@ -237,34 +237,34 @@ module _ (link : ℕ) (piece : List ℕ) (x : StateSeen) (o : OpenEntry) (s : Se
       by : (q : Option (List Field)) → (response a s).head ≡ q → is_some (response a s).head ≡ true
       by (Some meta) e = ap (λ (q : Option (List Field)). is_some q) e
       by None e =
-          absurd (some_more (last.bare (ap (λ (q : Option (List Field)). is_none q) (ap (λ (p : Response). p.head) (sym (frame.before_is link piece x o s is h r next hears a on)) ∙ e))))
+          absurd (some_more (last.awaiting_config (ap (λ (q : Option (List Field)). is_none q) (ap (λ (p : Response). p.head) (sym (frame.before_is link piece x o s is h r next receives a on)) ∙ e))))
 
   pub committed : (more ≡ [] → ⊥) → commitment c s ≡ Some a
-  committed some_more = calls.committed (coming link piece x) o s h0 going_x calm_s a on.there out_a (headed some_more)
+  committed some_more = calls.committed (coming link piece x) o s h0 going_x quiescent_s a on.there out_a (headed some_more)
 
   pub live : (more ≡ [] → ⊥) → is_committed_live a.place has.slot.call ≡ true
-  live some_more = calls.committed_live (coming link piece x) o s h0 going_x calm_s a on.there out_a (headed some_more)
+  live some_more = calls.committed_live (coming link piece x) o s h0 going_x quiescent_s a on.there out_a (headed some_more)
 
-  -- the channel is told
+  -- the channel is reported
   abbrev pub news_ : EndNews
   news_ = end_news out (seen_at r)
 
-  pub its_news : h.news ≡ told_.last_news a.place (seen_at r) more news_
+  pub its_news : h.news ≡ reported_.last_news a.place (seen_at r) more news_
   its_news = news_are ∙ last.news_are
 
   abbrev pub x1 : StateSeen
-  x1 = told_.read link h x a.place (seen_at r) more news_ its_news
+  x1 = reported_.read link h x a.place (seen_at r) more news_ its_news
 
   pub row_x : row_at x1.book a.place ≡ Some a.row
-  row_x = frame.row_is link piece x o s is h r next hears a on
+  row_x = frame.row_is link piece x o s is h r next receives a on
 
-  pub tells : IsTold number (with_more more has.slot.call) has.slot x1 (heard_all link (map (message_news a.place (seen_at r)) more) x1)
-  tells =
-      told_more link a.place (seen_at r) number more x1 a.row has.slot row_x refl goes_a has.there live (due_right (coming link piece x) s c has.slot has.sees)
+  pub reports_that : IsReported number (with_more more has.slot.call) has.slot x1 (received_all link (map (message_news a.place (seen_at r)) more) x1)
+  reports_that =
+      reported_more link a.place (seen_at r) number more x1 a.row has.slot row_x refl goes_a has.there live (due_right (coming link piece x) s c has.slot has.sees)
       (deadline_right (coming link piece x) s c has.slot has.sees)
 
   abbrev pub z0 : StateSeen
-  z0 = recalled tells.calls x1
+  z0 = recalled reports_that.calls x1
 
   abbrev pub z : StateSeen
   z = coming link left z0
@@ -274,7 +274,7 @@ module _ (link : ℕ) (piece : List ℕ) (x : StateSeen) (o : OpenEntry) (s : Se
 
   -- the news of its end are those of the session
   few : r.end ≤ 18446744073709551615
-  few = let p = read.end_within link piece x o s is h r next hears in let q = is.few in omega (arith, p, q)
+  few = let p = read.end_within link piece x o s is h r next receives in let q = is.few in omega (arith, p, q)
 
   seen_is : option_map_or read_bytes (link_of a t) 0 ≡ seen_at r
   seen_is = ap (λ (q : Option Link). option_map_or read_bytes q 0) link_t ∙ bytes_more l r frames ∙ sym (min-eq_left few)
@@ -282,11 +282,11 @@ module _ (link : ℕ) (piece : List ℕ) (x : StateSeen) (o : OpenEntry) (s : Se
   news_same : news_of a out t ≡ news_
   news_same = ap (λ (k : ℕ). end_news out k) seen_is
 
-  pub heard_is : told_.sealed_end link a (news_of a out t) z ≡ coming link left (frame_heard link h x)
-  heard_is =
-      ap (λ (e : EndNews). told_.sealed_end link a e z) news_same
+  pub received_is : reported_.sealed_end link a (news_of a out t) z ≡ coming link left (frame_received link h x)
+  received_is =
+      ap (λ (e : EndNews). reported_.sealed_end link a e z) news_same
       ∙ ended_coming link a at news_ placed at_link goes_a left z0 row_z
-      ∙ ap (coming link left) (sym (told_.heard_end link h x a.place (seen_at r) more news_ its_news z0 tells.is))
+      ∙ ap (coming link left) (sym (reported_.received_end link h x a.place (seen_at r) more news_ its_news z0 reports_that.is))
 
   -- what came for applications
   came_by : (d : Call) (ms : List (List ℕ)) (q : Option Attempt) → commitment d s ≡ q → ((k : Attempt) → q ≡ Some k → response_items (response k t) ≡ response_items (response k s) ++ message_items ms)
@@ -301,7 +301,7 @@ module _ (link : ℕ) (piece : List ℕ) (x : StateSeen) (o : OpenEntry) (s : Se
   itself : (k : Attempt) → commitment c s ≡ Some k → (k.place == a.place) ≡ true → a ≡ k
   itself k e same =
       let one : (i : ℕ) × (slice_get s.attempts i ≡ Some k) = last_in (is_commitment c) s.attempts k e in
-      frame.itself link piece x o s is h r next hears a on (suc one.0) k one.1 same
+      frame.itself link piece x o s is h r next receives a on (suc one.0) k one.1 same
 
   items_of : (k : Attempt) → commitment c s ≡ Some k → response_items (response k t) ≡ response_items (response k s) ++ message_items more
   items_of k e = by (k.place == a.place) refl more refl
@@ -331,17 +331,17 @@ module _ (link : ℕ) (piece : List ℕ) (x : StateSeen) (o : OpenEntry) (s : Se
 
   -- the books
   books_t : AgreesOffLinks z t
-  books_t = own_came.books_agree link piece x o s is h r next hears a on last.others more tells.calls tells.put came_own last.retiring
+  books_t = own_came.books_agree link piece x o s is h r next receives a on last.others more reports_that.calls reports_that.put came_own last.retiring
 
   -- the link of the channel
   abbrev z_slot : LinkSlot
-  z_slot = own_links.slot_then link piece x o s is h r next hears
+  z_slot = own_links.slot_then link piece x o s is h r next receives
 
   z_there : numbered z.links link ≡ Some z_slot
-  z_there = own_links.there link piece x o s is h r next hears tells.calls
+  z_there = own_links.there link piece x o s is h r next receives reports_that.calls
 
   sees_l : SeesLinkOf l s (with_rest piece slot)
-  sees_l = read.sees link piece x o s is h r next hears
+  sees_l = read.sees link piece x o s is h r next receives
 
   -- it is not stamped
   not_gone : channel.is_gone link z ≡ false
@@ -366,7 +366,7 @@ module _ (link : ℕ) (piece : List ℕ) (x : StateSeen) (o : OpenEntry) (s : Se
       by : (e : Bool) → (b.place == a.place) ≡ e → is_some (response b t).head ≡ is_some (response b s).head
       by false e = ap (λ (q : Option (List Field)). is_some q) (others_new i b got e).head
       by true e =
-          subst (λ (k : Attempt). is_some (response k t).head ≡ is_some (response k s).head) (frame.itself link piece x o s is h r next hears a on i b got e)
+          subst (λ (k : Attempt). is_some (response k t).head ≡ is_some (response k s).head) (frame.itself link piece x o s is h r next receives a on i b got e)
           (ap (λ (q : Option (List Field)). is_some q) its.head)
 
   each_large : (i : ℕ) (b : Attempt) → numbered s.attempts i ≡ Some b → (response b t).large ≡ (response b s).large
@@ -375,16 +375,16 @@ module _ (link : ℕ) (piece : List ℕ) (x : StateSeen) (o : OpenEntry) (s : Se
       by : (e : Bool) → (b.place == a.place) ≡ e → (response b t).large ≡ (response b s).large
       by false e = (others_new i b got e).large
       by true e =
-          subst (λ (k : Attempt). (response k t).large ≡ (response k s).large) (frame.itself link piece x o s is h r next hears a on i b got e) its.large
+          subst (λ (k : Attempt). (response k t).large ≡ (response k s).large) (frame.itself link piece x o s is h r next receives a on i b got e) its.large
 
   unstirred : (k : Line) → stirs (action.FrameRead link r) k ≡ false → order.IsStill k o t
-  unstirred k e = quiet.unstirred link piece x o s is h r next hears k e
+  unstirred k e = quiet.unstirred link piece x o s is h r next receives k e
 
   still_t : (k : Line) → is_line k line.WireEnd ≡ false → order.IsStill k o t
-  still_t line.Head e = lines.heads_stay s link l is.here own r frames (Some o) places (read.less link piece x o s is h r next hears) each_headed o (calm_s line.Head)
-  still_t line.Response e = lines.larges_stay s link l is.here own r frames (Some o) places (read.less link piece x o s is h r next hears) each_large o (calm_s line.Response)
+  still_t line.Head e = lines.heads_stay s link l is.here own r frames (Some o) places (read.less link piece x o s is h r next receives) each_headed o (quiescent_s line.Head)
+  still_t line.Response e = lines.larges_stay s link l is.here own r frames (Some o) places (read.less link piece x o s is h r next receives) each_large o (quiescent_s line.Response)
   still_t line.Link e =
-      lines.links_stay s link l is.here own r frames (Some o) places (read.less link piece x o s is h r next hears) last.retiring last.settings o (calm_s line.Link)
+      lines.links_stay s link l is.here own r frames (Some o) places (read.less link piece x o s is h r next receives) last.retiring last.settings o (quiescent_s line.Link)
   still_t line.WireEnd e = absurd (cc)
   still_t line.Cut e = unstirred line.Cut refl
   still_t line.Transparent e = unstirred line.Transparent refl
@@ -405,8 +405,8 @@ module _ (link : ℕ) (piece : List ℕ) (x : StateSeen) (o : OpenEntry) (s : Se
 
   pub others_on : (row : ℕ) (b : Attempt) → numbered t.attempts row ≡ Some b → (b.place == a.place) ≡ false → is_to_end t b ≡ false
   others_on row b got off =
-      lines.end_same s link l is.here own r frames (Some o) places (read.less link piece x o s is h r next hears) last.retiring b (others_new row b got off).end
-      ∙ passes_not (is_to_end s) s.attempts row b (calm_s line.WireEnd) got
+      lines.end_same s link l is.here own r frames (Some o) places (read.less link piece x o s is h r next receives) last.retiring b (others_new row b got off).end
+      ∙ passes_not (is_to_end s) s.attempts row b (quiescent_s line.WireEnd) got
 
   not_over : (row : ℕ) (b : Attempt) → numbered t.attempts row ≡ Some b → is_outstanding b ≡ true → is_over b t ≡ false
   not_over row b got out_b = second (is_outstanding b) (is_over b t) out_b (passes_not (is_to_cut t) t.attempts row b (still_t line.Cut refl) got)
@@ -454,7 +454,7 @@ module _ (link : ℕ) (piece : List ℕ) (x : StateSeen) (o : OpenEntry) (s : Se
   abbrev u : Seen
   u = attempt_ended a.place (end_of a out t) t
 
-  places_t : ArePlaced 1 t.attempts
+  places_t : AttemptsStandInPlace 1 t.attempts
   places_t = placed_of 1 t.attempts kept_t.book.places
 
   links_u : u.links ≡ t.links
@@ -466,10 +466,10 @@ module _ (link : ℕ) (piece : List ℕ) (x : StateSeen) (o : OpenEntry) (s : Se
   kept_u : IsKept u
   kept_u = kept_stays t act kept_t next_t
 
-  places_u : ArePlaced 1 u.attempts
+  places_u : AttemptsStandInPlace 1 u.attempts
   places_u = placed_of 1 u.attempts kept_u.book.places
 
-  untold : CannotTell (bears_on act t) t u
+  untold : CannotDistinguish (bears_on act t) t u
   untold = actions_are_untold act t kept_t tt
 
   -- what it owes
@@ -480,14 +480,14 @@ module _ (link : ℕ) (piece : List ℕ) (x : StateSeen) (o : OpenEntry) (s : Se
   on_t = record { there = on.there; out = on.out; stream = on.stream }
 
   unreset_a : a.reset ≡ false
-  unreset_a = own_came.unreset link piece x o s is h r next hears a on
+  unreset_a = own_came.unreset link piece x o s is h r next receives a on
 
   ended_m : IsEnded m t out_.link.link.wire (lines_in l s) out_.link.readers n a
   ended_m =
-      subst (λ (v : Seen). IsEnded m v out_.link.link.wire (lines_in l s) out_.link.readers n a) (read.read_l link piece x o s is h r next hears) last.ended
+      subst (λ (v : Seen). IsEnded m v out_.link.link.wire (lines_in l s) out_.link.readers n a) (read.read_l link piece x o s is h r next receives) last.ended
 
   end_m : (response_of m t n a).end ≡ Some out
-  end_m = ap (λ (v : Seen). (response_of m v n a).end) (sym (read.read_l link piece x o s is h r next hears)) ∙ last.end
+  end_m = ap (λ (v : Seen). (response_of m v n a).end) (sym (read.read_l link piece x o s is h r next receives)) ∙ last.end
 
   here_m : numbered t.links m.number ≡ Some m
   here_m = ap (numbered t.links) own ∙ there_m
@@ -525,10 +525,10 @@ module _ (link : ℕ) (piece : List ℕ) (x : StateSeen) (o : OpenEntry) (s : Se
         same = both.0.same;
         queue = both.0.queue;
       } in
-      subst (IsAhead m u) (sym (ap (with_rest left) (own_links.slot_is link piece x o s is h r next hears))) (record {
+      subst (IsAhead m u) (sym (ap (with_rest left) (own_links.slot_is link piece x o s is h r next receives))) (record {
         streams = subst (λ (rs : List (ℕ × ℕ)). SeesAhead rs m u out_.link.link.wire (lines_in m u)) (sym owed_m) ahead;
         readers = read_then m u out_.link.readers (ends_keep_readers m t a.place a (end_of a out t) out_.link.readers ended_m.readers_are on.there places_t);
-        rest = read.left_is link piece x o s is h r next hears ∙ ap (λ (b : List ℕ). b ++ left) (sym (read.rest_now link piece x o s is h r next hears));
+        rest = read.left_is link piece x o s is h r next receives ∙ ap (λ (b : List ℕ). b ++ left) (sym (read.rest_now link piece x o s is h r next receives));
         fresh = both.1 ∙ sym (ap (λ (rs : List (ℕ × ℕ)). length rs) owed_m);
       })
 
@@ -543,7 +543,7 @@ module _ (link : ℕ) (piece : List ℕ) (x : StateSeen) (o : OpenEntry) (s : Se
   ahead_other : (k : ℕ) (q : Link) → numbered u.links k ≡ Some q → (link == k) ≡ false → HasLinkAhead z u q k
   ahead_other k q got off =
       let got_t : numbered t.links k ≡ Some q = ap (λ (ls : List Link). numbered ls k) (sym links_u) ∙ got in
-      let had : HasLink z t q k = own_links.others_then link piece x o s is h r next hears tells.calls k q got_t off in
+      let had : HasLink z t q k = own_links.others_then link piece x o s is h r next receives reports_that.calls k q got_t off in
       let number_q : q.number ≡ k = counted_at (λ (b : Link). b.number) t.links k q kept_t.links got_t in
       let here_q : numbered t.links q.number ≡ Some q = ap (numbered t.links) number_q ∙ got_t in
       let here_u : numbered u.links q.number ≡ Some q = ap (numbered u.links) number_q ∙ got in
@@ -584,7 +584,7 @@ module _ (link : ℕ) (piece : List ℕ) (x : StateSeen) (o : OpenEntry) (s : Se
 
   links : LinksAhead (link ∷ []) z u
   links = record {
-    count = ap (λ (ls : List Link). length ls) links_u ∙ own_links.count link piece x o s is h r next hears tells.calls;
+    count = ap (λ (ls : List Link). length ls) links_u ∙ own_links.count link piece x o s is h r next receives reports_that.calls;
     each = each_ahead;
     closing = λ k q got off. owed_off k q got (first_off (link == k) _ off);
   }
@@ -595,16 +595,16 @@ module _ (link : ℕ) (piece : List ℕ) (x : StateSeen) (o : OpenEntry) (s : Se
     each_slot j now got = by (j == number) refl
       where
         by : (e : Bool) → (j == number) ≡ e → P now
-        by false e = rest j now (sym (tells.put.others j e) ∙ got)
+        by false e = rest j now (sym (reports_that.put.others j e) ∙ got)
         by true e =
             let same : j ≡ number = eqb-true j number e in
-            let both : Some (with_call (with_more more has.slot.call) has.slot) ≡ Some now = sym tells.put.mine ∙ ap (slot_at z.book) (sym same) ∙ got in
+            let both : Some (with_call (with_more more has.slot.call) has.slot) ≡ Some now = sym reports_that.put.mine ∙ ap (slot_at z.book) (sym same) ∙ got in
             let one : with_call (with_more more has.slot.call) has.slot ≡ now = (cc) in
             subst P one its_own
 
   going_z : CallsGoOn z
   going_z = record {
-    calls = all_go tells.calls (λ i now got. each_slot (λ (q : CallSlot). GoesOn q.call)
+    calls = all_go reports_that.calls (λ i now got. each_slot (λ (q : CallSlot). GoesOn q.call)
         (more_goes more has.slot (go_numbered x.book.calls number has.slot is.known.going.calls has.there))
         (λ j was there. go_numbered x.book.calls j was is.known.going.calls there) (suc i) now got);
     allows = is.known.going.allows;
@@ -648,6 +648,6 @@ module _ (link : ℕ) (piece : List ℕ) (x : StateSeen) (o : OpenEntry) (s : Se
       here = there_m;
       own = own;
       going = going_m;
-      within = (read.fair_now link piece x o s is h r next hears).within;
+      within = (read.fair_now link piece x o s is h r next receives).within;
       others = others_on;
     }

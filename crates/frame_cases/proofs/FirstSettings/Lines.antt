@@ -8,7 +8,7 @@ use Rattle.session_actions.specs.declared.action.Action.{Action}
 use Rattle.session_actions.specs.declared.action.Action.TheVariants as action
 use Rattle.session_actions.specs.declared.seen.Seen.{Seen}
 use Rattle.session_actions.specs.declared.subchannel.Subchannel.{Subchannel}
-use Rattle.session_order.specs.Calm.{is_link_new}
+use Rattle.session_order.specs.Quiescent.{is_link_new}
 
 -- none passes where each does not
 one_or : (a b : Bool) → a ≡ false → b ≡ false → (a || b) ≡ false

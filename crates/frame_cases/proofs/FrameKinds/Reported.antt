@@ -6,17 +6,17 @@ use Rattle.std.specs.Option.{option_map}
 use Rattle.attempt_ledger.specs.declared.news.News.{News}
 use Rattle.attempt_ledger.specs.declared.news.News.TheVariants as news
 use Rattle.channel_core.specs.States.{StateSeen}
-use Rattle.channel_core.specs.Tables.{Heard, heard_in}
+use Rattle.channel_core.specs.Tables.{Received, received_in}
 use Rattle.channel_core.specs.declared.state.links.LinkSlot.{LinkSlot}
 use Rattle.frame_cases.proofs.QuietFrames.ReadStill as read
 use Rattle.frame_cases.proofs.QuietFrames.Responses as responses
-use Rattle.frame_cases.specs.FrameKinds.Laws.{Ends, FrameKind, Greets, Heads, Large, Messages, Quiet, is_end, is_head, is_large, is_message, is_ready, kind_of}
-use Rattle.frame_cases.specs.PieceWalks.Points.{IsHearing}
+use Rattle.frame_cases.specs.FrameKinds.Laws.{Ends, FrameKind, Prefaces, Heads, Large, Messages, Quiet, is_end, is_head, is_large, is_message, is_ready, kind_of}
+use Rattle.frame_cases.specs.PieceWalks.Points.{IsReceiving}
 use Rattle.channel_actions.specs.Links.{lines_in}
 use Rattle.attempt_cases.proofs.DrainEvents.Links.{read_so}
 use Rattle.grpc_base.specs.declared.fields.Field.{Field}
 use Rattle.grpc_link.specs.Response.{end_gained, head_gained, message_news}
-use Rattle.grpc_link.specs.Links.{Told as Reported}
+use Rattle.grpc_link.specs.Links.{Report as Reported}
 use Rattle.h2_frame.specs.Numbers.{goaway_type}
 use Rattle.h2_link.specs.declared.live.LiveStream.{LiveStream}
 use Rattle.link_actions.specs.LossActions.Sees.{end_news}
@@ -41,7 +41,7 @@ pub record HasNone (ns : List News) : Type 0 where
   pub messages : list_any is_message ns ≡ false
 
 abbrev IsLast : FrameKind → Type 0
-IsLast Greets = Unit {0}
+IsLast Prefaces = Unit {0}
 IsLast Quiet = Unit {0}
 IsLast _ = ⊥
 
@@ -54,7 +54,7 @@ none_before ns y z false false true d p q r s last k = absurd (subst IsLast (sym
 none_before ns y z false false false true p q r s last k = absurd (subst IsLast (sym k) last)
 
 abbrev last_kind : Bool → FrameKind
-last_kind b = if b then Greets else Quiet
+last_kind b = if b then Prefaces else Quiet
 
 last_of_kinds : (ns : List News) (z : FrameKind) → IsLast z → kind_of ns ≡ z → HasNone ns × (last_kind (list_any is_ready ns) ≡ z)
 last_of_kinds ns z last e =
@@ -64,9 +64,9 @@ no_ready : (b : Bool) → last_kind b ≡ Quiet → b ≡ false
 no_ready true e = absurd (let no : ⊥ = (cc) in no)
 no_ready false e = refl
 
-is_greeting : (b : Bool) → last_kind b ≡ Greets → b ≡ true
-is_greeting true e = refl
-is_greeting false e = absurd (let no : ⊥ = (cc) in no)
+awaits_preface : (b : Bool) → last_kind b ≡ Prefaces → b ≡ true
+awaits_preface true e = refl
+awaits_preface false e = absurd (let no : ⊥ = (cc) in no)
 
 -- of those that a frame of an attempt's stream may report
 neither : (a b : Bool) → (a || b) ≡ false → (a ≡ false) × (b ≡ false)
@@ -124,16 +124,16 @@ ready_some : (b : Bool) → list_any is_ready (if b then news.Ready ∷ [] else 
 ready_some true e = refl
 ready_some false e = absurd (let no : ⊥ = (cc) in no)
 
-module _ (link : ℕ) (piece : List ℕ) (x : StateSeen) (o : OpenEntry) (s : Seen) (is : IsHearing link piece x o s) (h : Heard) (r : ReadFrame)
-    (next : next_frame_read link s ≡ Some (action.FrameRead link r)) (hears : heard_in link piece x.links ≡ Some h) (no_goaway : (r.frame.kind == goaway_type) ≡ false) where
+module _ (link : ℕ) (piece : List ℕ) (x : StateSeen) (o : OpenEntry) (s : Seen) (is : IsReceiving link piece x o s) (h : Received) (r : ReadFrame)
+    (next : next_frame_read link s ≡ Some (action.FrameRead link r)) (receives : received_in link piece x.links ≡ Some h) (no_goaway : (r.frame.kind == goaway_type) ≡ false) where
   abbrev slot : LinkSlot
-  slot = read.slot link piece x o s is h r next hears
+  slot = read.slot link piece x o s is h r next receives
 
   abbrev out : Reported
-  out = read.out link piece x o s is h r next hears
+  out = read.out link piece x o s is h r next receives
 
   news_are : h.news ≡ out.news
-  news_are = ap (λ (k : Heard). k.news) (read.h_is link piece x o s is h r next hears) ∙ ap (λ (k : Reported). k.news) (read.told_is link piece x o s is h r next hears)
+  news_are = ap (λ (k : Received). k.news) (read.h_is link piece x o s is h r next receives) ∙ ap (λ (k : Reported). k.news) (read.reported_is link piece x o s is h r next receives)
 
   abbrev pub Own : Bool → Type 0
   Own b = list_any (λ (y : LiveStream). y.number == r.frame.stream) slot.link.link.wire.live ≡ b
@@ -141,25 +141,25 @@ module _ (link : ℕ) (piece : List ℕ) (x : StateSeen) (o : OpenEntry) (s : Se
   -- it is of no attempt's stream: the server's first SETTINGS are reported, and nothing else
   apart_news : Own false → out.news ≡ (if is_settings r.frame && not (has_settings is.l) then news.Ready ∷ [] else [])
   apart_news e =
-      responses.apart_news is.l s slot.link.link.wire (lines_in is.l s) slot.link.readers r (read.going link piece x o s is h r next hears).streams
-      (read_so is.l s slot.link.readers (read.going link piece x o s is h r next hears).readers) (read.come link piece x o s is h r next hears).comes
-      (read.shown link piece x o s is h r next hears).unbroken is.fair.listed no_goaway e
+      responses.apart_news is.l s slot.link.link.wire (lines_in is.l s) slot.link.readers r (read.going link piece x o s is h r next receives).streams
+      (read_so is.l s slot.link.readers (read.going link piece x o s is h r next receives).readers) (read.come link piece x o s is h r next receives).comes
+      (read.shown link piece x o s is h r next receives).unbroken is.fair.listed no_goaway e
 
   -- it is of the stream of an attempt: what its response gained
   own_none : HasNone out.news → Own true → out.news ≡ []
   own_none none e =
-      let own = responses.its_attempt is.l s slot.link.link.wire (lines_in is.l s) slot.link.readers r (read.going link piece x o s is h r next hears).streams
-      (read_so is.l s slot.link.readers (read.going link piece x o s is h r next hears).readers) (read.come link piece x o s is h r next hears).comes
-      (read.shown link piece x o s is h r next hears).unbroken is.fair.listed no_goaway e in
-      let is_reported = responses.own_reported is.l s slot.link.link.wire (lines_in is.l s) slot.link.readers r (read.going link piece x o s is h r next hears).streams
-      (read_so is.l s slot.link.readers (read.going link piece x o s is h r next hears).readers) (read.come link piece x o s is h r next hears).comes
-      (read.shown link piece x o s is h r next hears).unbroken is.fair.listed no_goaway own in
-      is_reported.news ∙ gained_none own.attempt.place (seen_at r) (response_of is.l s r.frame.stream own.attempt)
-      (response_of (read_link r is.l s) (frame_read is.l.number r s) r.frame.stream own.attempt) (subst HasNone is_reported.news none)
+      let own = responses.its_attempt is.l s slot.link.link.wire (lines_in is.l s) slot.link.readers r (read.going link piece x o s is h r next receives).streams
+      (read_so is.l s slot.link.readers (read.going link piece x o s is h r next receives).readers) (read.come link piece x o s is h r next receives).comes
+      (read.shown link piece x o s is h r next receives).unbroken is.fair.listed no_goaway e in
+      let is_frame_reported = responses.own_reported is.l s slot.link.link.wire (lines_in is.l s) slot.link.readers r (read.going link piece x o s is h r next receives).streams
+      (read_so is.l s slot.link.readers (read.going link piece x o s is h r next receives).readers) (read.come link piece x o s is h r next receives).comes
+      (read.shown link piece x o s is h r next receives).unbroken is.fair.listed no_goaway own in
+      is_frame_reported.news ∙ gained_none own.attempt.place (seen_at r) (response_of is.l s r.frame.stream own.attempt)
+      (response_of (read_link r is.l s) (frame_read is.l.number r s) r.frame.stream own.attempt) (subst HasNone is_frame_reported.news none)
 
   quiet_by : HasNone out.news → list_any is_ready out.news ≡ false → (b : Bool) → Own b → out.news ≡ []
-  quiet_by none calm false e = apart_news e ∙ ready_none _ (ap (list_any is_ready) (sym (apart_news e)) ∙ calm)
-  quiet_by none calm true e = own_none none e
+  quiet_by none quiescent false e = apart_news e ∙ ready_none _ (ap (list_any is_ready) (sym (apart_news e)) ∙ quiescent)
+  quiet_by none quiescent true e = own_none none e
 
   abbrev its_stream : Bool
   its_stream = list_any (λ (y : LiveStream). y.number == r.frame.stream) slot.link.link.wire.live
@@ -170,19 +170,19 @@ module _ (link : ℕ) (piece : List ℕ) (x : StateSeen) (o : OpenEntry) (s : Se
       news_are ∙ quiet_by last.0 (no_ready (list_any is_ready out.news) last.1) its_stream refl
 
   -- the server's first SETTINGS
-  pub record IsGreeting : Type 0 where
+  pub record AwaitsPreface : Type 0 where
     pub off : Own false
     pub first : (is_settings r.frame && not (has_settings is.l)) ≡ true
     pub news_is : h.news ≡ news.Ready ∷ []
 
-  greets_by : HasNone out.news → list_any is_ready out.news ≡ true → (b : Bool) → Own b → IsGreeting
-  greets_by none ready false e =
+  prefaces_by : HasNone out.news → list_any is_ready out.news ≡ true → (b : Bool) → Own b → AwaitsPreface
+  prefaces_by none ready false e =
       let first = ready_some _ (ap (list_any is_ready) (sym (apart_news e)) ∙ ready) in
       record { off = e; first = first; news_is = news_are ∙ apart_news e ∙ ap (λ (b : Bool). if b then news.Ready ∷ [] else []) first }
-  greets_by none ready true e =
+  prefaces_by none ready true e =
       absurd (let none_at_all : out.news ≡ [] = own_none none e in let bad : false ≡ true = ap (list_any is_ready) (sym none_at_all) ∙ ready in let no : ⊥ = (cc) in no)
 
-  pub greets : kind_of h.news ≡ Greets → IsGreeting
-  greets e =
-      let last = last_of_kinds out.news Greets tt (ap kind_of (sym news_are) ∙ e) in
-      greets_by last.0 (is_greeting (list_any is_ready out.news) last.1) its_stream refl
+  pub prefaces : kind_of h.news ≡ Prefaces → AwaitsPreface
+  prefaces e =
+      let last = last_of_kinds out.news Prefaces tt (ap kind_of (sym news_are) ∙ e) in
+      prefaces_by last.0 (awaits_preface (list_any is_ready out.news) last.1) its_stream refl

@@ -7,11 +7,11 @@ use Rattle.attempt_ledger.specs.declared.news.News.{News}
 use Rattle.attempt_ledger.specs.declared.news.News.TheVariants as news
 use Rattle.frame_cases.proofs.FrameKinds.Reported.{four_without, no_end, no_large}
 use Rattle.frame_cases.proofs.QuietFrames.Responses as responses
-use Rattle.frame_cases.proofs.QuietFrames.Responses.{HasAttempt, HasGrown, dropped_front, or_false}
-use Rattle.frame_cases.specs.FrameKinds.Laws.{Ends, FrameKind, Greets, Heads, Large, Messages, Quiet, is_end, is_head, is_large, is_message, is_ready, kind_of}
+use Rattle.frame_cases.proofs.QuietFrames.Responses.{HasAttempt, HasGrown, dropped_prefix, or_false}
+use Rattle.frame_cases.specs.FrameKinds.Laws.{Ends, FrameKind, Prefaces, Heads, Large, Messages, Quiet, is_end, is_head, is_large, is_message, is_ready, kind_of}
 use Rattle.frame_cases.specs.HeadFrames.Laws.{HasHead, HeadsComeAlone, IsReadWithHead}
 use Rattle.grpc_base.specs.declared.fields.Field.{Field}
-use Rattle.grpc_link.specs.Links.{Told as Reported}
+use Rattle.grpc_link.specs.Links.{Report as Reported}
 use Rattle.grpc_link.specs.Response.{end_gained, head_gained, message_news}
 use Rattle.grpc_link.specs.declared.readers.TagReader.{TagReader}
 use Rattle.h2_frame.specs.Numbers.{goaway_type}
@@ -22,7 +22,7 @@ use Rattle.link_actions.proofs.History.{settings_more}
 use Rattle.link_actions.proofs.LossActions.Over.{all_go}
 use Rattle.link_actions.specs.LossActions.Sees.{IsGoing, end_news}
 use Rattle.link_actions.specs.ResponseActions.Gained.{gained, is_done, is_listed_fairly, large_gained}
-use Rattle.link_actions.specs.ResponseActions.Laws.{IsReported, reported, seen_at}
+use Rattle.link_actions.specs.ResponseActions.Laws.{IsFrameReported, frame_reported, seen_at}
 use Rattle.link_actions.specs.ResponseActions.Readers.{SeesReaders}
 use Rattle.link_actions.specs.StreamActions.Laws.{Comes, read_link}
 use Rattle.link_actions.specs.StreamActions.Sees.{SeesStreams, response_of}
@@ -53,14 +53,14 @@ head_of ns y true b c p q r later k = absurd (let no : ⊥ = (cc) in no)
 head_of ns y false true c p q r later k = absurd (let no : ⊥ = (cc) in no)
 head_of ns y false false false p q r later k = absurd (subst IsLater k later)
 
-later_of : (a b : Bool) → IsLater (if a then Messages else if b then Greets else Quiet)
+later_of : (a b : Bool) → IsLater (if a then Messages else if b then Prefaces else Quiet)
 later_of true b = tt
 later_of false true = tt
 later_of false false = tt
 
 of_head : (ns : List News) → kind_of ns ≡ Heads → IsOfHead ns
 of_head ns e =
-    head_of ns (if list_any is_message ns then Messages else if list_any is_ready ns then Greets else Quiet) (list_any is_end ns) (list_any is_large ns) (list_any is_head ns)
+    head_of ns (if list_any is_message ns then Messages else if list_any is_ready ns then Prefaces else Quiet) (list_any is_end ns) (list_any is_large ns) (list_any is_head ns)
     refl refl refl (later_of (list_any is_message ns) (list_any is_ready ns)) e
 
 no_heads : (b : Bool) (P : Type 0) → kind_of (if b then news.Ready ∷ [] else []) ≡ Heads → P
@@ -124,9 +124,9 @@ gain_of tag seen p q goes small grown is = by p.head q.head refl refl
     by (Some x) now e f = without (news_by (Some x) now e f)
     by None None e f = without (news_by None None e f)
     by None (Some meta) e f =
-        let none : grown.more ≡ [] = grown.bare (ap (λ (o : Option (List Field)). is_none o) e) in
+        let none : grown.more ≡ [] = grown.awaiting_config (ap (λ (o : Option (List Field)). is_none o) e) in
         let same : q.messages ≡ p.messages = grown.messages ∙ ap (λ (ms : List (List ℕ)). p.messages ++ ms) none ∙ append-nil p.messages in
-        let left : drop (length p.messages) q.messages ≡ [] = ap (drop (length p.messages)) grown.messages ∙ dropped_front p.messages grown.more ∙ none in
+        let left : drop (length p.messages) q.messages ≡ [] = ap (drop (length p.messages)) grown.messages ∙ dropped_prefix p.messages grown.more ∙ none in
         record {
           meta = meta;
           news_are = news_by None (Some meta) e f ∙ ap (λ (ms : List (List ℕ)). news.Head tag meta seen ∷ map (message_news tag seen) ms) left;
@@ -136,7 +136,7 @@ gain_of tag seen p q goes small grown is = by p.head q.head refl refl
 
 module _ (l : Link) (s : Seen) (w : Wire) (g : ℕ → Line) (readers : List TagReader) (r : ReadFrame) (is : SeesStreams l s w g) (reads : SeesReaders l s readers) (comes : Comes l w r)
     (unbroken : l.over ≡ None) (fairly : list_all is_listed_fairly l.traffic ≡ true) (no_goaway : (r.frame.kind == goaway_type) ≡ false)
-    (kind : kind_of (reported w readers r.frame).news ≡ Heads) where
+    (kind : kind_of (frame_reported w readers r.frame).news ≡ Heads) where
   abbrev m : Link
   m = read_link r l s
 
@@ -144,7 +144,7 @@ module _ (l : Link) (s : Seen) (w : Wire) (g : ℕ → Line) (readers : List Tag
   u = frame_read l.number r s
 
   abbrev out : Reported
-  out = reported w readers r.frame
+  out = frame_reported w readers r.frame
 
   abbrev Alone : Type 0
   Alone = IsReadWithHead l m s u r.frame.stream (seen_at r) out.news out.link.link.wire g out.link.readers
@@ -159,7 +159,7 @@ module _ (l : Link) (s : Seen) (w : Wire) (g : ℕ → Line) (readers : List Tag
     going : IsGoing p
     going = all_go l s w g r.frame.stream own.attempt is own.on
 
-    its : IsReported l s m u out g r.frame.stream (seen_at r) own.attempt
+    its : IsFrameReported l s m u out g r.frame.stream (seen_at r) own.attempt
     its = responses.own_reported l s w g readers r is reads comes unbroken fairly no_goaway own
 
     gain : IsGain own.attempt.place (seen_at r) p q

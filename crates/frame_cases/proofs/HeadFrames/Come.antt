@@ -7,25 +7,25 @@ use Rattle.channel_actions.specs.Calls.{HasSlot}
 use Rattle.channel_actions.specs.GoingCalls.Going.{CallsGoOn}
 use Rattle.channel_actions.specs.Links.{lines_in}
 use Rattle.attempt_cases.proofs.DrainEvents.Links.{read_so}
-use Rattle.call_cases.proofs.FullSends.Bare.{no_items}
+use Rattle.call_cases.proofs.FullSends.Headless.{no_items}
 use Rattle.channel_core.specs.States.{StateSeen}
-use Rattle.channel_core.specs.Tables.{Heard, heard_in}
+use Rattle.channel_core.specs.Tables.{Received, received_in}
 use Rattle.channel_core.specs.declared.state.links.LinkSlot.{LinkSlot}
 use Rattle.frame_cases.proofs.HeadFrames.Alone.{heads_come_alone}
-use Rattle.frame_cases.proofs.MessageFrames.Heard.{items_none}
+use Rattle.frame_cases.proofs.MessageFrames.Received.{items_none}
 use Rattle.frame_cases.proofs.OwnFrames.Calls as calls
 use Rattle.frame_cases.proofs.OwnFrames.Came.{message_items}
 use Rattle.frame_cases.proofs.OwnFrames.Frame as frame
-use Rattle.frame_cases.proofs.QuietFrames.Heard as quiet
+use Rattle.frame_cases.proofs.QuietFrames.Received as quiet
 use Rattle.frame_cases.proofs.QuietFrames.Lines as lines
 use Rattle.frame_cases.proofs.QuietFrames.ReadStill as read
 use Rattle.frame_cases.specs.FrameKinds.Laws.{Heads, kind_of}
 use Rattle.frame_cases.specs.HeadFrames.Laws.{HasHead, IsReadWithHead}
-use Rattle.frame_cases.specs.PieceWalks.Points.{IsHearing, coming}
+use Rattle.frame_cases.specs.PieceWalks.Points.{IsReceiving, coming}
 use Rattle.grpc_base.specs.declared.event.Reply.{Reply}
 use Rattle.grpc_base.specs.declared.event.Reply.TheVariants as reply
 use Rattle.grpc_base.specs.declared.fields.Field.{Field}
-use Rattle.grpc_link.specs.Links.{Told as Reported}
+use Rattle.grpc_link.specs.Links.{Report as Reported}
 use Rattle.h2_frame.specs.Frames.{FrameSeen}
 use Rattle.h2_frame.specs.Numbers.{goaway_type}
 use Rattle.link_actions.specs.ResponseActions.Laws.{seen_at}
@@ -45,7 +45,7 @@ use Rattle.session_actions.specs.declared.link.ReadFrame.{ReadFrame}
 use Rattle.session_actions.specs.declared.response.Response.{Response}
 use Rattle.session_actions.specs.declared.seen.Seen.{Seen}
 use Rattle.session_order.proofs.Changed.{passes_not}
-use Rattle.session_order.specs.Calm as order
+use Rattle.session_order.specs.Quiescent as order
 use Rattle.session_order.specs.Lines.{is_line}
 use Rattle.session_order.specs.Stirs.{stirs}
 use Rattle.session_order.specs.declared.line.Line.{Line}
@@ -59,48 +59,48 @@ record GoesAsBefore (p q : Response) : Type 0 where
   pub large : q.large ≡ p.large
   pub end : q.end ≡ p.end
 
-module _ (link : ℕ) (piece : List ℕ) (x : StateSeen) (o : OpenEntry) (s : Seen) (is : IsHearing link piece x o s) (h : Heard) (r : ReadFrame)
-    (next : next_frame_read link s ≡ Some (action.FrameRead link r)) (hears : heard_in link piece x.links ≡ Some h) (no_goaway : (r.frame.kind == goaway_type) ≡ false)
+module _ (link : ℕ) (piece : List ℕ) (x : StateSeen) (o : OpenEntry) (s : Seen) (is : IsReceiving link piece x o s) (h : Received) (r : ReadFrame)
+    (next : next_frame_read link s ≡ Some (action.FrameRead link r)) (receives : received_in link piece x.links ≡ Some h) (no_goaway : (r.frame.kind == goaway_type) ≡ false)
     (kind : kind_of h.news ≡ Heads) where
   abbrev l : Link
   l = is.l
 
   abbrev m : Link
-  m = read.m link piece x o s is h r next hears
+  m = read.m link piece x o s is h r next receives
 
   abbrev t : Seen
-  t = read.t link piece x o s is h r next hears
+  t = read.t link piece x o s is h r next receives
 
   abbrev slot : LinkSlot
-  slot = read.slot link piece x o s is h r next hears
+  slot = read.slot link piece x o s is h r next receives
 
   abbrev frames : List FrameSeen
   frames = owed_for r.frame l s
 
   abbrev out : Reported
-  out = read.out link piece x o s is h r next hears
+  out = read.out link piece x o s is h r next receives
 
   abbrev n : ℕ
   n = r.frame.stream
 
   own : l.number ≡ link
-  own = read.own link piece x o s is h r next hears
+  own = read.own link piece x o s is h r next receives
 
   places : (i : ℕ) (b : Attempt) → numbered s.attempts i ≡ Some b → b.place ≡ i
-  places = read.places link piece x o s is h r next hears
+  places = read.places link piece x o s is h r next receives
 
-  pub calm_s : order.IsCalm o s
-  calm_s = quiet.calm_s link piece x o s is h r next hears
+  pub quiescent_s : order.IsQuiescent o s
+  quiescent_s = quiet.quiescent_s link piece x o s is h r next receives
 
   -- what is reported
   news_are : h.news ≡ out.news
-  news_are = ap (λ (k : Heard). k.news) (read.h_is link piece x o s is h r next hears) ∙ ap (λ (k : Reported). k.news) (read.told_is link piece x o s is h r next hears)
+  news_are = ap (λ (k : Received). k.news) (read.h_is link piece x o s is h r next receives) ∙ ap (λ (k : Reported). k.news) (read.reported_is link piece x o s is h r next receives)
 
   pub alone : IsReadWithHead l m s (frame_read l.number r s) n (seen_at r) out.news out.link.link.wire (lines_in l s) out.link.readers
   alone =
-      heads_come_alone l s slot.link.link.wire (lines_in l s) slot.link.readers r (read.going link piece x o s is h r next hears).streams
-      (read_so l s slot.link.readers (read.going link piece x o s is h r next hears).readers) (read.come link piece x o s is h r next hears).comes
-      (read.shown link piece x o s is h r next hears).unbroken is.fair.listed no_goaway (ap kind_of (sym news_are) ∙ kind)
+      heads_come_alone l s slot.link.link.wire (lines_in l s) slot.link.readers r (read.going link piece x o s is h r next receives).streams
+      (read_so l s slot.link.readers (read.going link piece x o s is h r next receives).readers) (read.come link piece x o s is h r next receives).comes
+      (read.shown link piece x o s is h r next receives).unbroken is.fair.listed no_goaway (ap kind_of (sym news_are) ∙ kind)
 
   abbrev pub a : Attempt
   a = alone.attempt
@@ -115,32 +115,32 @@ module _ (link : ℕ) (piece : List ℕ) (x : StateSeen) (o : OpenEntry) (s : Se
   single = news_are ∙ alone.news_are
 
   pub its : HasHead meta (response a s) (response a t)
-  its = frame.gained_so link piece x o s is h r next hears a on (HasHead meta) alone.gains
+  its = frame.gained_so link piece x o s is h r next receives a on (HasHead meta) alone.gains
 
   pub out_a : is_outstanding a ≡ true
-  out_a = frame.out link piece x o s is h r next hears a on
+  out_a = frame.out link piece x o s is h r next receives a on
 
   pub going : CallsGoOn (coming link piece x)
-  going = frame.going link piece x o s is h r next hears
+  going = frame.going link piece x o s is h r next receives
 
   abbrev pub c : Call
-  c = frame.c link piece x o s is h r next hears a on
+  c = frame.c link piece x o s is h r next receives a on
 
   abbrev pub number : ℕ
   number = a.row.call
 
   pub at : numbered s.calls number ≡ Some c
-  at = frame.at link piece x o s is h r next hears a on
+  at = frame.at link piece x o s is h r next receives a on
 
   abbrev pub has : HasSlot (coming link piece x) s c number
-  has = frame.has link piece x o s is h r next hears a on
+  has = frame.has link piece x o s is h r next receives a on
 
   -- nothing came before it, and it alone now
-  pub bare_before : response_items (response a s) ≡ []
-  bare_before = no_items a s its.was
+  pub unconfigured_before : response_items (response a s) ≡ []
+  unconfigured_before = no_items a s its.was
 
   no_messages : (response a s).messages ≡ []
-  no_messages = items_none (head_item (response a s).head) (response a s).messages bare_before
+  no_messages = items_none (head_item (response a s).head) (response a s).messages unconfigured_before
 
   pub head_now : response_items (response a t) ≡ reply.Head meta ∷ []
   head_now =
@@ -150,17 +150,17 @@ module _ (link : ℕ) (piece : List ℕ) (x : StateSeen) (o : OpenEntry) (s : Se
   -- no response ends by it
   each_goes : (i : ℕ) (b : Attempt) → numbered s.attempts i ≡ Some b → GoesAsBefore (response b s) (response b t)
   each_goes =
-      frame.each_so link piece x o s is h r next hears a on alone.others GoesAsBefore (record { large = its.large; end = its.end }) (λ p q k. record { large = k.large; end = k.end })
+      frame.each_so link piece x o s is h r next receives a on alone.others GoesAsBefore (record { large = its.large; end = its.end }) (λ p q k. record { large = k.large; end = k.end })
 
   -- no other head came
   pub other_headed : (i : ℕ) (b : Attempt) → numbered s.attempts i ≡ Some b → (b.place == a.place) ≡ false → is_headed t b ≡ false
   other_headed i b got off =
       ap (λ (q : Option (List Field)). is_outstanding b && holds (λ (d : Call). is_free_call s d && is_some q) (numbered s.calls b.row.call))
-      (frame.others_new link piece x o s is h r next hears a on alone.others i b got off).head
-      ∙ passes_not (is_headed s) s.attempts i b (calm_s line.Head) got
+      (frame.others_new link piece x o s is h r next receives a on alone.others i b got off).head
+      ∙ passes_not (is_headed s) s.attempts i b (quiescent_s line.Head) got
 
   pub itself : (i : ℕ) (b : Attempt) → numbered s.attempts i ≡ Some b → (b.place == a.place) ≡ true → a ≡ b
-  itself i b got e = frame.itself link piece x o s is h r next hears a on i b got e
+  itself i b got e = frame.itself link piece x o s is h r next receives a on i b got e
 
   -- whether it commits its call
   pub own_headed : is_headed t a ≡ is_free_call s c
@@ -174,16 +174,16 @@ module _ (link : ℕ) (piece : List ℕ) (x : StateSeen) (o : OpenEntry) (s : Se
 
   -- nothing else follows
   unstirred : (k : Line) → stirs (action.FrameRead link r) k ≡ false → order.IsStill k o t
-  unstirred k e = quiet.unstirred link piece x o s is h r next hears k e
+  unstirred k e = quiet.unstirred link piece x o s is h r next receives k e
 
   pub still_t : (k : Line) → is_line k line.Head ≡ false → order.IsStill k o t
   still_t line.Head e = absurd (let bad : true ≡ false = e in let no : ⊥ = (cc) in no)
   still_t line.Response e =
-      lines.larges_stay s link l is.here own r frames (Some o) places (read.less link piece x o s is h r next hears) (λ i b got. (each_goes i b got).large) o (calm_s line.Response)
+      lines.larges_stay s link l is.here own r frames (Some o) places (read.less link piece x o s is h r next receives) (λ i b got. (each_goes i b got).large) o (quiescent_s line.Response)
   still_t line.Link e =
-      lines.links_stay s link l is.here own r frames (Some o) places (read.less link piece x o s is h r next hears) alone.retiring alone.settings o (calm_s line.Link)
+      lines.links_stay s link l is.here own r frames (Some o) places (read.less link piece x o s is h r next receives) alone.retiring alone.settings o (quiescent_s line.Link)
   still_t line.WireEnd e =
-      lines.ends_stay s link l is.here own r frames (Some o) places (read.less link piece x o s is h r next hears) alone.retiring (λ i b got. (each_goes i b got).end) o (calm_s line.WireEnd)
+      lines.ends_stay s link l is.here own r frames (Some o) places (read.less link piece x o s is h r next receives) alone.retiring (λ i b got. (each_goes i b got).end) o (quiescent_s line.WireEnd)
   still_t line.Cut e = unstirred line.Cut refl
   still_t line.Transparent e = unstirred line.Transparent refl
   still_t line.Inherited e = unstirred line.Inherited refl

@@ -31,13 +31,13 @@ both_none [] ys e = (refl, sym e)
 both_none (x ∷ xs) ys e = absurd (let bad : [] ≡ x ∷ (xs ++ ys) = e in (cc))
 
 pub none_left : (taken : ℕ) (hs ms : List Reply) → IsLeft [] taken (hs ++ ms) → ms ≡ []
-none_left taken hs ms is = (both_none hs ms (sym (both_none is.front (hs ++ ms) is.joined).1)).1
+none_left taken hs ms is = (both_none hs ms (sym (both_none is.prefix (hs ++ ms) is.joined).1)).1
 
 pub first_left : (taken : ℕ) (hs ms : List Reply) (r : Reply) → IsLeft [] taken (hs ++ ms) → IsLeft (r ∷ []) taken (r ∷ ms)
 first_left taken hs ms r is = record {
-  front = is.front;
+  prefix = is.prefix;
   count = is.count;
-  joined = ap (λ (rs : List Reply). r ∷ rs) (sym (none_left taken hs ms is)) ∙ ap (λ (xs : List Reply). xs ++ (r ∷ ms)) (sym (both_none is.front (hs ++ ms) is.joined).0);
+  joined = ap (λ (rs : List Reply). r ∷ rs) (sym (none_left taken hs ms is)) ∙ ap (λ (xs : List Reply). xs ++ (r ∷ ms)) (sym (both_none is.prefix (hs ++ ms) is.joined).0);
 }
 
 -- the line of heads, and the others

@@ -13,9 +13,9 @@ use Rattle.link_actions.proofs.ResponseActions.Taken.{readers_are_left}
 use Rattle.link_actions.proofs.SteadyLinks.Calls.{AreAllFed, IsNoting, left_by}
 use Rattle.link_actions.specs.ResponseActions.Laws.{IsSameResponse, ReadsAlike}
 use Rattle.link_actions.specs.ResponseActions.Readers.{SeesReaders, attempt_on}
-use Rattle.link_actions.specs.Sees.{ArePlaced, IsFed}
+use Rattle.link_actions.specs.Sees.{AttemptsStandInPlace, IsFed}
 use Rattle.link_actions.specs.SteadyLinks.Laws.{IsLeft}
-use Rattle.link_actions.specs.SteadyLinks.Same.{AreSameOn}
+use Rattle.link_actions.specs.SteadyLinks.Same.{LinesAreSameOn}
 use Rattle.session_actions.specs.AttemptEnds.{attempt_ended, with_end_in_run}
 use Rattle.session_actions.specs.Attempts.{call_of}
 use Rattle.session_actions.specs.CallEnds.{call_ended}
@@ -51,7 +51,7 @@ module _ (s : Seen) (calls : List Call) (runs : List ThrottleRun) (f : ℕ → C
     finished = is.finished;
   }
 
-  all_same : (l : Link) (g : ℕ → Line) (xs : List Attempt) → AreAllFed l s g xs → AreSameOn l l s after_ g xs xs
+  all_same : (l : Link) (g : ℕ → Line) (xs : List Attempt) → AreAllFed l s g xs → LinesAreSameOn l l s after_ g xs xs
   all_same l g [] fed_ = tt
   all_same l g (a ∷ xs) fed_ = (
     record {
@@ -81,7 +81,7 @@ module _ (s : Seen) (calls : List Call) (runs : List ThrottleRun) (f : ℕ → C
   readers_left l readers is = readers_are_left l l s after_ readers is (λ row. alike (attempt_on l s row))
 
 -- an attempt ends, where its call ended before or not
-module _ (t : Seen) (a : Attempt) (why : EndCause) (e : RowEnd) (places : ArePlaced 1 t.attempts) (there : numbered t.attempts a.place ≡ Some a) (c : Call)
+module _ (t : Seen) (a : Attempt) (why : EndCause) (e : RowEnd) (places : AttemptsStandInPlace 1 t.attempts) (there : numbered t.attempts a.place ≡ Some a) (c : Call)
     (at_c : numbered t.calls a.row.call ≡ Some c) where
   abbrev n : ℕ
   n = a.row.call

@@ -6,9 +6,9 @@ use Rattle.attempt_ledger.specs.declared.news.News.TheVariants as news
 use Rattle.frame_cases.proofs.LargeFrames.Gains.{IsLargePlainly, gained_large, larges_reported, read_large}
 use Rattle.frame_cases.proofs.QuietFrames.Responses as responses
 use Rattle.frame_cases.proofs.QuietFrames.Responses.{HasAttempt, HasGrown, or_false}
-use Rattle.frame_cases.specs.FrameKinds.Laws.{Ends, Greets, Heads, Large, Messages, Quiet, is_end, is_head, is_large, is_message, is_ready, kind_of}
+use Rattle.frame_cases.specs.FrameKinds.Laws.{Ends, Prefaces, Heads, Large, Messages, Quiet, is_end, is_head, is_large, is_message, is_ready, kind_of}
 use Rattle.frame_cases.specs.QuietFrames.Laws.{HasNothingNew}
-use Rattle.grpc_link.specs.Links.{Told as Reported}
+use Rattle.grpc_link.specs.Links.{Report as Reported}
 use Rattle.grpc_link.specs.Response.{message_news}
 use Rattle.grpc_link.specs.declared.readers.TagReader.{TagReader}
 use Rattle.h2_frame.specs.Numbers.{goaway_type}
@@ -19,7 +19,7 @@ use Rattle.link_actions.proofs.History.{settings_more}
 use Rattle.link_actions.proofs.LossActions.Over.{all_go}
 use Rattle.link_actions.specs.LossActions.Sees.{IsGoing}
 use Rattle.link_actions.specs.ResponseActions.Gained.{is_done, is_listed_fairly}
-use Rattle.link_actions.specs.ResponseActions.Laws.{IsEnded, IsReported, reported, seen_at}
+use Rattle.link_actions.specs.ResponseActions.Laws.{IsEnded, IsFrameReported, frame_reported, seen_at}
 use Rattle.link_actions.specs.ResponseActions.Readers.{SeesReaders}
 use Rattle.link_actions.specs.StreamActions.Laws.{Comes, IsOn, read_link}
 use Rattle.link_actions.specs.StreamActions.Sees.{SeesStreams, response_of}
@@ -53,7 +53,7 @@ pub record IsReadWithLarge (l m : Link) (s t : Seen) (n seen : ℕ) (ns : List N
   pub settings : has_settings m ≡ has_settings l
 
 -- such a message is reported
-large_by : (a b c d e : Bool) → (if a then Ends else if b then Large else if c then Heads else if d then Messages else if e then Greets else Quiet) ≡ Large → b ≡ true
+large_by : (a b c d e : Bool) → (if a then Ends else if b then Large else if c then Heads else if d then Messages else if e then Prefaces else Quiet) ≡ Large → b ≡ true
 large_by true b c d e h = absurd (cc)
 large_by false true c d e h = refl
 large_by false false true d e h = absurd (cc)
@@ -70,7 +70,7 @@ no_large false P e = absurd (let no : ⊥ = (cc) in no)
 
 module _ (l : Link) (s : Seen) (w : Wire) (g : ℕ → Line) (readers : List TagReader) (r : ReadFrame) (is : SeesStreams l s w g) (reads : SeesReaders l s readers) (comes : Comes l w r)
     (unbroken : l.over ≡ None) (fairly : list_all is_listed_fairly l.traffic ≡ true) (no_goaway : (r.frame.kind == goaway_type) ≡ false)
-    (kind : kind_of (reported w readers r.frame).news ≡ Large) where
+    (kind : kind_of (frame_reported w readers r.frame).news ≡ Large) where
   abbrev m : Link
   m = read_link r l s
 
@@ -78,7 +78,7 @@ module _ (l : Link) (s : Seen) (w : Wire) (g : ℕ → Line) (readers : List Tag
   u = frame_read l.number r s
 
   abbrev out : Reported
-  out = reported w readers r.frame
+  out = frame_reported w readers r.frame
 
   abbrev Long : Type 0
   Long = IsReadWithLarge l m s u r.frame.stream (seen_at r) out.news out.link.link.wire g out.link.readers
@@ -93,7 +93,7 @@ module _ (l : Link) (s : Seen) (w : Wire) (g : ℕ → Line) (readers : List Tag
     going : IsGoing p
     going = all_go l s w g r.frame.stream own.attempt is own.on
 
-    its_report : IsReported l s m u out g r.frame.stream (seen_at r) own.attempt
+    its_report : IsFrameReported l s m u out g r.frame.stream (seen_at r) own.attempt
     its_report = responses.own_reported l s w g readers r is reads comes unbroken fairly no_goaway own
 
     grown : HasGrown p q

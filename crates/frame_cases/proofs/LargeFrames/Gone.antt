@@ -10,7 +10,7 @@ use Rattle.h2_link.specs.declared.live.LiveStream.{LiveStream}
 use Rattle.lb_policy.specs.Table.{is_one_of}
 use Rattle.link_actions.proofs.Lists.{if_false}
 use Rattle.link_actions.proofs.ResponseActions.Gone.{cut_free}
-use Rattle.link_actions.specs.Sees.{AreLive, ArePlaced, by_stream}
+use Rattle.link_actions.specs.Sees.{StreamsAreLive, AttemptsStandInPlace, by_stream}
 use Rattle.link_actions.specs.StreamActions.Sees.{SeesStreams}
 use Rattle.session_actions.specs.Reading.{is_outstanding_on}
 use Rattle.session_actions.specs.Words.{numbered}
@@ -19,11 +19,11 @@ use Rattle.session_actions.specs.declared.attempt.Attempt.{Attempt}
 use Rattle.session_actions.specs.declared.link.Link.{Link}
 use Rattle.session_actions.specs.declared.seen.Seen.{Seen}
 
-module _ (l : Link) (s : Seen) (a : Attempt) (there : numbered s.attempts a.place ≡ Some a) (off : is_outstanding_on l a ≡ false) (places : ArePlaced 1 s.attempts) where
+module _ (l : Link) (s : Seen) (a : Attempt) (there : numbered s.attempts a.place ≡ Some a) (off : is_outstanding_on l a ≡ false) (places : AttemptsStandInPlace 1 s.attempts) where
   abbrev IsOther : Attempt → Type 0
   IsOther b = (b.place == a.place) ≡ false
 
-  no_stream : (place : ℕ) (xs : List LiveStream) (as_ : List Attempt) → AreLive l xs as_ → AllByRecursion IsOther as_ → found_from (is_tagged a.place) place xs ≡ None
+  no_stream : (place : ℕ) (xs : List LiveStream) (as_ : List Attempt) → StreamsAreLive l xs as_ → AllByRecursion IsOther as_ → found_from (is_tagged a.place) place xs ≡ None
   no_stream place [] [] live others = refl
   no_stream place (x ∷ xs) (b ∷ as_) live others =
       if_false (x.tag == a.place) (Some (place, x)) (found_from (is_tagged a.place) (place + 1) xs) (ap (λ (k : ℕ). k == a.place) live.0.tag ∙ others.0)

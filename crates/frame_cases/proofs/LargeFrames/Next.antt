@@ -8,15 +8,15 @@ use Rattle.call_cases.proofs.EndsFollow.Codes.{response_by_limit}
 use Rattle.channel_actions.proofs.Stamps.{counted_at}
 use Rattle.channel_actions.specs.Links.{lines_in}
 use Rattle.channel_core.specs.States.{StateSeen}
-use Rattle.channel_core.specs.Tables.{Heard, heard_in}
+use Rattle.channel_core.specs.Tables.{Received, received_in}
 use Rattle.frame_cases.proofs.HeadFrames.Lists.{found_only}
 use Rattle.frame_cases.proofs.LargeFrames.Comes.{HasFirst, IsReadWithLarge}
 use Rattle.frame_cases.proofs.OwnFrames.Frame as frame
-use Rattle.frame_cases.proofs.QuietFrames.Heard as quiet
+use Rattle.frame_cases.proofs.QuietFrames.Received as quiet
 use Rattle.frame_cases.proofs.QuietFrames.Lines as lines
 use Rattle.frame_cases.proofs.QuietFrames.ReadStill as read
 use Rattle.frame_cases.specs.FrameKinds.Laws.{Large, kind_of}
-use Rattle.frame_cases.specs.PieceWalks.Points.{IsHearing}
+use Rattle.frame_cases.specs.PieceWalks.Points.{IsReceiving}
 use Rattle.frame_cases.specs.QuietFrames.Laws.{HasNothingNew}
 use Rattle.grpc_base.specs.declared.event.EndCause.TheVariants as ending
 use Rattle.grpc_base.specs.declared.fields.Field.{Field}
@@ -45,10 +45,10 @@ use Rattle.session_actions.specs.declared.link.ReadFrame.{ReadFrame}
 use Rattle.session_actions.specs.declared.response.Response.{Response}
 use Rattle.session_actions.specs.declared.seen.Seen.{Seen}
 use Rattle.session_order.proofs.Begun.{last_in}
-use Rattle.session_order.proofs.Calms.{first_line_gives}
+use Rattle.session_order.proofs.Quiescence.{first_line_gives}
 use Rattle.session_order.proofs.Changed.{none_from, passes_not}
 use Rattle.session_order.proofs.Ended.{ended_leaves}
-use Rattle.session_order.specs.Calm as order
+use Rattle.session_order.specs.Quiescent as order
 use Rattle.session_order.specs.Lines.{is_line, rank}
 use Rattle.session_order.specs.Stirs.{stirs}
 use Rattle.session_order.specs.declared.line.Line.TheVariants as line
@@ -82,22 +82,22 @@ no_response_before : (loses : Bool) (k : Line) → nat_lt (rank loses k) (rank l
 no_response_before loses k e =
     response_or_other (λ (q : Line). nat_lt (rank loses q) (rank loses line.Response) ≡ true → is_line q line.Response ≡ false) (λ f. absurd (cc)) (λ q off f. off) k e
 
-module _ (link : ℕ) (piece : List ℕ) (x : StateSeen) (o : OpenEntry) (s : Seen) (is : IsHearing link piece x o s) (h : Heard) (r : ReadFrame)
-    (next : next_frame_read link s ≡ Some (action.FrameRead link r)) (hears : heard_in link piece x.links ≡ Some h) (no_goaway : (r.frame.kind == goaway_type) ≡ false)
+module _ (link : ℕ) (piece : List ℕ) (x : StateSeen) (o : OpenEntry) (s : Seen) (is : IsReceiving link piece x o s) (h : Received) (r : ReadFrame)
+    (next : next_frame_read link s ≡ Some (action.FrameRead link r)) (receives : received_in link piece x.links ≡ Some h) (no_goaway : (r.frame.kind == goaway_type) ≡ false)
     (kind : kind_of h.news ≡ Large) where
   abbrev l : Link
   l = is.l
 
   abbrev t : Seen
-  t = starts.t link piece x o s is h r next hears no_goaway kind
+  t = starts.t link piece x o s is h r next receives no_goaway kind
 
   abbrev frames : List FrameSeen
   frames = owed_for r.frame l s
 
-  abbrev long : IsReadWithLarge l (read.m link piece x o s is h r next hears) s (frame_read l.number r s) r.frame.stream (seen_at r)
-      (read.out link piece x o s is h r next hears).news (read.out link piece x o s is h r next hears).link.link.wire (lines_in l s)
-      (read.out link piece x o s is h r next hears).link.readers
-  long = starts.long link piece x o s is h r next hears no_goaway kind
+  abbrev long : IsReadWithLarge l (read.m link piece x o s is h r next receives) s (frame_read l.number r s) r.frame.stream (seen_at r)
+      (read.out link piece x o s is h r next receives).news (read.out link piece x o s is h r next receives).link.link.wire (lines_in l s)
+      (read.out link piece x o s is h r next receives).link.readers
+  long = starts.long link piece x o s is h r next receives no_goaway kind
 
   abbrev a : Attempt
   a = long.attempt
@@ -106,28 +106,28 @@ module _ (link : ℕ) (piece : List ℕ) (x : StateSeen) (o : OpenEntry) (s : Se
   number = a.row.call
 
   abbrev c : Call
-  c = starts.c link piece x o s is h r next hears no_goaway kind
+  c = starts.c link piece x o s is h r next receives no_goaway kind
 
   own : l.number ≡ link
-  own = read.own link piece x o s is h r next hears
+  own = read.own link piece x o s is h r next receives
 
   places : (i : ℕ) (b : Attempt) → numbered s.attempts i ≡ Some b → b.place ≡ i
-  places = read.places link piece x o s is h r next hears
+  places = read.places link piece x o s is h r next receives
 
-  calm_s : order.IsCalm o s
-  calm_s = frame.calm_s link piece x o s is h r next hears
+  quiescent_s : order.IsQuiescent o s
+  quiescent_s = frame.quiescent_s link piece x o s is h r next receives
 
   on : IsOn l s r.frame.stream a
-  on = starts.on link piece x o s is h r next hears no_goaway kind
+  on = starts.on link piece x o s is h r next receives no_goaway kind
 
   at_c : numbered s.calls number ≡ Some c
-  at_c = starts.at_c link piece x o s is h r next hears no_goaway kind
+  at_c = starts.at_c link piece x o s is h r next receives no_goaway kind
 
   its : HasFirst long.more (response a s) (response a t)
-  its = starts.its link piece x o s is h r next hears no_goaway kind
+  its = starts.its link piece x o s is h r next receives no_goaway kind
 
   others_new : (i : ℕ) (b : Attempt) → numbered s.attempts i ≡ Some b → (b.place == a.place) ≡ false → HasNothingNew (response b s) (response b t)
-  others_new = frame.others_new link piece x o s is h r next hears a on long.others
+  others_new = frame.others_new link piece x o s is h r next receives a on long.others
 
   itself_not : (d : Call) → numbered s.calls d.number ≡ Some d → (d.number == number) ≡ false → (k : Attempt) → commitment d s ≡ Some k → (e : Bool) → (k.place == a.place) ≡ e
       → (k.place == a.place) ≡ false
@@ -137,7 +137,7 @@ module _ (link : ℕ) (piece : List ℕ) (x : StateSeen) (o : OpenEntry) (s : Se
       let passes : is_commitment d k ≡ true = last_passes (is_commitment d) s.attempts k its_own in
       let of_d : (k.row.call == d.number) ≡ true = (and_parts (is_of d k) (is_some k.row.committed) passes).0 in
       let same : d.number ≡ number
-      = sym (eqb-true k.row.call d.number of_d) ∙ ap (λ (q : Attempt). q.row.call) (sym (frame.itself link piece x o s is h r next hears a on (suc one.0) k one.1 e)) in
+      = sym (eqb-true k.row.call d.number of_d) ∙ ap (λ (q : Attempt). q.row.call) (sym (frame.itself link piece x o s is h r next receives a on (suc one.0) k one.1 e)) in
       absurd (let bad : true ≡ false = sym (eq-eqb d.number number same) ∙ off in let no : ⊥ = (cc) in no)
 
   large_same : (d : Call) → numbered s.calls d.number ≡ Some d → (d.number == number) ≡ false → (q : Option Attempt) → commitment d s ≡ q
@@ -154,13 +154,13 @@ module _ (link : ℕ) (piece : List ℕ) (x : StateSeen) (o : OpenEntry) (s : Se
   other_long j d got off =
       ap (λ (b : Bool). is_open_call d && b)
       (large_same d (ap (numbered s.calls) (numbers j d got) ∙ got) (ap (λ (i : ℕ). i == number) (numbers j d got) ∙ off) (commitment d s) refl)
-      ∙ passes_not (has_long_response s) s.calls j d (calm_s line.Response) got
+      ∙ passes_not (has_long_response s) s.calls j d (quiescent_s line.Response) got
 
   own_long : has_long_response t c ≡ true
   own_long =
-      ap (λ (e : Option CallEnd). is_none e && holds (λ (k : Attempt). is_outstanding k && (response k t).large) (commitment c s)) (starts.open_now link piece x o s is h r next hears no_goaway kind)
-      ∙ ap (holds (λ (k : Attempt). is_outstanding k && (response k t).large)) (starts.committed link piece x o s is h r next hears no_goaway kind)
-      ∙ ap (λ (b : Bool). b && (response a t).large) (frame.out link piece x o s is h r next hears a on) ∙ starts.its_large link piece x o s is h r next hears no_goaway kind
+      ap (λ (e : Option CallEnd). is_none e && holds (λ (k : Attempt). is_outstanding k && (response k t).large) (commitment c s)) (starts.open_now link piece x o s is h r next receives no_goaway kind)
+      ∙ ap (holds (λ (k : Attempt). is_outstanding k && (response k t).large)) (starts.committed link piece x o s is h r next receives no_goaway kind)
+      ∙ ap (λ (b : Bool). b && (response a t).large) (frame.out link piece x o s is h r next receives a on) ∙ starts.its_large link piece x o s is h r next receives no_goaway kind
 
   only : (j : ℕ) (d : Call) → numbered s.calls j ≡ Some d → has_long_response t d ≡ true → d ≡ c
   only j d got e = by (j == number) refl
@@ -173,11 +173,11 @@ module _ (link : ℕ) (piece : List ℕ) (x : StateSeen) (o : OpenEntry) (s : Se
 
   -- nothing follows but that
   unstirred : (k : Line) → stirs (action.FrameRead link r) k ≡ false → order.IsStill k o t
-  unstirred k e = quiet.unstirred link piece x o s is h r next hears k e
+  unstirred k e = quiet.unstirred link piece x o s is h r next receives k e
 
   each_so : (R : Response → Response → Type 0) → R (response a s) (response a t) → ((p q : Response) → HasNothingNew p q → R p q) → (i : ℕ) (b : Attempt) → numbered s.attempts i ≡ Some b
       → R (response b s) (response b t)
-  each_so = frame.each_so link piece x o s is h r next hears a on long.others
+  each_so = frame.each_so link piece x o s is h r next receives a on long.others
 
   each_headed : (i : ℕ) (b : Attempt) → numbered s.attempts i ≡ Some b → is_some (response b t).head ≡ is_some (response b s).head
   each_headed i b got =
@@ -187,12 +187,12 @@ module _ (link : ℕ) (piece : List ℕ) (x : StateSeen) (o : OpenEntry) (s : Se
   each_end i b got = each_so (λ p q. q.end ≡ p.end) its.end (λ p q k. k.end) i b got
 
   pub still_t : (k : Line) → is_line k line.Response ≡ false → order.IsStill k o t
-  still_t line.Head e = lines.heads_stay s link l is.here own r frames (Some o) places (read.less link piece x o s is h r next hears) each_headed o (calm_s line.Head)
+  still_t line.Head e = lines.heads_stay s link l is.here own r frames (Some o) places (read.less link piece x o s is h r next receives) each_headed o (quiescent_s line.Head)
   still_t line.Response e = absurd (cc)
   still_t line.Link e =
-      lines.links_stay s link l is.here own r frames (Some o) places (read.less link piece x o s is h r next hears) long.retiring long.settings o (calm_s line.Link)
+      lines.links_stay s link l is.here own r frames (Some o) places (read.less link piece x o s is h r next receives) long.retiring long.settings o (quiescent_s line.Link)
   still_t line.WireEnd e =
-      lines.ends_stay s link l is.here own r frames (Some o) places (read.less link piece x o s is h r next hears) long.retiring each_end o (calm_s line.WireEnd)
+      lines.ends_stay s link l is.here own r frames (Some o) places (read.less link piece x o s is h r next receives) long.retiring each_end o (quiescent_s line.WireEnd)
   still_t line.Cut e = unstirred line.Cut refl
   still_t line.Transparent e = unstirred line.Transparent refl
   still_t line.Inherited e = unstirred line.Inherited refl
@@ -216,7 +216,7 @@ module _ (link : ℕ) (piece : List ℕ) (x : StateSeen) (o : OpenEntry) (s : Se
   gives : next_ended ending.Response (has_long_response t) t ≡ Some act
   gives =
       ap (option_map (ending_call ending.Response)) (found_only (has_long_response t) c own_long s.calls number at_c only)
-      ∙ ap (λ (k : ℕ). Some (action.CallEnds k ending.Response)) (starts.number_is link piece x o s is h r next hears no_goaway kind)
+      ∙ ap (λ (k : ℕ). Some (action.CallEnds k ending.Response)) (starts.number_is link piece x o s is h r next receives no_goaway kind)
 
   pub next_t : following t ≡ Some act
   next_t = first_line_gives line.Response act o t refl (λ k before. still_t k (no_response_before (is_loss o.event) k before)) gives

@@ -7,10 +7,10 @@ use Rattle.attempt_ledger.specs.declared.news.News.{News}
 use Rattle.attempt_ledger.specs.declared.news.News.TheVariants as news
 use Rattle.frame_cases.proofs.FrameKinds.Reported.{four_without, no_end, no_head, no_large}
 use Rattle.frame_cases.proofs.QuietFrames.Responses as responses
-use Rattle.frame_cases.proofs.QuietFrames.Responses.{HasAttempt, HasGrown, dropped_front, head_still, or_false}
-use Rattle.frame_cases.specs.FrameKinds.Laws.{Ends, FrameKind, Greets, Heads, Large, Messages, Quiet, is_end, is_head, is_large, is_message, is_ready, kind_of}
+use Rattle.frame_cases.proofs.QuietFrames.Responses.{HasAttempt, HasGrown, dropped_prefix, head_still, or_false}
+use Rattle.frame_cases.specs.FrameKinds.Laws.{Ends, FrameKind, Prefaces, Heads, Large, Messages, Quiet, is_end, is_head, is_large, is_message, is_ready, kind_of}
 use Rattle.frame_cases.specs.MessageFrames.Laws.{HasMessages, IsReadWithMessages, MessagesComeAlone}
-use Rattle.grpc_link.specs.Links.{Told as Reported}
+use Rattle.grpc_link.specs.Links.{Report as Reported}
 use Rattle.grpc_link.specs.Response.{end_gained, head_gained, message_news}
 use Rattle.grpc_link.specs.declared.readers.TagReader.{TagReader}
 use Rattle.h2_frame.specs.Numbers.{goaway_type}
@@ -21,7 +21,7 @@ use Rattle.link_actions.proofs.History.{settings_more}
 use Rattle.link_actions.proofs.LossActions.Over.{all_go}
 use Rattle.link_actions.specs.LossActions.Sees.{IsGoing, end_news}
 use Rattle.link_actions.specs.ResponseActions.Gained.{gained, is_done, is_listed_fairly, large_gained}
-use Rattle.link_actions.specs.ResponseActions.Laws.{reported, seen_at}
+use Rattle.link_actions.specs.ResponseActions.Laws.{frame_reported, seen_at}
 use Rattle.link_actions.specs.ResponseActions.Readers.{SeesReaders}
 use Rattle.link_actions.specs.StreamActions.Laws.{Comes, read_link}
 use Rattle.link_actions.specs.StreamActions.Sees.{SeesStreams, response_of}
@@ -54,7 +54,7 @@ three_before ns y z false false true p q r late k = absurd (subst IsLate (sym k)
 
 before_messages : (ns : List News) → kind_of ns ≡ Messages → NoneBefore ns
 before_messages ns e =
-    three_before ns (if list_any is_message ns then Messages else if list_any is_ready ns then Greets else Quiet) Messages (list_any is_end ns) (list_any is_large ns) (list_any is_head ns)
+    three_before ns (if list_any is_message ns then Messages else if list_any is_ready ns then Prefaces else Quiet) Messages (list_any is_end ns) (list_any is_large ns) (list_any is_head ns)
     refl refl refl tt e
 
 no_messages : (b : Bool) (P : Type 0) → kind_of (if b then news.Ready ∷ [] else []) ≡ Messages → P
@@ -92,7 +92,7 @@ gain_of tag seen p q goes small grown none =
     let no_a : a ≡ [] = no_head tag seen p.head q.head (four_without is_head a b c d none.heads).0 in
     let no_c : c ≡ [] = no_large tag seen q.large (four_without is_large a b c d none.larges).2 in
     let no_d : d ≡ [] = no_end tag seen q.end (four_without is_end a b c d none.ends).3 in
-    let left : drop (length p.messages) q.messages ≡ grown.more = ap (drop (length p.messages)) grown.messages ∙ dropped_front p.messages grown.more in
+    let left : drop (length p.messages) q.messages ≡ grown.more = ap (drop (length p.messages)) grown.messages ∙ dropped_prefix p.messages grown.more in
     let ended : q.end ≡ None = end_none tag seen q.end no_d in
     let large : q.large ≡ false = large_none tag seen q.large no_c in
     record {
@@ -109,7 +109,7 @@ gain_of tag seen p q goes small grown none =
 
 module _ (l : Link) (s : Seen) (w : Wire) (g : ℕ → Line) (readers : List TagReader) (r : ReadFrame) (is : SeesStreams l s w g) (reads : SeesReaders l s readers) (comes : Comes l w r)
     (unbroken : l.over ≡ None) (fairly : list_all is_listed_fairly l.traffic ≡ true) (no_goaway : (r.frame.kind == goaway_type) ≡ false)
-    (kind : kind_of (reported w readers r.frame).news ≡ Messages) where
+    (kind : kind_of (frame_reported w readers r.frame).news ≡ Messages) where
   abbrev m : Link
   m = read_link r l s
 
@@ -117,7 +117,7 @@ module _ (l : Link) (s : Seen) (w : Wire) (g : ℕ → Line) (readers : List Tag
   u = frame_read l.number r s
 
   abbrev out : Reported
-  out = reported w readers r.frame
+  out = frame_reported w readers r.frame
 
   abbrev Alone : Type 0
   Alone = IsReadWithMessages l m s u r.frame.stream (seen_at r) out.news out.link.link.wire g out.link.readers

@@ -27,7 +27,7 @@ use Rattle.session_actions.specs.declared.call.Call.{Call}
 use Rattle.session_actions.specs.declared.entry.OpenEntry.{OpenEntry}
 use Rattle.session_actions.specs.declared.seen.Seen.{Seen}
 use Rattle.session_order.proofs.Lists.{none_is}
-use Rattle.session_order.specs.Calm.{IsCalm, is_to_cut}
+use Rattle.session_order.specs.Quiescent.{IsQuiescent, is_to_cut}
 use Rattle.session_order.specs.declared.line.Line.TheVariants as line
 
 -- rows that are all at one place
@@ -109,7 +109,7 @@ not_none : {X : Type 0} (o : Option X) → is_none o ≡ false → is_some o ≡
 not_none None e = absurd (cc)
 not_none (Some x) e = refl
 
-module _ (x : StateSeen) (o : OpenEntry) (s : Seen) (h : Agrees x s) (going : CallsGoOn x) (calm : IsCalm o s) (a : Attempt) (there : numbered s.attempts a.place ≡ Some a)
+module _ (x : StateSeen) (o : OpenEntry) (s : Seen) (h : Agrees x s) (going : CallsGoOn x) (quiescent : IsQuiescent o s) (a : Attempt) (there : numbered s.attempts a.place ≡ Some a)
     (out : is_outstanding a ≡ true) where
   pub its_call : (c : Call) × (numbered s.calls a.row.call ≡ Some c)
   its_call = there_is (numbered s.calls a.row.call) (gone.all_numbered (λ (q : Attempt). is_some (call_of q s)) s.attempts a.place a there h.kept.owned)
@@ -145,7 +145,7 @@ module _ (x : StateSeen) (o : OpenEntry) (s : Seen) (h : Agrees x s) (going : Ca
   over_not : is_over_in c a s ≡ false
   over_not =
       sym (ap (holds (λ (d : Call). is_over_in d a s)) at)
-      ∙ and_off (is_outstanding a) (is_over a s) out (numbered_not (is_to_cut s) s.attempts a.place a (calm line.Cut) there)
+      ∙ and_off (is_outstanding a) (is_over a s) out (numbered_not (is_to_cut s) s.attempts a.place a (quiescent line.Cut) there)
 
   pub open_now : c.end ≡ None
   open_now = none_is c.end (neither_first (is_some c.end) _ over_not)
@@ -179,7 +179,7 @@ module _ (x : StateSeen) (o : OpenEntry) (s : Seen) (h : Agrees x s) (going : Ca
     free_not =
         let none : has_head_in a s c ≡ false
         = sym (ap (holds (has_head_in a s)) at) ∙ and_off (is_outstanding a) (holds (has_head_in a s) (numbered s.calls a.row.call)) out
-        (numbered_not (is_headed s) s.attempts a.place a (calm line.Head) there) in
+        (numbered_not (is_headed s) s.attempts a.place a (quiescent line.Head) there) in
         first_off (is_free_call s c) (is_some (response a s).head) headed none
 
     has_commitment : is_some (commitment c s) ≡ true

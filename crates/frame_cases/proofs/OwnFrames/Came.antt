@@ -14,15 +14,15 @@ use Rattle.channel_actions.specs.Calls.{HasSlot, SeesCall}
 use Rattle.channel_core.specs.Arrivals.{read_to}
 use Rattle.channel_core.specs.Books.{slot_at}
 use Rattle.channel_core.specs.States.{StateSeen}
-use Rattle.channel_core.specs.Tables.{Heard, heard_in}
+use Rattle.channel_core.specs.Tables.{Received, received_in}
 use Rattle.channel_core.specs.declared.state.slots.CallSlot.{CallSlot}
 use Rattle.end_cases.specs.AttemptEnds.Ahead.{AgreesOffLinks}
-use Rattle.frame_cases.proofs.MessageFrames.Told.{with_more}
+use Rattle.frame_cases.proofs.MessageFrames.Report.{with_more}
 use Rattle.frame_cases.proofs.OwnFrames.Frame as frame
-use Rattle.frame_cases.proofs.PassedBytes.Agreeing.{HasCame, IsToldOff, nothing_came, recalled, told_books}
+use Rattle.frame_cases.proofs.PassedBytes.Agreeing.{HasCame, IsReportedOff, nothing_came, recalled, reported_books}
 use Rattle.frame_cases.proofs.PassedBytes.Same.{drained_through}
 use Rattle.frame_cases.proofs.QuietFrames.ReadStill as read
-use Rattle.frame_cases.specs.PieceWalks.Points.{IsHearing, coming}
+use Rattle.frame_cases.specs.PieceWalks.Points.{IsReceiving, coming}
 use Rattle.frame_cases.specs.QuietFrames.Laws.{HasNothingNew}
 use Rattle.grpc_base.specs.declared.event.Reply.TheVariants as reply
 use Rattle.grpc_base.specs.declared.event.Reply.{Reply}
@@ -63,42 +63,42 @@ items_more p q more head messages =
 left_more : (all now : List Reply) (taken : ℕ) (messages more : List (List ℕ)) (heads : List Reply) → now ≡ all ++ message_items more
     → IsLeft all taken (heads ++ call_laws.message_items messages) → IsLeft now taken (heads ++ call_laws.message_items (messages ++ more))
 left_more all now taken messages more heads e is = record {
-  front = is.front;
+  prefix = is.prefix;
   count = is.count;
   joined = e ∙ ap (λ (rs : List Reply). rs ++ message_items more) is.joined
-      ∙ append_assoc is.front (heads ++ message_items messages) (message_items more)
-      ∙ ap (λ (rs : List Reply). is.front ++ rs)
+      ∙ append_assoc is.prefix (heads ++ message_items messages) (message_items more)
+      ∙ ap (λ (rs : List Reply). is.prefix ++ rs)
       (append_assoc heads (message_items messages) (message_items more)
       ∙ ap (λ (rs : List Reply). heads ++ rs) (sym (map-append (λ (m : List ℕ). reply.Message m) messages more)));
 }
 
-module _ (link : ℕ) (piece : List ℕ) (x : StateSeen) (o : OpenEntry) (s : Seen) (is : IsHearing link piece x o s) (h : Heard) (r : ReadFrame)
-    (next : next_frame_read link s ≡ Some (action.FrameRead link r)) (hears : heard_in link piece x.links ≡ Some h) (a : Attempt) (on : IsOn is.l s r.frame.stream a) where
+module _ (link : ℕ) (piece : List ℕ) (x : StateSeen) (o : OpenEntry) (s : Seen) (is : IsReceiving link piece x o s) (h : Received) (r : ReadFrame)
+    (next : next_frame_read link s ≡ Some (action.FrameRead link r)) (receives : received_in link piece x.links ≡ Some h) (a : Attempt) (on : IsOn is.l s r.frame.stream a) where
   abbrev l : Link
   l = is.l
 
   abbrev m : Link
-  m = read.m link piece x o s is h r next hears
+  m = read.m link piece x o s is h r next receives
 
   abbrev t : Seen
-  t = read.t link piece x o s is h r next hears
+  t = read.t link piece x o s is h r next receives
 
   abbrev number : ℕ
   number = a.row.call
 
   abbrev c : Call
-  c = frame.c link piece x o s is h r next hears a on
+  c = frame.c link piece x o s is h r next receives a on
 
   abbrev has : HasSlot (coming link piece x) s c number
-  has = frame.has link piece x o s is h r next hears a on
+  has = frame.has link piece x o s is h r next receives a on
 
   at_c : numbered s.calls number ≡ Some c
-  at_c = frame.at link piece x o s is h r next hears a on
+  at_c = frame.at link piece x o s is h r next receives a on
 
   -- no stream was reset of an attempt that goes on
   pub unreset : a.reset ≡ false
   unreset =
-      not_reset (is_some a.row.ended) a.reset (ap (λ (q : Option RowEnd). is_some q) (frame.ended link piece x o s is h r next hears a on))
+      not_reset (is_some a.row.ended) a.reset (ap (λ (q : Option RowEnd). is_some q) (frame.ended link piece x o s is h r next receives a on))
       (all_numbered (λ (b : Attempt). is_some b.row.ended || not b.reset) s.attempts a.place a on.there is.known.early.resets)
     where
       not_reset : (p q : Bool) → p ≡ false → (p || not q) ≡ true → q ≡ false
@@ -122,7 +122,7 @@ module _ (link : ℕ) (piece : List ℕ) (x : StateSeen) (o : OpenEntry) (s : Se
       where
         by : (e : Bool) → (j == number) ≡ e → HasCame calls t j d held
         by false e =
-            nothing_came calls s t j d held (put.others j e ∙ there) (frame.came_other link piece x o s is h r next hears a on others j d got e) sees.serves.left
+            nothing_came calls s t j d held (put.others j e ∙ there) (frame.came_other link piece x o s is h r next receives a on others j d got e) sees.serves.left
         by true e =
             let same : number ≡ j = sym (eqb-true j number e) in
             let both_calls : Some c ≡ Some d = sym at_c ∙ ap (numbered s.calls) same ∙ got in
@@ -136,20 +136,20 @@ module _ (link : ℕ) (piece : List ℕ) (x : StateSeen) (o : OpenEntry) (s : Se
     abbrev z : StateSeen
     z = coming link (drop h.taken piece) (recalled calls (read_to link h.read (record x { links = h.links })))
 
-    told_off : is_retiring m ≡ is_retiring l → IsToldOff link (coming link piece x) z o o s t
-    told_off retiring = record {
+    reported_off : is_retiring m ≡ is_retiring l → IsReportedOff link (coming link piece x) z o o s t
+    reported_off retiring = record {
       state = ap (λ (rs : List ℕ). record z { resets = rs }) is.agrees.sets.resets;
       current = is.at.current;
       seen = refl;
       moment = refl;
       word = refl;
       drawn = refl;
-      kept = read.kept_t link piece x o s is h r next hears;
+      kept = read.kept_t link piece x o s is h r next receives;
       long = put.long;
-      heard = each_came;
-      drained_same = drained_through s (read.f link piece x o s is h r next hears) link (Some o) (λ stream k. used_same stream k r (owed_for r.frame l s));
-      noted = read.noted_as link piece x o s is h r next hears retiring;
+      handled = each_came;
+      drained_same = drained_through s (read.f link piece x o s is h r next receives) link (Some o) (λ stream k. used_same stream k r (owed_for r.frame l s));
+      noted = read.noted_as link piece x o s is h r next receives retiring;
     }
 
     pub books_agree : is_retiring m ≡ is_retiring l → AgreesOffLinks z t
-    books_agree retiring = told_books link (coming link piece x) z o o s t is.agrees (told_off retiring)
+    books_agree retiring = reported_books link (coming link piece x) z o o s t is.agrees (reported_off retiring)

@@ -14,14 +14,14 @@ use Rattle.channel_actions.specs.GoingCalls.Going.{CallsGoOn}
 use Rattle.channel_actions.specs.Links.{lines_in}
 use Rattle.channel_core.specs.Books.{row_at}
 use Rattle.channel_core.specs.States.{StateSeen}
-use Rattle.channel_core.specs.Tables.{Heard, heard_in}
+use Rattle.channel_core.specs.Tables.{Received, received_in}
 use Rattle.channel_core.specs.declared.state.links.LinkSlot.{LinkSlot}
 use Rattle.frame_cases.proofs.OwnFrames.Calls as calls
-use Rattle.frame_cases.proofs.QuietFrames.Heard as quiet
+use Rattle.frame_cases.proofs.QuietFrames.Received as quiet
 use Rattle.frame_cases.proofs.QuietFrames.Lines as lines
 use Rattle.frame_cases.proofs.QuietFrames.Lines.{new_self}
 use Rattle.frame_cases.proofs.QuietFrames.ReadStill as read
-use Rattle.frame_cases.specs.PieceWalks.Points.{IsHearing, coming}
+use Rattle.frame_cases.specs.PieceWalks.Points.{IsReceiving, coming}
 use Rattle.frame_cases.specs.QuietFrames.Laws.{HasNothingNew}
 use Rattle.h2_frame.specs.Frames.{FrameSeen}
 use Rattle.link_actions.proofs.ResponseActions.Kept.{only_one}
@@ -40,25 +40,25 @@ use Rattle.session_actions.specs.declared.link.Link.{Link}
 use Rattle.session_actions.specs.declared.link.ReadFrame.{ReadFrame}
 use Rattle.session_actions.specs.declared.response.Response.{Response}
 use Rattle.session_actions.specs.declared.seen.Seen.{Seen}
-use Rattle.session_order.specs.Calm as order
+use Rattle.session_order.specs.Quiescent as order
 
 none_of_it : (o : Option RowEnd) → is_none o ≡ true → o ≡ None
 none_of_it None e = refl
 none_of_it (Some e) f = absurd (cc)
 
-module _ (link : ℕ) (piece : List ℕ) (x : StateSeen) (o : OpenEntry) (s : Seen) (is : IsHearing link piece x o s) (h : Heard) (r : ReadFrame)
-    (next : next_frame_read link s ≡ Some (action.FrameRead link r)) (hears : heard_in link piece x.links ≡ Some h) where
+module _ (link : ℕ) (piece : List ℕ) (x : StateSeen) (o : OpenEntry) (s : Seen) (is : IsReceiving link piece x o s) (h : Received) (r : ReadFrame)
+    (next : next_frame_read link s ≡ Some (action.FrameRead link r)) (receives : received_in link piece x.links ≡ Some h) where
   abbrev l : Link
   l = is.l
 
   abbrev m : Link
-  m = read.m link piece x o s is h r next hears
+  m = read.m link piece x o s is h r next receives
 
   abbrev t : Seen
-  t = read.t link piece x o s is h r next hears
+  t = read.t link piece x o s is h r next receives
 
   abbrev slot : LinkSlot
-  slot = read.slot link piece x o s is h r next hears
+  slot = read.slot link piece x o s is h r next receives
 
   abbrev frames : List FrameSeen
   frames = owed_for r.frame l s
@@ -67,28 +67,28 @@ module _ (link : ℕ) (piece : List ℕ) (x : StateSeen) (o : OpenEntry) (s : Se
   n = r.frame.stream
 
   own : l.number ≡ link
-  own = read.own link piece x o s is h r next hears
+  own = read.own link piece x o s is h r next receives
 
   pub places : (i : ℕ) (b : Attempt) → numbered s.attempts i ≡ Some b → b.place ≡ i
-  places = read.places link piece x o s is h r next hears
+  places = read.places link piece x o s is h r next receives
 
   read_l : frame_read l.number r s ≡ t
-  read_l = read.read_l link piece x o s is h r next hears
+  read_l = read.read_l link piece x o s is h r next receives
 
   -- what is known of calls, while more of the piece is still to come
   pub going : CallsGoOn (coming link piece x)
   going = record { calls = is.known.going.calls; allows = is.known.going.allows }
 
-  pub calm_s : order.IsCalm o s
-  calm_s = quiet.calm_s link piece x o s is h r next hears
+  pub quiescent_s : order.IsQuiescent o s
+  quiescent_s = quiet.quiescent_s link piece x o s is h r next receives
 
   module _ (a : Attempt) (on : IsOn l s n a) where
     -- the response to the attempt
     pub before_is : response a s ≡ response_of l s n a
-    before_is = response_is l s n a (read.here_own link piece x o s is h r next hears) on.out on.stream
+    before_is = response_is l s n a (read.here_own link piece x o s is h r next receives) on.out on.stream
 
     pub after_is : response a t ≡ response_of m t n a
-    after_is = response_is m t n a (ap (numbered t.links) own ∙ read.there link piece x o s is h r next hears) on.out on.stream
+    after_is = response_is m t n a (ap (numbered t.links) own ∙ read.there link piece x o s is h r next receives) on.out on.stream
 
     -- of what it gained
     pub gained_so : (R : Response → Response → Type 0) → R (response_of l s n a) (response_of m (frame_read l.number r s) n a) → R (response a s) (response a t)
@@ -109,43 +109,43 @@ module _ (link : ℕ) (piece : List ℕ) (x : StateSeen) (o : OpenEntry) (s : Se
         ∙ numbered_map (λ (q : Attempt). q.row) s.attempts a.place ∙ ap (option_map (λ (q : Attempt). q.row)) on.there
 
     abbrev pub c : Call
-    c = calls.c (coming link piece x) o s is.agrees going calm_s a on.there out
+    c = calls.c (coming link piece x) o s is.agrees going quiescent_s a on.there out
 
     pub at : numbered s.calls a.row.call ≡ Some c
-    at = calls.at (coming link piece x) o s is.agrees going calm_s a on.there out
+    at = calls.at (coming link piece x) o s is.agrees going quiescent_s a on.there out
 
     abbrev pub has : HasSlot (coming link piece x) s c a.row.call
-    has = calls.has (coming link piece x) o s is.agrees going calm_s a on.there out
+    has = calls.has (coming link piece x) o s is.agrees going quiescent_s a on.there out
 
     pub number_is : c.number ≡ a.row.call
-    number_is = calls.number_is (coming link piece x) o s is.agrees going calm_s a on.there out
+    number_is = calls.number_is (coming link piece x) o s is.agrees going quiescent_s a on.there out
 
     pub mine : is_of c a ≡ true
-    mine = calls.mine (coming link piece x) o s is.agrees going calm_s a on.there out
+    mine = calls.mine (coming link piece x) o s is.agrees going quiescent_s a on.there out
 
     pub open_now : c.end ≡ None
-    open_now = calls.open_now (coming link piece x) o s is.agrees going calm_s a on.there out
+    open_now = calls.open_now (coming link piece x) o s is.agrees going quiescent_s a on.there out
 
     pub row_live : is_some (find_live a.place has.slot.call.live) ≡ true
-    row_live = calls.row_live (coming link piece x) o s is.agrees going calm_s a on.there out
+    row_live = calls.row_live (coming link piece x) o s is.agrees going quiescent_s a on.there out
 
     -- where its call is committed, it is to this attempt; so it is where a head came
     module _ (k : Attempt) (taken : commitment c s ≡ Some k) where
       pub one_is : k ≡ a
-      one_is = calls.itself (coming link piece x) o s is.agrees going calm_s a on.there out k taken
+      one_is = calls.itself (coming link piece x) o s is.agrees going quiescent_s a on.there out k taken
 
       pub row_taken : has.slot.call.attempts.committed ≡ Some k.place
-      row_taken = calls.committed_is (coming link piece x) o s is.agrees going calm_s a on.there out k taken
+      row_taken = calls.committed_is (coming link piece x) o s is.agrees going quiescent_s a on.there out k taken
 
       pub named : is_committed_live a.place has.slot.call ≡ true
-      named = calls.named (coming link piece x) o s is.agrees going calm_s a on.there out k taken
+      named = calls.named (coming link piece x) o s is.agrees going quiescent_s a on.there out k taken
 
     module _ (headed : is_some (response a s).head ≡ true) where
       pub committed : commitment c s ≡ Some a
-      committed = calls.committed (coming link piece x) o s is.agrees going calm_s a on.there out headed
+      committed = calls.committed (coming link piece x) o s is.agrees going quiescent_s a on.there out headed
 
       pub committed_live : is_committed_live a.place has.slot.call ≡ true
-      committed_live = calls.committed_live (coming link piece x) o s is.agrees going calm_s a on.there out headed
+      committed_live = calls.committed_live (coming link piece x) o s is.agrees going quiescent_s a on.there out headed
 
     pub itself : (i : ℕ) (b : Attempt) → numbered s.attempts i ≡ Some b → (b.place == a.place) ≡ true → a ≡ b
     itself i b got e =
@@ -160,13 +160,13 @@ module _ (link : ℕ) (piece : List ℕ) (x : StateSeen) (o : OpenEntry) (s : Se
           by false e = subst (λ (z : Seen). HasNothingNew (response_of l s k b) (response_of m z k b)) read_l (others k b there e)
           by true e =
               let here : IsOn l s n b = subst (λ (j : ℕ). IsOn l s j b) (sym (eqb-true n k e)) there in
-              let one : a ≡ b = only_one l s slot.link.link.wire (lines_in l s) n a b (read.going link piece x o s is h r next hears).streams on here in
+              let one : a ≡ b = only_one l s slot.link.link.wire (lines_in l s) n a b (read.going link piece x o s is h r next receives).streams on here in
               let same : (b.place == a.place) ≡ true = eq-eqb b.place a.place (ap (λ (z : Attempt). z.place) (sym one)) in
               absurd (let bad : true ≡ false = sym same ∙ off in let no : ⊥ = (cc) in no)
 
       pub others_new : (i : ℕ) (b : Attempt) → numbered s.attempts i ≡ Some b → (b.place == a.place) ≡ false → HasNothingNew (response b s) (response b t)
       others_new i b got off =
-          lines.each_new s link l is.here own r frames (Some o) places (read.less link piece x o s is h r next hears) (λ (z : Attempt). (z.place == a.place) ≡ false) HasNothingNew new_self
+          lines.each_new s link l is.here own r frames (Some o) places (read.less link piece x o s is h r next receives) (λ (z : Attempt). (z.place == a.place) ≡ false) HasNothingNew new_self
           new_on i b got off
 
       -- what is so of the attempt, and of all of which nothing came, is so of each
@@ -181,7 +181,7 @@ module _ (link : ℕ) (piece : List ℕ) (x : StateSeen) (o : OpenEntry) (s : Se
       -- nothing came for the application of a call that is not committed to it
       pub came_apart : (d : Call) → ((i : ℕ) (k : Attempt) → numbered s.attempts i ≡ Some k → commitment d s ≡ Some k → (k.place == a.place) ≡ false) → came d t ≡ came d s
       came_apart d apart =
-          lines.came_alike s link l is.here own r frames (Some o) places (read.less link piece x o s is h r next hears) d (λ i k there its. others_new i k there (apart i k there its))
+          lines.came_alike s link l is.here own r frames (Some o) places (read.less link piece x o s is h r next receives) d (λ i k there its. others_new i k there (apart i k there its))
 
       pub came_other : (j : ℕ) (d : Call) → numbered s.calls j ≡ Some d → (j == a.row.call) ≡ false → came d t ≡ came d s
       came_other j d got off = came_apart d (λ i k there its. apart i k there its (k.place == a.place) refl)

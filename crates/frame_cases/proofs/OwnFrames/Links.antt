@@ -4,20 +4,20 @@ use Rattle.std.proofs.lemmas.Bool.{eqb-false}
 use Rattle.attempt_cases.proofs.DrainEvents.Rooms.{length_changed}
 use Rattle.channel_actions.proofs.Links.Frames.Frame.{others_agree}
 use Rattle.channel_actions.proofs.Links.Frames.Untold.{actions_are_untold}
-use Rattle.channel_actions.specs.LinkFrames.Alike.{CannotTell}
+use Rattle.channel_actions.specs.LinkFrames.Alike.{CannotDistinguish}
 use Rattle.channel_actions.specs.Links.{HasLink}
 use Rattle.channel_core.proofs.BookLaws.{number_changed, number_other}
 use Rattle.channel_core.proofs.Resting.{changed_length}
 use Rattle.channel_core.specs.Arrivals.{read_to}
 use Rattle.channel_core.specs.States.{StateSeen}
-use Rattle.channel_core.specs.Tables.{Heard, heard_in, heard_link, with_link}
+use Rattle.channel_core.specs.Tables.{Received, received_in, received_link, with_link}
 use Rattle.channel_core.specs.declared.state.links.LinkSlot.{LinkSlot}
 use Rattle.channel_core.specs.declared.state.slots.CallSlot.{CallSlot}
 use Rattle.frame_cases.proofs.PassedBytes.Agreeing.{recalled}
 use Rattle.frame_cases.proofs.PieceWalks.Slots.{others_coming}
 use Rattle.frame_cases.proofs.QuietFrames.ReadStill as read
-use Rattle.frame_cases.specs.PieceWalks.Points.{IsHearing, coming, with_rest}
-use Rattle.grpc_link.specs.Links.{Told as Reported}
+use Rattle.frame_cases.specs.PieceWalks.Points.{IsReceiving, coming, with_rest}
+use Rattle.grpc_link.specs.Links.{Report as Reported}
 use Rattle.ledger_stamps.specs.Steps.{changed_at}
 use Rattle.session_actions.specs.Words.{numbered}
 use Rattle.session_actions.specs.Writing.{next_frame_read}
@@ -27,26 +27,26 @@ use Rattle.session_actions.specs.declared.link.Link.{Link}
 use Rattle.session_actions.specs.declared.link.ReadFrame.{ReadFrame}
 use Rattle.session_actions.specs.declared.seen.Seen.{Seen}
 
-module _ (link : ℕ) (piece : List ℕ) (x : StateSeen) (o : OpenEntry) (s : Seen) (is : IsHearing link piece x o s) (h : Heard) (r : ReadFrame)
-    (next : next_frame_read link s ≡ Some (action.FrameRead link r)) (hears : heard_in link piece x.links ≡ Some h) where
+module _ (link : ℕ) (piece : List ℕ) (x : StateSeen) (o : OpenEntry) (s : Seen) (is : IsReceiving link piece x o s) (h : Received) (r : ReadFrame)
+    (next : next_frame_read link s ≡ Some (action.FrameRead link r)) (receives : received_in link piece x.links ≡ Some h) where
   abbrev t : Seen
-  t = read.t link piece x o s is h r next hears
+  t = read.t link piece x o s is h r next receives
 
   abbrev slot : LinkSlot
-  slot = read.slot link piece x o s is h r next hears
+  slot = read.slot link piece x o s is h r next receives
 
   abbrev left : List ℕ
   left = drop h.taken piece
 
   -- that of the frame
   abbrev pub slot_then : LinkSlot
-  slot_then = with_rest left (with_link (heard_link piece) slot)
+  slot_then = with_rest left (with_link (received_link piece) slot)
 
-  pub slot_is : with_link (heard_link piece) slot ≡ record slot { link = (read.out link piece x o s is h r next hears).link }
-  slot_is = ap (λ (q : Reported). record slot { link = q.link }) (read.told_is link piece x o s is h r next hears)
+  pub slot_is : with_link (received_link piece) slot ≡ record slot { link = (read.out link piece x o s is h r next receives).link }
+  slot_is = ap (λ (q : Reported). record slot { link = q.link }) (read.reported_is link piece x o s is h r next receives)
 
-  links_are : h.links ≡ changed_at (with_link (heard_link piece)) x.links link
-  links_are = ap (λ (k : Heard). k.links) (read.h_is link piece x o s is h r next hears)
+  links_are : h.links ≡ changed_at (with_link (received_link piece)) x.links link
+  links_are = ap (λ (k : Received). k.links) (read.h_is link piece x o s is h r next receives)
 
   module _ (calls : List CallSlot) where
     abbrev z : StateSeen
@@ -56,24 +56,24 @@ module _ (link : ℕ) (piece : List ℕ) (x : StateSeen) (o : OpenEntry) (s : Se
     there =
         number_changed (with_rest left) h.links link
         ∙ ap (option_map (with_rest left))
-        (ap (λ (ls : List LinkSlot). numbered ls link) links_are ∙ number_changed (with_link (heard_link piece)) x.links link
-        ∙ ap (option_map (with_link (heard_link piece))) (read.kept link piece x o s is h r next hears).there)
+        (ap (λ (ls : List LinkSlot). numbered ls link) links_are ∙ number_changed (with_link (received_link piece)) x.links link
+        ∙ ap (option_map (with_link (received_link piece))) (read.kept link piece x o s is h r next receives).there)
 
     others : (k : ℕ) → (link == k) ≡ false → numbered z.links k ≡ numbered (coming link piece x).links k
     others k e =
         number_other (with_rest left) h.links link k (λ same. eqb-false link k e (sym same))
         ∙ ap (λ (ls : List LinkSlot). numbered ls k) links_are
-        ∙ number_other (with_link (heard_link piece)) x.links link k (λ same. eqb-false link k e (sym same)) ∙ sym (others_coming link piece x k e)
+        ∙ number_other (with_link (received_link piece)) x.links link k (λ same. eqb-false link k e (sym same)) ∙ sym (others_coming link piece x k e)
 
     pub count : length t.links ≡ length z.links
     count =
-        length_changed (read.f link piece x o s is h r next hears) link s.links ∙ is.agrees.links.count ∙ changed_length (with_rest piece) x.links link
-        ∙ sym (changed_length (with_rest left) h.links link ∙ ap (λ (ls : List LinkSlot). length ls) links_are ∙ changed_length (with_link (heard_link piece)) x.links link)
+        length_changed (read.f link piece x o s is h r next receives) link s.links ∙ is.agrees.links.count ∙ changed_length (with_rest piece) x.links link
+        ∙ sym (changed_length (with_rest left) h.links link ∙ ap (λ (ls : List LinkSlot). length ls) links_are ∙ changed_length (with_link (received_link piece)) x.links link)
 
-    read_apart : CannotTell (λ (k : ℕ). link == k) s t
+    read_apart : CannotDistinguish (λ (k : ℕ). link == k) s t
     read_apart =
-        subst (CannotTell (λ (k : ℕ). link == k) s) (read.after_is link piece x o s is h r next hears) (actions_are_untold (action.FrameRead link r) s is.agrees.kept tt)
+        subst (CannotDistinguish (λ (k : ℕ). link == k) s) (read.after_is link piece x o s is h r next receives) (actions_are_untold (action.FrameRead link r) s is.agrees.kept tt)
 
     pub others_then : (k : ℕ) (q : Link) → numbered t.links k ≡ Some q → (link == k) ≡ false → HasLink z t q k
     others_then k q got off =
-        others_agree (λ (j : ℕ). link == j) (coming link piece x) z s t k q is.agrees.links is.agrees.kept (read.kept_t link piece x o s is h r next hears) others read_apart off got
+        others_agree (λ (j : ℕ). link == j) (coming link piece x) z s t k q is.agrees.links is.agrees.kept (read.kept_t link piece x o s is h r next receives) others read_apart off got

@@ -5,8 +5,8 @@ use Rattle.std.specs.Option.{option_map, option_map_or}
 use Rattle.std.specs.List.{AllByRecursion}
 use Rattle.attempt_buffer.specs.Buffers.{Buffered, taken_by, text_of}
 use Rattle.attempt_ledger.specs.declared.ledger.LinkSeen.{LinkSeen}
-use Rattle.call_actions.specs.Order.{AreNumbered}
-use Rattle.call_actions.specs.Sees.{AreDue, bucket_of}
+use Rattle.call_actions.specs.Order.{AttemptsAreNumbered}
+use Rattle.call_actions.specs.Sees.{DuesAgree, bucket_of}
 use Rattle.call_actions.specs.TakeActions.Serves as serves
 use Rattle.call_actions.specs.TakeActions.Serves.{Holds, IsAt, IsLeft, Serves, came, drained_so_far, passed}
 use Rattle.call_core.specs.Laws as channel
@@ -21,10 +21,10 @@ use Rattle.channel_actions.proofs.Streams.Opened.Rows.{t as streamed}
 use Rattle.channel_actions.proofs.Streams.Opened.Streams.{rows_self, streams_of}
 use Rattle.channel_actions.specs.Agrees.{Agrees}
 use Rattle.channel_actions.specs.Calls.{HasSlot, SeesCall, SeesCalls, lent_to}
-use Rattle.channel_actions.specs.DrainBooks.Laws.{AreSameSets}
+use Rattle.channel_actions.specs.DrainBooks.Laws.{SetsAreSame}
 use Rattle.channel_actions.specs.DrainCalls.Laws.{IsOnlyStreamed}
 use Rattle.channel_actions.specs.KeptSessions.Kept.{IsKept}
-use Rattle.channel_actions.specs.LinkFrames.Alike.{CannotTell, Numbers}
+use Rattle.channel_actions.specs.LinkFrames.Alike.{CannotDistinguish, Numbers}
 use Rattle.channel_actions.specs.Links.{HasLink, SeesLinks}
 use Rattle.channel_actions.specs.Columns.{links_noted}
 use Rattle.channel_actions.specs.Sets.{SeesSets}
@@ -95,9 +95,9 @@ module _ (link : ℕ) (x : StateSeen) (slots : List LinkSlot) (columns : List Li
   y = relinked slots columns (recalled calls x)
 
   module _ (kept : IsKept t) (long : length calls ≡ length x.book.calls)
-      (heard : (number : ℕ) (c : Call) (slot : CallSlot) → numbered s.calls number ≡ Some c → slot_at x.book number ≡ Some slot → SeesCall x s c slot → HasCame calls t number c slot)
+      (handled : (number : ℕ) (c : Call) (slot : CallSlot) → numbered s.calls number ≡ Some c → slot_at x.book number ≡ Some slot → SeesCall x s c slot → HasCame calls t number c slot)
       (drained_same : (a : Attempt) → drained a t ≡ drained a s) (noted : links_noted t ≡ columns) where
-    places : AreNumbered 1 s.attempts
+    places : AttemptsAreNumbered 1 s.attempts
     places = h.kept.book.places
 
     only : IsOnlyStreamed s t
@@ -157,7 +157,7 @@ module _ (link : ℕ) (x : StateSeen) (slots : List LinkSlot) (columns : List Li
         ended = k.sees.ended;
         attempts = record {
           sent = k.sees.attempts.sent;
-          due = subst (λ (d : DueState). AreDue d slot.call.attempts) (sym (state_stays c)) k.sees.attempts.due;
+          due = subst (λ (d : DueState). DuesAgree d slot.call.attempts) (sym (state_stays c)) k.sees.attempts.due;
           unplaced = k.sees.attempts.unplaced;
           delayed = k.sees.attempts.delayed;
           last = λ uncommitted. last_stays c ∙ k.sees.attempts.last uncommitted;
@@ -196,19 +196,19 @@ module _ (link : ℕ) (x : StateSeen) (slots : List LinkSlot) (columns : List Li
     }
 
     call_still : (number : ℕ) (c : Call) → numbered s.calls number ≡ Some c → HasSlot x s c number → HasSlot y t c number
-    call_still number c got k = call_by number c k.slot k.sees (heard number c k.slot got k.there k.sees)
+    call_still number c got k = call_by number c k.slot k.sees (handled number c k.slot got k.there k.sees)
 
     calls_still : SeesCalls y t
     calls_still = record { count = h.calls.count ∙ sym long; each = λ number c got. call_still number c got (h.calls.each number c got) }
 
-    same_sets : AreSameSets x y
+    same_sets : SetsAreSame x y
     same_sets = record {
       queue = refl;
-      patient = refl;
+      ready_waiters = refl;
       dues = refl;
       deadlines = refl;
-      bare = refl;
-      impatient = refl;
+      awaiting_config = refl;
+      fail_fast = refl;
       outstanding = refl;
       resets = sym h.sets.resets;
     }
@@ -238,18 +238,18 @@ module _ (link : ℕ) (x : StateSeen) (slots : List LinkSlot) (columns : List Li
       orderly = h.orderly;
       sets = record {
         queue = sets_now.queue;
-        patient = sets_now.patient;
+        ready_waiters = sets_now.ready_waiters;
         dues = sets_now.dues;
         deadlines = sets_now.deadlines;
-        bare = sets_now.bare;
-        impatient = sets_now.impatient;
+        awaiting_config = sets_now.awaiting_config;
+        fail_fast = sets_now.fail_fast;
         outstanding = sets_now.outstanding;
       };
       kept = kept;
     }
 
     -- the links
-    module _ (cannot : CannotTell (λ (k : ℕ). link == k) s t) (others : (k : ℕ) → (link == k) ≡ false → numbered slots k ≡ numbered x.links k)
+    module _ (cannot : CannotDistinguish (λ (k : ℕ). link == k) s t) (others : (k : ℕ) → (link == k) ≡ false → numbered slots k ≡ numbered x.links k)
         (count : length ls ≡ length slots) (own : (m : Link) → numbered ls link ≡ Some m → HasLink y t m link) where
       abbrev touched : Numbers
       touched k = link == k
@@ -277,7 +277,7 @@ module _ (link : ℕ) (x : StateSeen) (slots : List LinkSlot) (columns : List Li
       }
 
 -- from any such session
-pub record IsToldOn (link : ℕ) (x y : StateSeen) (o p : OpenEntry) (s t : Seen) : Type 0 where
+pub record IsReportedOn (link : ℕ) (x y : StateSeen) (o p : OpenEntry) (s t : Seen) : Type 0 where
   pub state : y ≡ relinked y.links y.book.ledger.links (recalled y.book.calls x)
   pub current : s.current ≡ Some o
   pub seen : t ≡ record s { links = t.links; current = Some p }
@@ -285,18 +285,18 @@ pub record IsToldOn (link : ℕ) (x y : StateSeen) (o p : OpenEntry) (s t : Seen
   pub word : p.word ≡ o.word
   pub drawn : p.drawn ≡ o.drawn
   pub kept : IsKept t
-  pub cannot : CannotTell (λ k. link == k) s t
+  pub cannot : CannotDistinguish (λ k. link == k) s t
   pub slots : (k : ℕ) → (link == k) ≡ false → numbered y.links k ≡ numbered x.links k
   pub count : length t.links ≡ length y.links
   pub long : length y.book.calls ≡ length x.book.calls
-  pub heard : (number : ℕ) (c : Call) (slot : CallSlot) → numbered s.calls number ≡ Some c → slot_at x.book number ≡ Some slot → SeesCall x s c slot
+  pub handled : (number : ℕ) (c : Call) (slot : CallSlot) → numbered s.calls number ≡ Some c → slot_at x.book number ≡ Some slot → SeesCall x s c slot
       → HasCame y.book.calls t number c slot
   pub drained_same : (a : Attempt) → drained a t ≡ drained a s
   pub noted : links_noted t ≡ y.book.ledger.links
   pub own : (m : Link) → numbered t.links link ≡ Some m → HasLink y t m link
 
-pub told_keeps : (link : ℕ) (x y : StateSeen) (o p : OpenEntry) (s t : Seen) → Agrees x s → IsToldOn link x y o p s t → Agrees y t
-told_keeps link x y o p s t h is =
+pub reported_keeps : (link : ℕ) (x y : StateSeen) (o p : OpenEntry) (s t : Seen) → Agrees x s → IsReportedOn link x y o p s t → Agrees y t
+reported_keeps link x y o p s t h is =
     let s1 : Seen = with_open o s in
     let s_is : s ≡ s1 = is_with_open o s is.current in
     let t1 : Seen = record s1 { links = t.links; current = Some p } in
@@ -306,16 +306,16 @@ told_keeps link x y o p s t h is =
     agrees_relinked link x y.links y.book.ledger.links y.book.calls o p s t.links (subst (Agrees x) s_is h) is.moment is.word is.drawn
     (subst IsKept t_is is.kept) is.long
     (λ number c slot got there k.
-    subst (λ (z : Seen). HasCame y.book.calls z number c slot) t_is (is.heard number c slot got there (subst (λ (z : Seen). SeesCall x z c slot) (sym s_is) k)))
+    subst (λ (z : Seen). HasCame y.book.calls z number c slot) t_is (is.handled number c slot got there (subst (λ (z : Seen). SeesCall x z c slot) (sym s_is) k)))
     (λ a. ap (drained a) (sym t_is) ∙ is.drained_same a ∙ ap (drained a) s_is)
     (ap links_noted (sym t_is) ∙ is.noted)
-    (subst (λ (z : Seen). CannotTell (λ (k : ℕ). link == k) z t1) s_is (subst (CannotTell (λ (k : ℕ). link == k) s) t_is is.cannot))
+    (subst (λ (z : Seen). CannotDistinguish (λ (k : ℕ). link == k) z t1) s_is (subst (CannotDistinguish (λ (k : ℕ). link == k) s) t_is is.cannot))
     is.slots is.count
     (λ m got. subst (λ (z : StateSeen). HasLink z t1 m link) is.state (subst (λ (z : Seen). HasLink y z m link) t_is (is.own m got))) in
     subst (λ (z : StateSeen). Agrees z t) (sym is.state) (subst (Agrees y1) (sym t_is) agrees)
 
 -- all but the links, however these stand
-pub record IsToldOff (link : ℕ) (x y : StateSeen) (o p : OpenEntry) (s t : Seen) : Type 0 where
+pub record IsReportedOff (link : ℕ) (x y : StateSeen) (o p : OpenEntry) (s t : Seen) : Type 0 where
   pub state : y ≡ relinked y.links y.book.ledger.links (recalled y.book.calls x)
   pub current : s.current ≡ Some o
   pub seen : t ≡ record s { links = t.links; current = Some p }
@@ -324,13 +324,13 @@ pub record IsToldOff (link : ℕ) (x y : StateSeen) (o p : OpenEntry) (s t : See
   pub drawn : p.drawn ≡ o.drawn
   pub kept : IsKept t
   pub long : length y.book.calls ≡ length x.book.calls
-  pub heard : (number : ℕ) (c : Call) (slot : CallSlot) → numbered s.calls number ≡ Some c → slot_at x.book number ≡ Some slot → SeesCall x s c slot
+  pub handled : (number : ℕ) (c : Call) (slot : CallSlot) → numbered s.calls number ≡ Some c → slot_at x.book number ≡ Some slot → SeesCall x s c slot
       → HasCame y.book.calls t number c slot
   pub drained_same : (a : Attempt) → drained a t ≡ drained a s
   pub noted : links_noted t ≡ y.book.ledger.links
 
-pub told_books : (link : ℕ) (x y : StateSeen) (o p : OpenEntry) (s t : Seen) → Agrees x s → IsToldOff link x y o p s t → AgreesOffLinks y t
-told_books link x y o p s t h is =
+pub reported_books : (link : ℕ) (x y : StateSeen) (o p : OpenEntry) (s t : Seen) → Agrees x s → IsReportedOff link x y o p s t → AgreesOffLinks y t
+reported_books link x y o p s t h is =
     let s1 : Seen = with_open o s in
     let s_is : s ≡ s1 = is_with_open o s is.current in
     let t1 : Seen = record s1 { links = t.links; current = Some p } in
@@ -340,7 +340,7 @@ told_books link x y o p s t h is =
     books_relinked link x y.links y.book.ledger.links y.book.calls o p s t.links (subst (Agrees x) s_is h) is.moment is.word is.drawn
     (subst IsKept t_is is.kept) is.long
     (λ number c slot got there k.
-    subst (λ (z : Seen). HasCame y.book.calls z number c slot) t_is (is.heard number c slot got there (subst (λ (z : Seen). SeesCall x z c slot) (sym s_is) k)))
+    subst (λ (z : Seen). HasCame y.book.calls z number c slot) t_is (is.handled number c slot got there (subst (λ (z : Seen). SeesCall x z c slot) (sym s_is) k)))
     (λ a. ap (drained a) (sym t_is) ∙ is.drained_same a ∙ ap (drained a) s_is)
     (ap links_noted (sym t_is) ∙ is.noted) in
     subst (λ (z : StateSeen). AgreesOffLinks z t) (sym is.state) (subst (AgreesOffLinks y1) (sym t_is) agrees)
@@ -349,7 +349,7 @@ told_books link x y o p s t h is =
 pub passed_bytes_keep : PassedBytesKeep
 passed_bytes_keep link x y o p s t h is =
     let same : y.book.calls ≡ x.book.calls = ap (λ (z : StateSeen). z.book.calls) is.state in
-    told_keeps link x y o p s t h (record {
+    reported_keeps link x y o p s t h (record {
       state = is.state ∙ ap (λ (calls : List CallSlot). relinked y.links y.book.ledger.links (recalled calls x)) (sym same);
       current = is.current;
       seen = is.seen;
@@ -361,7 +361,7 @@ passed_bytes_keep link x y o p s t h is =
       slots = is.slots;
       count = is.count;
       long = ap (λ (calls : List CallSlot). length calls) same;
-      heard = λ number c slot got there k.
+      handled = λ number c slot got there k.
           nothing_came y.book.calls s t number c slot (ap (λ (calls : List CallSlot). slot_numbered calls number) same ∙ there) (is.came_same c) k.serves.left;
       drained_same = is.drained_same;
       noted = is.noted;

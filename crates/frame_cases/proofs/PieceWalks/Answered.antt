@@ -5,7 +5,7 @@ use Rattle.std.proofs.lemmas.List.{length-append}
 use Rattle.channel_actions.proofs.Dialling.{unshut_by}
 use Rattle.channel_actions.proofs.Refusing.{none_numbered}
 use Rattle.channel_actions.specs.Agrees.{Agrees}
-use Rattle.channel_actions.specs.Calm.{IsAt}
+use Rattle.channel_actions.specs.Quiescent.{IsAt}
 use Rattle.channel_actions.specs.Links.{HasLink, IsGoing}
 use Rattle.channel_actions.specs.Stages.{IsAnswered}
 use Rattle.attempt_cases.proofs.DrainEvents.Rooms.{one_some}
@@ -18,8 +18,8 @@ use Rattle.channel_core.specs.declared.state.links.LinkSlot.{LinkSlot}
 use Rattle.frame_cases.proofs.PieceWalks.Arrives as arrives
 use Rattle.frame_cases.proofs.PieceWalks.Knows.{known_with}
 use Rattle.frame_cases.proofs.PieceWalks.Walk.{Walked, walk}
-use Rattle.frame_cases.specs.PieceWalks.Laws.{BreaksAreHeard, FramesAreHeard, IsArrival, KnownAlongFrames, PiecesAreHeard}
-use Rattle.frame_cases.specs.PieceWalks.Points.{IsHearing, IsReadOut}
+use Rattle.frame_cases.specs.PieceWalks.Laws.{BreaksAreReceived, FramesAreReceived, IsArrival, KnownAlongFrames, PiecesAreReceived}
+use Rattle.frame_cases.specs.PieceWalks.Points.{IsReceiving, IsReadOut}
 use Rattle.grpc_base.specs.declared.event.Event.{Event}
 use Rattle.grpc_base.specs.declared.event.Event.TheVariants as event
 use Rattle.grpc_base.specs.declared.event.Refusal.{Refusal}
@@ -49,7 +49,7 @@ up_by x s link None h kept here =
     = sym (ap (λ (q : Option LinkSlot). if not (is_some q) then Some refusal.NoSuchLink else if steps.is_gone link x then Some refusal.LinkGone else None) none) ∙ kept in (cc))
 up_by x s link (Some l) h kept here = record { l = l; here = here }
 
-module _ (frames : FramesAreHeard) (breaks : BreaksAreHeard) (knows : KnownAlongFrames) (few : AttemptsAreFew) (x : StateSeen) (o : OpenEntry) (s : Seen) (h : Agrees x s) (at : IsAt stage.Event o s)
+module _ (frames : FramesAreReceived) (breaks : BreaksAreReceived) (knows : KnownAlongFrames) (few : AttemptsAreFew) (x : StateSeen) (o : OpenEntry) (s : Seen) (h : Agrees x s) (at : IsAt stage.Event o s)
     (fresh : o.turn ≡ None) (timely : next_deadline s ≡ None) (case : IsArrival o.event x s) where
   abbrev link : ℕ
   link = case.link
@@ -85,7 +85,7 @@ module _ (frames : FramesAreHeard) (breaks : BreaksAreHeard) (knows : KnownAlong
       let going : IsGoing l s has.slot = has.sees.going unbroken in
       ap (λ (z : LinkSlot). reading_of z.link.link.rest) (sym one) ∙ ap reading_of (sym going.rest) ∙ out.part unbroken
 
-  begins : IsHearing link piece x p t
+  begins : IsReceiving link piece x p t
   begins = record {
     at = arrives.at_now x o s h at timely link piece case.event_is case.kept l up.here out.fair.within;
     whole = piece;
@@ -128,8 +128,8 @@ module _ (frames : FramesAreHeard) (breaks : BreaksAreHeard) (knows : KnownAlong
     none = walked.none;
   }
 
-pub pieces_are_heard : AttemptsAreFew → PiecesAreHeard
-pieces_are_heard few frames breaks knows x y r o s h at fresh timely case answers =
+pub pieces_are_received : AttemptsAreFew → PiecesAreReceived
+pieces_are_received few frames breaks knows x y r o s h at fresh timely case answers =
     let given : AnswersBy None (event.Arrived case.link case.piece) x y r
     = subst (λ (e : Event). AnswersBy None e x y r) case.event_is (subst (λ (z : Option Refusal). AnswersBy z o.event x y r) case.kept answers) in
     subst (λ (z : StateSeen). IsAnswered z r o s) (sym given.0)

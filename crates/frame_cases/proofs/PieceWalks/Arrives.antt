@@ -10,17 +10,17 @@ use Rattle.channel_actions.proofs.Dialling.{applied_next, open_in, unshut_by}
 use Rattle.channel_actions.proofs.KeptSessions.Along.{kept_stays}
 use Rattle.channel_actions.proofs.Links.Frames.Readers.{readers_still}
 use Rattle.channel_actions.proofs.Links.Frames.Streams.{streams_still}
-use Rattle.channel_actions.proofs.Links.Frames.Tellings.{all_go, selves_alike}
+use Rattle.channel_actions.proofs.Links.Frames.Distinguishing.{all_go, selves_alike}
 use Rattle.channel_actions.proofs.Links.Frames.Untold.{actions_are_untold}
 use Rattle.channel_actions.proofs.Lines.{all_at_places}
 use Rattle.channel_actions.proofs.Refusing.{link_same}
 use Rattle.channel_actions.proofs.Settles.{is_with_open}
 use Rattle.channel_actions.proofs.Stamps.{counted_at}
 use Rattle.channel_actions.specs.Agrees.{Agrees}
-use Rattle.channel_actions.specs.Calm.{IsAt}
+use Rattle.channel_actions.specs.Quiescent.{IsAt}
 use Rattle.channel_actions.specs.Columns.{links_noted}
 use Rattle.channel_actions.specs.KeptSessions.Kept.{IsKept}
-use Rattle.channel_actions.specs.LinkFrames.Alike.{CannotTell, Numbers}
+use Rattle.channel_actions.specs.LinkFrames.Alike.{CannotDistinguish, Numbers}
 use Rattle.channel_actions.specs.Links.{HasLink, IsGoing, lines_in}
 use Rattle.attempt_cases.proofs.DrainEvents.Rooms.{length_changed, one_some}
 use Rattle.channel_core.proofs.BookLaws.{number_changed, number_other}
@@ -50,9 +50,9 @@ use Rattle.session_actions.specs.declared.entry.OpenEntry.{OpenEntry}
 use Rattle.session_actions.specs.declared.entry.Stage.TheVariants as stage
 use Rattle.session_actions.specs.declared.link.Link.{Link}
 use Rattle.session_actions.specs.declared.seen.Seen.{Seen}
-use Rattle.session_order.proofs.Calms.{calm_is_exact}
+use Rattle.session_order.proofs.Quiescence.{quiescence_is_exact}
 use Rattle.session_order.proofs.Wires.{arrived_leaves}
-use Rattle.session_order.specs.Calm as order
+use Rattle.session_order.specs.Quiescent as order
 
 module _ (x : StateSeen) (o : OpenEntry) (s : Seen) (h : Agrees x s) (at : IsAt stage.Event o s) (timely : next_deadline s ≡ None) (link : ℕ) (piece : List ℕ)
     (is : o.event ≡ event.Arrived link piece) (kept : channel.refusal_of o.event x ≡ None) (l : Link) (here : numbered s.links link ≡ Some l)
@@ -90,18 +90,18 @@ module _ (x : StateSeen) (o : OpenEntry) (s : Seen) (h : Agrees x s) (at : IsAt 
   after_is = ap (λ (c : Option OpenEntry). after_if c (action.BytesArrive link) s) at.current ∙ in_is
 
   -- nothing follows from it
-  calm_so : order.IsCalm o s
-  calm_so = (calm_is_exact o s).0 (at.calm.calls, at.calm.links, at.calm.policies)
+  quiescent_so : order.IsQuiescent o s
+  quiescent_so = (quiescence_is_exact o s).0 (at.quiescent.calls, at.quiescent.links, at.quiescent.policies)
 
-  calm_now : order.IsCalm p t
-  calm_now l =
+  quiescent_now : order.IsQuiescent p t
+  quiescent_now l =
       subst (order.IsStill l p) in_is
-      (arrived_leaves link o s at.current (piece, is) l p (ap (λ (z : Seen). z.current) in_is) refl (calm_so l))
+      (arrived_leaves link o s at.current (piece, is) l p (ap (λ (z : Seen). z.current) in_is) refl (quiescent_so l))
 
   pub at_now : IsAt stage.Replied p t
   at_now =
-      let three = (calm_is_exact p t).1 calm_now in
-      record { current = refl; stage_is = refl; calm = record { calls = three.0; links = three.1; policies = three.2 } }
+      let three = (quiescence_is_exact p t).1 quiescent_now in
+      record { current = refl; stage_is = refl; quiescent = record { calls = three.0; links = three.1; policies = three.2 } }
 
   -- the link
   own : l.number ≡ link
@@ -160,7 +160,7 @@ module _ (x : StateSeen) (o : OpenEntry) (s : Seen) (h : Agrees x s) (at : IsAt 
     word = refl;
     drawn = refl;
     kept = kept_t;
-    cannot = subst (CannotTell (λ (k : ℕ). link == k) s) after_is (actions_are_untold (action.BytesArrive link) s h.kept tt);
+    cannot = subst (CannotDistinguish (λ (k : ℕ). link == k) s) after_is (actions_are_untold (action.BytesArrive link) s h.kept tt);
     slots = λ k e. number_other (with_rest piece) x.links link k (λ same. eqb-false link k e (sym same));
     count = length_changed f link s.links ∙ h.links.count ∙ sym (changed_length (with_rest piece) x.links link);
     came_same = came_through s f link (Some p) (λ a. ap response_items (response_through s f link (Some p) (λ k. refl) a));

@@ -1,4 +1,4 @@
--- What the channel does of calls while more of a piece is still to be heard: the link of the piece keeps these bytes, whatever rows leave it and whatever is sealed.
+-- What the channel does of calls while more of a piece is still to be handled: the link of the piece keeps these bytes, whatever rows leave it and whatever is sealed.
 use Rattle.std.proofs.Common.{◌≡◌, ◌++◌, ◌&&◌, ◌||◌, ◌==◌, ◌∷◌, ap, refl, sym, ◌∙◌, Bool, true, false, List, [], Option, None, Some, ℕ, zero, suc, if◌then◌else◌, length, not}
 use Rattle.std.proofs.lemmas.Bool.{eqb-false, eqb-true}
 use Rattle.std.specs.Option.{option_map, option_map_or}
@@ -7,7 +7,7 @@ use Rattle.attempt_ledger.specs.declared.ledger.LinkSeen.{LinkSeen}
 use Rattle.attempt_ledger.specs.declared.news.EndNews.{EndNews}
 use Rattle.attempt_ledger.specs.declared.news.News.{News}
 use Rattle.attempt_ledger.specs.declared.news.News.TheVariants as news
-use Rattle.call_core.specs.Steps.{Stepped, heard_news}
+use Rattle.call_core.specs.Steps.{Stepped, received_news}
 use Rattle.call_core.specs.declared.act.CallAct.{CallAct}
 use Rattle.call_core.specs.declared.act.CallAct.TheVariants as act
 use Rattle.channel_core.proofs.BookLaws.{number_changed, number_other}
@@ -15,7 +15,7 @@ use Rattle.channel_core.proofs.Resting.{changed_length}
 use Rattle.channel_core.specs.Arrivals.{ended_on}
 use Rattle.channel_core.specs.Books.{BookActs, book_acted, book_asked, call_of, has_drawn, has_ended, link_of, row_at}
 use Rattle.channel_core.specs.States.{StateSeen}
-use Rattle.channel_core.specs.Steps.{act_done, acts_done, call_asked, cut, cut_on, drawn_if, has_outstanding, is_gone, is_of_shut_sub, left_behind, links_sealed, next_word, reset_on, resets_taken, sealed, sealed_one, stamped_gone, timers_moved, told, told_to, with_book, with_ledger_links}
+use Rattle.channel_core.specs.Steps.{act_done, acts_done, call_asked, cut, cut_on, drawn_if, has_outstanding, is_gone, is_of_shut_sub, left_after, links_sealed, next_word, reset_on, resets_taken, sealed, sealed_one, stamped_gone, timers_moved, reported, reported_to, with_book, with_ledger_links}
 use Rattle.channel_core.specs.Tables.{is_dead, is_dead_at, is_retiring, is_retiring_at, numbered, reset_link, sealed_link, with_link}
 use Rattle.channel_core.specs.declared.state.links.LinkSlot.{LinkSlot}
 use Rattle.frame_cases.specs.PieceWalks.Points.{coming, with_rest}
@@ -111,17 +111,17 @@ module _ (link : ℕ) (f : LinkSlot → LinkSlot) (seals : (q : LinkSlot) → wi
     pub asked_so : (g : Stepped → Stepped) (n : ℕ) (s : StateSeen) → call_asked g n (more s) ≡ more (call_asked g n s)
     asked_so g n s = book_so (book_asked g n s.book) n s
 
-    told_to_so : (n row : ℕ) (what : News) (s : StateSeen) → told_to n row what (more s) ≡ more (told_to n row what s)
-    told_to_so n row what s =
-        let b : BookActs = book_acted (heard_news row what s.book.moment (next_word s)) n s.book in book_so b n (drawn_if (has_drawn (row_at b.book row)) s)
+    reported_to_so : (n row : ℕ) (what : News) (s : StateSeen) → reported_to n row what (more s) ≡ more (reported_to n row what s)
+    reported_to_so n row what s =
+        let b : BookActs = book_acted (received_news row what s.book.moment (next_word s)) n s.book in book_so b n (drawn_if (has_drawn (row_at b.book row)) s)
 
-    pub told_so : (row : ℕ) (what : News) (s : StateSeen) → told row what (more s) ≡ more (told row what s)
-    told_so row what s = told_to_so (call_of (row_at s.book row)) row what s
+    pub reported_so : (row : ℕ) (what : News) (s : StateSeen) → reported row what (more s) ≡ more (reported row what s)
+    reported_so row what s = reported_to_so (call_of (row_at s.book row)) row what s
 
-    ended_by : (k row : ℕ) (end : EndNews) (s : StateSeen) (b : Bool) → (if b then more s else stamped_gone k (told row (news.Ended row end) (left_behind k row (more s))))
-        ≡ more (if b then s else stamped_gone k (told row (news.Ended row end) (left_behind k row s)))
+    ended_by : (k row : ℕ) (end : EndNews) (s : StateSeen) (b : Bool) → (if b then more s else stamped_gone k (reported row (news.Ended row end) (left_after k row (more s))))
+        ≡ more (if b then s else stamped_gone k (reported row (news.Ended row end) (left_after k row s)))
     ended_by k row end s true = refl
-    ended_by k row end s false = ap (stamped_gone k) (told_so row (news.Ended row end) (left_behind k row s)) ∙ stamped_so k (told row (news.Ended row end) (left_behind k row s))
+    ended_by k row end s false = ap (stamped_gone k) (reported_so row (news.Ended row end) (left_after k row s)) ∙ stamped_so k (reported row (news.Ended row end) (left_after k row s))
 
     pub ended_so : (k row : ℕ) (end : EndNews) (s : StateSeen) → ended_on k row end (more s) ≡ more (ended_on k row end s)
     ended_so k row end s = ended_by k row end s (has_ended (row_at s.book row))
@@ -137,8 +137,8 @@ module _ (link : ℕ) (piece : List ℕ) where
   pub coming_asked : (g : Stepped → Stepped) (n : ℕ) (s : StateSeen) → call_asked g n (coming link piece s) ≡ coming link piece (call_asked g n s)
   coming_asked g n s = asked_so link (with_rest piece) (λ q. refl) (λ q. refl) (λ q. refl) (λ row q. refl) g n s
 
-  pub coming_told : (row : ℕ) (what : News) (s : StateSeen) → told row what (coming link piece s) ≡ coming link piece (told row what s)
-  coming_told row what s = told_so link (with_rest piece) (λ q. refl) (λ q. refl) (λ q. refl) (λ row_ q. refl) row what s
+  pub coming_reported : (row : ℕ) (what : News) (s : StateSeen) → reported row what (coming link piece s) ≡ coming link piece (reported row what s)
+  coming_reported row what s = reported_so link (with_rest piece) (λ q. refl) (λ q. refl) (λ q. refl) (λ row_ q. refl) row what s
 
   pub coming_ended : (k row : ℕ) (end : EndNews) (s : StateSeen) → ended_on k row end (coming link piece s) ≡ coming link piece (ended_on k row end s)
   coming_ended k row end s = ended_so link (with_rest piece) (λ q. refl) (λ q. refl) (λ q. refl) (λ row_ q. refl) k row end s

@@ -1,13 +1,13 @@
--- The slot of a link that is being heard: what it keeps, what it is told, and what is left of it.
+-- The slot of a link that is being handled: what it keeps, what it is reported, and what is left of it.
 use Rattle.std.proofs.Common.{◌≡◌, ◌==◌, ◌||◌, ap, refl, sym, ◌∙◌, Bool, true, false, List, [], Option, None, Some, ℕ, if◌then◌else◌, is_some, length, not}
 use Rattle.std.proofs.lemmas.Bool.{eqb-false}
 use Rattle.std.specs.Option.{option_map}
 use Rattle.channel_core.proofs.BookLaws.{number_changed, number_other}
 use Rattle.channel_core.proofs.Resting.{changed_length}
-use Rattle.channel_core.specs.Arrivals.{frame_heard, heard, read_to}
+use Rattle.channel_core.specs.Arrivals.{frame_received, handled, read_to}
 use Rattle.channel_core.specs.States.{StateSeen}
 use Rattle.channel_core.specs.Steps.{links_sealed, resets_taken, sealed_one}
-use Rattle.channel_core.specs.Tables.{Heard, heard_at, heard_by, heard_in, heard_link, hears_at, sealed_in, sealed_link, with_link}
+use Rattle.channel_core.specs.Tables.{Received, received_at, received_by, received_in, received_link, receives_at, sealed_in, sealed_link, with_link}
 use Rattle.channel_core.specs.declared.state.links.LinkSlot.{LinkSlot}
 use Rattle.attempt_ledger.specs.declared.news.News.{News}
 use Rattle.frame_cases.specs.PassedBytes.Laws.{relinked}
@@ -29,80 +29,80 @@ pub slot_of : (link : ℕ) (piece : List ℕ) (x : StateSeen) (slot : LinkSlot) 
 slot_of link piece x slot got =
     slot_by link piece x slot (numbered x.links link) refl (sym (number_changed (with_rest piece) x.links link) ∙ got)
 
--- what it hears
-pub record IsHeardBy (link : ℕ) (piece : List ℕ) (x : StateSeen) (h : Heard) : Type 0 where
+-- what it receives
+pub record IsReceivedBy (link : ℕ) (piece : List ℕ) (x : StateSeen) (h : Received) : Type 0 where
   pub slot : LinkSlot
   pub there : numbered x.links link ≡ Some slot
-  pub hears : hears_at (Some slot) ≡ true
-  pub is : h ≡ heard_by slot link piece x.links
+  pub receives : receives_at (Some slot) ≡ true
+  pub is : h ≡ received_by slot link piece x.links
 
-heard_if : (link : ℕ) (piece : List ℕ) (x : StateSeen) (h : Heard) (slot : LinkSlot) (b : Bool) → numbered x.links link ≡ Some slot → hears_at (Some slot) ≡ b
-    → (if b then Some (heard_by slot link piece x.links) else None) ≡ Some h → IsHeardBy link piece x h
-heard_if link piece x h slot true there hears got =
-    record { slot = slot; there = there; hears = hears; is = (let same : Some (heard_by slot link piece x.links) ≡ Some h = got in let one : h ≡ heard_by slot link piece x.links = (cc) in one) }
-heard_if link piece x h slot false there hears got = let no : None ≡ Some h = got in absurd (cc)
+received_if : (link : ℕ) (piece : List ℕ) (x : StateSeen) (h : Received) (slot : LinkSlot) (b : Bool) → numbered x.links link ≡ Some slot → receives_at (Some slot) ≡ b
+    → (if b then Some (received_by slot link piece x.links) else None) ≡ Some h → IsReceivedBy link piece x h
+received_if link piece x h slot true there receives got =
+    record { slot = slot; there = there; receives = receives; is = (let same : Some (received_by slot link piece x.links) ≡ Some h = got in let one : h ≡ received_by slot link piece x.links = (cc) in one) }
+received_if link piece x h slot false there receives got = let no : None ≡ Some h = got in absurd (cc)
 
-heard_from : (link : ℕ) (piece : List ℕ) (x : StateSeen) (h : Heard) (o : Option LinkSlot) → numbered x.links link ≡ o → heard_at o link piece x.links ≡ Some h → IsHeardBy link piece x h
-heard_from link piece x h None there got = let no : None ≡ Some h = got in absurd (cc)
-heard_from link piece x h (Some slot) there got = heard_if link piece x h slot (hears_at (Some slot)) there refl got
+received_from : (link : ℕ) (piece : List ℕ) (x : StateSeen) (h : Received) (o : Option LinkSlot) → numbered x.links link ≡ o → received_at o link piece x.links ≡ Some h → IsReceivedBy link piece x h
+received_from link piece x h None there got = let no : None ≡ Some h = got in absurd (cc)
+received_from link piece x h (Some slot) there got = received_if link piece x h slot (receives_at (Some slot)) there refl got
 
-pub heard_of : (link : ℕ) (piece : List ℕ) (x : StateSeen) (h : Heard) → heard_in link piece x.links ≡ Some h → IsHeardBy link piece x h
-heard_of link piece x h got = heard_from link piece x h (numbered x.links link) refl got
+pub received_of : (link : ℕ) (piece : List ℕ) (x : StateSeen) (h : Received) → received_in link piece x.links ≡ Some h → IsReceivedBy link piece x h
+received_of link piece x h got = received_from link piece x h (numbered x.links link) refl got
 
--- a link that is not over hears
-hears_by : (dead : Bool) (broken : Option ℕ) → dead ≡ false → broken ≡ None → not (dead || is_some broken) ≡ true
-hears_by dead broken e f = ap (λ (b : Bool). not (b || is_some broken)) e ∙ ap (λ (o : Option ℕ). not (is_some o)) f
+-- a link that is not over receives
+receives_by : (dead : Bool) (broken : Option ℕ) → dead ≡ false → broken ≡ None → not (dead || is_some broken) ≡ true
+receives_by dead broken e f = ap (λ (b : Bool). not (b || is_some broken)) e ∙ ap (λ (o : Option ℕ). not (is_some o)) f
 
-pub hears_now : (link : ℕ) (piece : List ℕ) (x : StateSeen) (slot : LinkSlot) → numbered x.links link ≡ Some slot → slot.dead ≡ false → slot.link.link.wire.broken ≡ None
-    → heard_in link piece x.links ≡ Some (heard_by slot link piece x.links)
-hears_now link piece x slot there alive whole =
-    ap (λ (o : Option LinkSlot). heard_at o link piece x.links) there
-    ∙ ap (λ (b : Bool). if b then Some (heard_by slot link piece x.links) else None) (hears_by slot.dead slot.link.link.wire.broken alive whole)
+pub receives_now : (link : ℕ) (piece : List ℕ) (x : StateSeen) (slot : LinkSlot) → numbered x.links link ≡ Some slot → slot.dead ≡ false → slot.link.link.wire.broken ≡ None
+    → received_in link piece x.links ≡ Some (received_by slot link piece x.links)
+receives_now link piece x slot there alive whole =
+    ap (λ (o : Option LinkSlot). received_at o link piece x.links) there
+    ∙ ap (λ (b : Bool). if b then Some (received_by slot link piece x.links) else None) (receives_by slot.dead slot.link.link.wire.broken alive whole)
 
 -- one that is over does not
 deaf_by : (dead broken : Bool) → dead ≡ true → not (dead || broken) ≡ false
 deaf_by dead broken e = ap (λ (b : Bool). not (b || broken)) e
 
-pub hears_nothing : (link : ℕ) (piece : List ℕ) (x : StateSeen) (slot : LinkSlot) → numbered x.links link ≡ Some slot → slot.dead ≡ true → heard_in link piece x.links ≡ None
-hears_nothing link piece x slot there dead =
-    ap (λ (o : Option LinkSlot). heard_at o link piece x.links) there
-    ∙ ap (λ (b : Bool). if b then Some (heard_by slot link piece x.links) else None) (deaf_by slot.dead (is_some slot.link.link.wire.broken) dead)
+pub receives_nothing : (link : ℕ) (piece : List ℕ) (x : StateSeen) (slot : LinkSlot) → numbered x.links link ≡ Some slot → slot.dead ≡ true → received_in link piece x.links ≡ None
+receives_nothing link piece x slot there dead =
+    ap (λ (o : Option LinkSlot). received_at o link piece x.links) there
+    ∙ ap (λ (b : Bool). if b then Some (received_by slot link piece x.links) else None) (deaf_by slot.dead (is_some slot.link.link.wire.broken) dead)
 
 -- the channel where nothing is reported
-module _ (link : ℕ) (h : Heard) (x : StateSeen) (resets : x.resets ≡ []) (none : h.news ≡ []) where
+module _ (link : ℕ) (h : Received) (x : StateSeen) (resets : x.resets ≡ []) (none : h.news ≡ []) where
   abbrev slots : List LinkSlot
   slots = sealed_in link h.links
 
-  abbrev told : StateSeen
-  told = read_to link h.read (record x { links = h.links })
+  abbrev reported : StateSeen
+  reported = read_to link h.read (record x { links = h.links })
 
-  pub unreported : frame_heard link h x ≡ relinked slots (changed_at (read_link h.read) x.book.ledger.links link) x
+  pub unreported : frame_received link h x ≡ relinked slots (changed_at (read_link h.read) x.book.ledger.links link) x
   unreported =
-      ap (λ (ns : List News). heard link ns told) none
-      ∙ ap (λ (rs : List ℕ). links_sealed rs (resets_taken (sealed_one link told))) resets
+      ap (λ (ns : List News). handled link ns reported) none
+      ∙ ap (λ (rs : List ℕ). links_sealed rs (resets_taken (sealed_one link reported))) resets
 
 -- the slots then
 module _ (link : ℕ) (piece : List ℕ) (x : StateSeen) (slot : LinkSlot) (there : numbered x.links link ≡ Some slot) where
   abbrev after_links : List LinkSlot
-  after_links = sealed_in link (heard_by slot link piece x.links).links
+  after_links = sealed_in link (received_by slot link piece x.links).links
 
   abbrev pub after_slot : LinkSlot
-  after_slot = with_link sealed_link (with_link (heard_link piece) slot)
+  after_slot = with_link sealed_link (with_link (received_link piece) slot)
 
   pub own_slot : numbered after_links link ≡ Some after_slot
   own_slot =
-      number_changed (with_link sealed_link) (changed_at (with_link (heard_link piece)) x.links link) link
-      ∙ ap (option_map (with_link sealed_link)) (number_changed (with_link (heard_link piece)) x.links link ∙ ap (option_map (with_link (heard_link piece))) there)
+      number_changed (with_link sealed_link) (changed_at (with_link (received_link piece)) x.links link) link
+      ∙ ap (option_map (with_link sealed_link)) (number_changed (with_link (received_link piece)) x.links link ∙ ap (option_map (with_link (received_link piece))) there)
 
   pub other_slots : (k : ℕ) → (link == k) ≡ false → numbered after_links k ≡ numbered x.links k
   other_slots k e =
-      number_other (with_link sealed_link) (changed_at (with_link (heard_link piece)) x.links link) link k (λ same. eqb-false link k e (sym same))
-      ∙ number_other (with_link (heard_link piece)) x.links link k (λ same. eqb-false link k e (sym same))
+      number_other (with_link sealed_link) (changed_at (with_link (received_link piece)) x.links link) link k (λ same. eqb-false link k e (sym same))
+      ∙ number_other (with_link (received_link piece)) x.links link k (λ same. eqb-false link k e (sym same))
 
   pub slot_count : length after_links ≡ length x.links
   slot_count =
-      changed_length (with_link sealed_link) (changed_at (with_link (heard_link piece)) x.links link) link
-      ∙ changed_length (with_link (heard_link piece)) x.links link
+      changed_length (with_link sealed_link) (changed_at (with_link (received_link piece)) x.links link) link
+      ∙ changed_length (with_link (received_link piece)) x.links link
 
 -- the others as they are without the piece
 pub others_coming : (link : ℕ) (piece : List ℕ) (x : StateSeen) (k : ℕ) → (link == k) ≡ false → numbered (coming link piece x).links k ≡ numbered x.links k

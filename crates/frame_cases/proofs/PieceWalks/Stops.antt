@@ -2,14 +2,14 @@
 use Rattle.std.proofs.Common.{◌≡◌, ◌++◌, ◌==◌, ap, refl, subst, sym, ◌∙◌, true, false, List, [], Option, None, Some, ℕ, is_some, length, ◌≤◌}
 use Rattle.std.proofs.Math.Nat.{min-eq_left}
 use Rattle.std.proofs.lemmas.List.{append-nil}
-use Rattle.channel_actions.proofs.Links.Frames.Tellings.{untold}
+use Rattle.channel_actions.proofs.Links.Frames.Distinguishing.{untold}
 use Rattle.channel_actions.specs.Agrees.{Agrees}
 use Rattle.channel_actions.specs.Links.{HasLink, IsGoing, SeesLinkOf}
 use Rattle.attempt_cases.proofs.DrainEvents.Rooms.{one_some}
 use Rattle.channel_core.proofs.Resting.{changed_length}
-use Rattle.channel_core.specs.Arrivals.{frame_heard}
+use Rattle.channel_core.specs.Arrivals.{frame_received}
 use Rattle.channel_core.specs.States.{StateSeen}
-use Rattle.channel_core.specs.Tables.{Heard, heard_by, sealed_in, sealed_link}
+use Rattle.channel_core.specs.Tables.{Received, received_by, sealed_in, sealed_link}
 use Rattle.channel_core.specs.declared.state.links.LinkSlot.{LinkSlot}
 use Rattle.attempt_ledger.specs.declared.ledger.LinkSeen.{LinkSeen}
 use Rattle.frame_cases.proofs.PassedBytes.Agreeing.{passed_bytes_keep}
@@ -17,9 +17,9 @@ use Rattle.frame_cases.proofs.PassedBytes.Noted.{reread}
 use Rattle.frame_cases.proofs.PieceWalks.Slots.{IsSlot, after_slot, other_slots, others_coming, own_slot, slot_count, slot_of, unreported}
 use Rattle.frame_cases.specs.PassedBytes.Laws.{IsPassed, relinked}
 use Rattle.frame_cases.specs.PieceWalks.Points.{coming, with_rest}
-use Rattle.grpc_link.specs.Links.{told_all}
-use Rattle.h2_link.specs.Heard.{front_of, heard_with}
-use Rattle.h2_link.specs.Wire.{Told, Wire}
+use Rattle.grpc_link.specs.Links.{reported_all}
+use Rattle.h2_link.specs.Received.{prefix_of, received_with}
+use Rattle.h2_link.specs.Wire.{Report, Wire}
 use Rattle.ledger_stamps.specs.Steps.{changed_at, read_link}
 use Rattle.session_actions.specs.Links.{read_bytes}
 use Rattle.session_actions.specs.Words.{numbered}
@@ -28,9 +28,9 @@ use Rattle.session_actions.specs.declared.link.Link.{Link}
 use Rattle.session_actions.specs.declared.seen.Seen.{Seen}
 
 -- the slot by what the bytes show
-abbrev part_by : LinkSlot → List ℕ → Option (ℕ × Told) → LinkSlot
+abbrev part_by : LinkSlot → List ℕ → Option (ℕ × Report) → LinkSlot
 part_by old piece f = record old {
-  link = sealed_link (told_all (record { link = (heard_with old.link.link piece f).link; readers = old.link.readers }) (heard_with old.link.link piece f).news).link;
+  link = sealed_link (reported_all (record { link = (received_with old.link.link piece f).link; readers = old.link.readers }) (received_with old.link.link piece f).news).link;
 }
 
 -- the channel with other links than it would have were the piece kept, and the session as it is
@@ -103,18 +103,18 @@ module _ (link : ℕ) (piece : List ℕ) (x : StateSeen) (o : OpenEntry) (s : Se
     agrees_done e = agrees_as_is (λ none. going_old e (sees_old.going none))
 
     -- what is left is less than a frame, and is kept
-    module _ (unbroken : l.over ≡ None) (few : read_bytes l ≤ 18446744073709551615) (nothing : front_of old.link.link.wire (old.link.link.rest ++ piece) ≡ None) where
+    module _ (unbroken : l.over ≡ None) (few : read_bytes l ≤ 18446744073709551615) (nothing : prefix_of old.link.link.wire (old.link.link.rest ++ piece) ≡ None) where
       going : IsGoing l s (with_rest piece old)
       going = sees_old.going unbroken
 
-      abbrev pub heard_part : Heard
-      heard_part = heard_by old link piece x.links
+      abbrev pub received_part : Received
+      received_part = received_by old link piece x.links
 
       abbrev w : Wire
       w = old.link.link.wire
 
       abbrev y : StateSeen
-      y = frame_heard link heard_part x
+      y = frame_received link received_part x
 
       abbrev kept_part : LinkSlot
       kept_part = after_slot link piece x old kept_slot.there
@@ -130,21 +130,21 @@ module _ (link : ℕ) (piece : List ℕ) (x : StateSeen) (o : OpenEntry) (s : Se
             };
           }) (sym going.closed)
 
-      none_told : heard_part.news ≡ []
-      none_told = ap (λ (f : Option (ℕ × Told)). (told_all (record { link = (heard_with old.link.link piece f).link; readers = old.link.readers }) (heard_with old.link.link piece f).news).news) nothing
+      none_reported : received_part.news ≡ []
+      none_reported = ap (λ (f : Option (ℕ × Report)). (reported_all (record { link = (received_with old.link.link piece f).link; readers = old.link.readers }) (received_with old.link.link piece f).news).news) nothing
 
-      read_same : heard_part.read ≡ read_bytes l
+      read_same : received_part.read ≡ read_bytes l
       read_same =
-          ap (λ (f : Option (ℕ × Told)). (heard_with old.link.link piece f).link.wire.read) nothing ∙ going.streams.sees.sees.reads.read
+          ap (λ (f : Option (ℕ × Report)). (received_with old.link.link piece f).link.wire.read) nothing ∙ going.streams.sees.sees.reads.read
           ∙ min-eq_left few
 
-      columns_same : changed_at (read_link heard_part.read) x.book.ledger.links link ≡ x.book.ledger.links
-      columns_same = reread link heard_part.read s x.book.ledger.links l here h.columns.links read_same
+      columns_same : changed_at (read_link received_part.read) x.book.ledger.links link ≡ x.book.ledger.links
+      columns_same = reread link received_part.read s x.book.ledger.links l here h.columns.links read_same
 
-      y_is : y ≡ relinked (sealed_in link heard_part.links) x.book.ledger.links x
-      y_is = unreported link heard_part x h.sets.resets none_told ∙ ap (λ (ks : List LinkSeen). relinked (sealed_in link heard_part.links) ks x) columns_same
+      y_is : y ≡ relinked (sealed_in link received_part.links) x.book.ledger.links x
+      y_is = unreported link received_part x h.sets.resets none_reported ∙ ap (λ (ks : List LinkSeen). relinked (sealed_in link received_part.links) ks x) columns_same
 
-      links_y : y.links ≡ sealed_in link heard_part.links
+      links_y : y.links ≡ sealed_in link received_part.links
       links_y = ap (λ (z : StateSeen). z.links) y_is
 
       has_part : HasLink y s l link

@@ -5,27 +5,27 @@ use Rattle.std.proofs.lemmas.List.{append-nil, length-append}
 use Rattle.std.specs.Option.{option_and_then}
 use Rattle.channel_actions.proofs.Does.{does_on, none_on}
 use Rattle.channel_actions.specs.Agrees.{Agrees}
-use Rattle.channel_actions.specs.Calm.{IsAt}
+use Rattle.channel_actions.specs.Quiescent.{IsAt}
 use Rattle.channel_actions.specs.Known.{IsKnown}
 use Rattle.channel_actions.specs.Links.{HasLink, IsGoing, SeesLinkOf}
 use Rattle.channel_actions.specs.Points.{IsSameEntry}
 use Rattle.attempt_cases.proofs.DrainEvents.Rooms.{one_some}
-use Rattle.channel_core.specs.Arrivals.{frame_heard, frames_after, frames_from}
+use Rattle.channel_core.specs.Arrivals.{frame_received, frames_after, frames_from}
 use Rattle.channel_core.specs.States.{StateSeen}
-use Rattle.channel_core.specs.Tables.{Heard, heard_by, heard_in}
+use Rattle.channel_core.specs.Tables.{Received, received_by, received_in}
 use Rattle.channel_core.specs.declared.state.links.LinkSlot.{LinkSlot}
-use Rattle.frame_cases.proofs.PieceWalks.Slots.{IsSlot, hears_nothing, hears_now, slot_of}
+use Rattle.frame_cases.proofs.PieceWalks.Slots.{IsSlot, receives_nothing, receives_now, slot_of}
 use Rattle.frame_cases.proofs.PieceWalks.Stops.{agrees_done, agrees_over, agrees_part, kept_slot, old, sees_old}
-use Rattle.frame_cases.specs.PieceWalks.Laws.{BreaksAreHeard, FramesAreHeard, KnownAlongFrames}
-use Rattle.frame_cases.specs.PieceWalks.Points.{HasHeard, IsHearing, coming, with_rest}
+use Rattle.frame_cases.specs.PieceWalks.Laws.{BreaksAreReceived, FramesAreReceived, KnownAlongFrames}
+use Rattle.frame_cases.specs.PieceWalks.Points.{HasReceived, IsReceiving, coming, with_rest}
 use Rattle.grpc_base.specs.declared.event.Event.{Event}
 use Rattle.grpc_base.specs.declared.event.Event.TheVariants as event
 use Rattle.grpc_base.specs.declared.event.Reply.{Reply}
 use Rattle.grpc_base.specs.declared.event.Reply.TheVariants as reply
 use Rattle.h2_frame.specs.Readings.{Partial, Reading, reading_of}
-use Rattle.h2_link.proofs.Fronts.{behind}
-use Rattle.h2_link.specs.Heard.{front_of, heard_with}
-use Rattle.h2_link.specs.Wire.{Told, Wire}
+use Rattle.h2_link.proofs.Prefixes.{afterwards}
+use Rattle.h2_link.specs.Received.{prefix_of, received_with}
+use Rattle.h2_link.specs.Wire.{Report, Wire}
 use Rattle.link_actions.proofs.Reading.{reads_are_same}
 use Rattle.link_actions.specs.Laws.{IsSameRead}
 use Rattle.session_actions.specs.CallEnds.{is_refusal, is_replied}
@@ -83,19 +83,19 @@ none_over None a e = absurd (cc)
 none_over (Some why) a e = refl
 
 -- what the link sees of it
-none_there : (l : Link) (s : Seen) (w : Wire) (f : Option (ℕ × Told)) → IsSameRead l s w nextread.Nothing f → f ≡ None
+none_there : (l : Link) (s : Seen) (w : Wire) (f : Option (ℕ × Report)) → IsSameRead l s w nextread.Nothing f → f ≡ None
 none_there l s w None same = refl
 none_there l s w (Some v) same = absurd same
 
-pub record IsShown (f : Option (ℕ × Told)) : Type 0 where
-  pub shown : ℕ × Told
+pub record IsShown (f : Option (ℕ × Report)) : Type 0 where
+  pub shown : ℕ × Report
   pub is : f ≡ Some shown
 
-pub frame_there : (l : Link) (s : Seen) (w : Wire) (r : ReadFrame) (f : Option (ℕ × Told)) → IsSameRead l s w (nextread.Frame r) f → IsShown f
+pub frame_there : (l : Link) (s : Seen) (w : Wire) (r : ReadFrame) (f : Option (ℕ × Report)) → IsSameRead l s w (nextread.Frame r) f → IsShown f
 frame_there l s w r None same = absurd same
 frame_there l s w r (Some v) same = record { shown = v; is = refl }
 
-pub fault_there : (l : Link) (s : Seen) (w : Wire) (code : ℕ) (f : Option (ℕ × Told)) → IsSameRead l s w (nextread.Broken code) f → IsShown f
+pub fault_there : (l : Link) (s : Seen) (w : Wire) (code : ℕ) (f : Option (ℕ × Report)) → IsSameRead l s w (nextread.Broken code) f → IsShown f
 fault_there l s w code None same = absurd same
 fault_there l s w code (Some v) same = record { shown = v; is = refl }
 
@@ -128,7 +128,7 @@ stands y o s at fresh agrees none = record {
   none = none;
 }
 
-goes_further : (link : ℕ) (piece : List ℕ) (y z : StateSeen) (o : OpenEntry) (s : Seen) → (has : HasHeard link piece y o s) → Walked z has.entry has.seen → Walked z o s
+goes_further : (link : ℕ) (piece : List ℕ) (y z : StateSeen) (o : OpenEntry) (s : Seen) → (has : HasReceived link piece y o s) → Walked z has.entry has.seen → Walked z o s
 goes_further link piece y z o s has rest = record {
   actions = has.actions ++ rest.actions;
   seen = rest.seen;
@@ -150,9 +150,9 @@ goes_further link piece y z o s has rest = record {
 }
 
 -- the point after a frame
-after_heard : (link : ℕ) (piece start : List ℕ) (x y : StateSeen) (o : OpenEntry) (s : Seen) → IsHearing link start x o s → (has : HasHeard link piece y o s) → IsKnown y has.seen
-    → IsHearing link piece y has.entry has.seen
-after_heard link piece start x y o s is has known = record {
+after_received : (link : ℕ) (piece start : List ℕ) (x y : StateSeen) (o : OpenEntry) (s : Seen) → IsReceiving link start x o s → (has : HasReceived link piece y o s) → IsKnown y has.seen
+    → IsReceiving link piece y has.entry has.seen
+after_received link piece start x y o s is has known = record {
   at = has.at;
   whole = is.whole;
   event_is = has.same.event ∙ is.event_is;
@@ -177,9 +177,9 @@ after_heard link piece start x y o s is has known = record {
 few_by : (n : ℕ) → n < 7696581394432 → n < 18446744073709551615
 few_by n e = omega (arith, e)
 
-module _ (frames : FramesAreHeard) (breaks : BreaksAreHeard) (knows : KnownAlongFrames) (few : AttemptsAreFew) (link : ℕ) where
+module _ (frames : FramesAreReceived) (breaks : BreaksAreReceived) (knows : KnownAlongFrames) (few : AttemptsAreFew) (link : ℕ) where
   -- the piece is at its end
-  ends_by : (x : StateSeen) (o : OpenEntry) (s : Seen) → (is : IsHearing link [] x o s) → (over : Option LinkOver) → is.l.over ≡ over → Walked x o s
+  ends_by : (x : StateSeen) (o : OpenEntry) (s : Seen) → (is : IsReceiving link [] x o s) → (over : Option LinkOver) → is.l.over ≡ over → Walked x o s
   ends_by x o s is None e =
       let going : IsGoing is.l s (with_rest [] (old link [] x o s is.agrees is.at.current is.l is.here))
       = (sees_old link [] x o s is.agrees is.at.current is.l is.here).going e in
@@ -195,8 +195,8 @@ module _ (frames : FramesAreHeard) (breaks : BreaksAreHeard) (knows : KnownAlong
       (same_event o s link is.whole is.at is.reply is.event_is ∙ read_at s link is.l is.here ∙ none_over is.l.over (read_action link (next_read is.l s)) over)
 
   -- a piece that is not
-  module _ (b : ℕ) (piece : List ℕ) (rec : (skip : ℕ) (x : StateSeen) (o : OpenEntry) (s : Seen) → IsHearing link (drop skip piece) x o s → Walked (frames_after link piece skip x) o s)
-      (x : StateSeen) (o : OpenEntry) (s : Seen) (is : IsHearing link (b ∷ piece) x o s) where
+  module _ (b : ℕ) (piece : List ℕ) (rec : (skip : ℕ) (x : StateSeen) (o : OpenEntry) (s : Seen) → IsReceiving link (drop skip piece) x o s → Walked (frames_after link piece skip x) o s)
+      (x : StateSeen) (o : OpenEntry) (s : Seen) (is : IsReceiving link (b ∷ piece) x o s) where
     abbrev bytes : List ℕ
     bytes = b ∷ piece
 
@@ -213,7 +213,7 @@ module _ (frames : FramesAreHeard) (breaks : BreaksAreHeard) (knows : KnownAlong
     sees = sees_old link bytes x o s is.agrees is.at.current l is.here
 
     abbrev goal : StateSeen
-    goal = frames_from (frames_after link piece) link (heard_in link bytes x.links) x
+    goal = frames_from (frames_after link piece) link (received_in link bytes x.links) x
 
     few_here : length s.attempts < 18446744073709551615
     few_here = few_by (length s.attempts) (few x s is.known)
@@ -224,8 +224,8 @@ module _ (frames : FramesAreHeard) (breaks : BreaksAreHeard) (knows : KnownAlong
     -- the link is over
     deaf : is_some l.over ≡ true → Walked goal o s
     deaf over =
-        let none : heard_in link bytes x.links ≡ None = hears_nothing link bytes x slot kept.there (sym sees.over ∙ over) in
-        subst (λ (q : Option Heard). Walked (frames_from (frames_after link piece) link q x) o s) (sym none)
+        let none : received_in link bytes x.links ≡ None = receives_nothing link bytes x slot kept.there (sym sees.over ∙ over) in
+        subst (λ (q : Option Received). Walked (frames_from (frames_after link piece) link q x) o s) (sym none)
         (stands x o s is.at is.fresh (agrees_over link bytes x o s is.agrees is.at.current l is.here over) (read_now ∙ none_over l.over (read_action link (next_read l s)) over))
 
     -- it is not
@@ -236,16 +236,16 @@ module _ (frames : FramesAreHeard) (breaks : BreaksAreHeard) (knows : KnownAlong
       abbrev w : Wire
       w = slot.link.link.wire
 
-      abbrev h : Heard
-      h = heard_by slot link bytes x.links
+      abbrev h : Received
+      h = received_by slot link bytes x.links
 
-      hears : heard_in link bytes x.links ≡ Some h
-      hears = hears_now link bytes x slot kept.there (sym sees.over ∙ ap (λ (q : Option LinkOver). is_some q) unbroken) going.streams.sees.sees.reads.whole
+      receives : received_in link bytes x.links ≡ Some h
+      receives = receives_now link bytes x slot kept.there (sym sees.over ∙ ap (λ (q : Option LinkOver). is_some q) unbroken) going.streams.sees.sees.reads.whole
 
-      abbrev front : Option (ℕ × Told)
-      front = front_of w (slot.link.link.rest ++ bytes)
+      abbrev prefix : Option (ℕ × Report)
+      prefix = prefix_of w (slot.link.link.rest ++ bytes)
 
-      same_read : IsSameRead l s w (next_read l s) front
+      same_read : IsSameRead l s w (next_read l s) prefix
       same_read = reads_are_same l s w (slot.link.link.rest ++ bytes) going.streams.sees.sees going.rest
 
       next_now : (n : NextRead) → next_read l s ≡ n → next_frame_read link s ≡ read_action link n
@@ -255,51 +255,51 @@ module _ (frames : FramesAreHeard) (breaks : BreaksAreHeard) (knows : KnownAlong
       -- less than a frame is left
       stops : next_read l s ≡ nextread.Nothing → Walked goal o s
       stops e =
-          let none : front ≡ None = none_there l s w front (subst (λ (n : NextRead). IsSameRead l s w n front) e same_read) in
+          let none : prefix ≡ None = none_there l s w prefix (subst (λ (n : NextRead). IsSameRead l s w n prefix) e same_read) in
           let few : read_bytes l ≤ 18446744073709551615 = (let a = is.fair.within in let c = is.few in omega (arith, a, c)) in
-          let all : h.taken ≡ length bytes = ap (λ (f : Option (ℕ × Told)). (heard_with slot.link.link bytes f).taken) none in
+          let all : h.taken ≡ length bytes = ap (λ (f : Option (ℕ × Report)). (received_with slot.link.link bytes f).taken) none in
           let far : length piece ≤ h.taken - 1 = (let long : length bytes ≡ suc (length piece) = refl in omega (arith, all, long)) in
-          subst (λ (q : Option Heard). Walked (frames_from (frames_after link piece) link q x) o s) (sym hears)
-          (subst (λ (z : StateSeen). Walked z o s) (sym (past link piece (h.taken - 1) (frame_heard link h x) far))
-          (stands (frame_heard link h x) o s is.at is.fresh (agrees_part link bytes x o s is.agrees is.at.current l is.here unbroken few none)
+          subst (λ (q : Option Received). Walked (frames_from (frames_after link piece) link q x) o s) (sym receives)
+          (subst (λ (z : StateSeen). Walked z o s) (sym (past link piece (h.taken - 1) (frame_received link h x) far))
+          (stands (frame_received link h x) o s is.at is.fresh (agrees_part link bytes x o s is.agrees is.at.current l is.here unbroken few none)
           (same_event o s link is.whole is.at is.reply is.event_is ∙ next_now nextread.Nothing e)))
 
       -- a frame, or what breaks the link
-      goes_on : (a : Action) → next_frame_read link s ≡ Some a → HasHeard link (drop h.taken bytes) (frame_heard link h x) o s → IsShown front → Walked goal o s
+      goes_on : (a : Action) → next_frame_read link s ≡ Some a → HasReceived link (drop h.taken bytes) (frame_received link h x) o s → IsShown prefix → Walked goal o s
       goes_on a next has shown =
-          let more : length slot.link.link.rest < shown.shown.0 = behind w slot.link.link.rest bytes shown.shown (is.part slot kept.there unbroken) shown.is in
-          let taken : h.taken ≡ shown.shown.0 - length slot.link.link.rest = ap (λ (f : Option (ℕ × Told)). (heard_with slot.link.link bytes f).taken) shown.is in
+          let more : length slot.link.link.rest < shown.shown.0 = afterwards w slot.link.link.rest bytes shown.shown (is.part slot kept.there unbroken) shown.is in
+          let taken : h.taken ≡ shown.shown.0 - length slot.link.link.rest = ap (λ (f : Option (ℕ × Report)). (received_with slot.link.link bytes f).taken) shown.is in
           let some : 1 ≤ h.taken = omega (arith, more, taken) in
-          let known : IsKnown (frame_heard link h x) has.seen = knows link bytes x o s has.seen a h has.actions is next hears has.does has.posts has.same.entries in
-          let point : IsHearing link (drop h.taken bytes) (frame_heard link h x) has.entry has.seen
-          = after_heard link (drop h.taken bytes) bytes x (frame_heard link h x) o s is has known in
-          let left : IsHearing link (drop (h.taken - 1) piece) (frame_heard link h x) has.entry has.seen
-          = subst (λ (q : List ℕ). IsHearing link q (frame_heard link h x) has.entry has.seen) (drop_one h.taken b piece some) point in
-          subst (λ (q : Option Heard). Walked (frames_from (frames_after link piece) link q x) o s) (sym hears)
-          (goes_further link (drop h.taken bytes) (frame_heard link h x) (frames_after link piece (h.taken - 1) (frame_heard link h x)) o s has
-          (rec (h.taken - 1) (frame_heard link h x) has.entry has.seen left))
+          let known : IsKnown (frame_received link h x) has.seen = knows link bytes x o s has.seen a h has.actions is next receives has.does has.posts has.same.entries in
+          let point : IsReceiving link (drop h.taken bytes) (frame_received link h x) has.entry has.seen
+          = after_received link (drop h.taken bytes) bytes x (frame_received link h x) o s is has known in
+          let left : IsReceiving link (drop (h.taken - 1) piece) (frame_received link h x) has.entry has.seen
+          = subst (λ (q : List ℕ). IsReceiving link q (frame_received link h x) has.entry has.seen) (drop_one h.taken b piece some) point in
+          subst (λ (q : Option Received). Walked (frames_from (frames_after link piece) link q x) o s) (sym receives)
+          (goes_further link (drop h.taken bytes) (frame_received link h x) (frames_after link piece (h.taken - 1) (frame_received link h x)) o s has
+          (rec (h.taken - 1) (frame_received link h x) has.entry has.seen left))
 
-      by_next : (n : NextRead) → next_read l s ≡ n → IsSameRead l s w n front → Walked goal o s
+      by_next : (n : NextRead) → next_read l s ≡ n → IsSameRead l s w n prefix → Walked goal o s
       by_next nextread.Nothing e same = stops e
       by_next (nextread.Frame r) e same =
-          goes_on (action.FrameRead link r) (next_now (nextread.Frame r) e) (frames link bytes x o s (action.FrameRead link r) h is (next_now (nextread.Frame r) e) hears (r, refl))
-          (frame_there l s w r front same)
+          goes_on (action.FrameRead link r) (next_now (nextread.Frame r) e) (frames link bytes x o s (action.FrameRead link r) h is (next_now (nextread.Frame r) e) receives (r, refl))
+          (frame_there l s w r prefix same)
       by_next (nextread.Broken code) e same =
           goes_on (action.LinkBreaks link code) (next_now (nextread.Broken code) e)
-          (breaks link bytes x o s (action.LinkBreaks link code) h is (next_now (nextread.Broken code) e) hears (record { code = code; is = refl; few = few_here })) (fault_there l s w code front same)
+          (breaks link bytes x o s (action.LinkBreaks link code) h is (next_now (nextread.Broken code) e) receives (record { code = code; is = refl; few = few_here })) (fault_there l s w code prefix same)
 
-      hearing : Walked goal o s
-      hearing = by_next (next_read l s) refl same_read
+      receiving : Walked goal o s
+      receiving = by_next (next_read l s) refl same_read
 
     by_over : (over : Option LinkOver) → l.over ≡ over → Walked goal o s
-    by_over None e = hearing e
+    by_over None e = receiving e
     by_over (Some why) e = deaf (ap (λ (q : Option LinkOver). is_some q) e)
 
     step : Walked goal o s
     step = by_over l.over refl
 
-  pub walk : (piece : List ℕ) (skip : ℕ) (x : StateSeen) (o : OpenEntry) (s : Seen) → IsHearing link (drop skip piece) x o s → Walked (frames_after link piece skip x) o s
+  pub walk : (piece : List ℕ) (skip : ℕ) (x : StateSeen) (o : OpenEntry) (s : Seen) → IsReceiving link (drop skip piece) x o s → Walked (frames_after link piece skip x) o s
   walk [] skip x o s is =
-      let at_end : IsHearing link [] x o s = subst (λ (q : List ℕ). IsHearing link q x o s) (drop_none skip) is in ends_by x o s at_end at_end.l.over refl
+      let at_end : IsReceiving link [] x o s = subst (λ (q : List ℕ). IsReceiving link q x o s) (drop_none skip) is in ends_by x o s at_end at_end.l.over refl
   walk (b ∷ piece) zero x o s is = step b piece (walk piece) x o s is
   walk (b ∷ piece) (suc skip) x o s is = walk piece skip x o s is

@@ -39,7 +39,7 @@ use Rattle.session_actions.specs.declared.seen.Seen.{Seen}
 use Rattle.session_actions.specs.declared.subchannel.Subchannel.{Subchannel}
 use Rattle.session_order.proofs.Begun.{last_in}
 use Rattle.session_order.proofs.Lists.{any_in}
-use Rattle.session_order.specs.Calm.{IsStill, is_link_new, is_to_end}
+use Rattle.session_order.specs.Quiescent.{IsStill, is_link_new, is_to_end}
 use Rattle.session_order.specs.Stirs.{SawLess, stirs}
 use Rattle.session_order.specs.declared.line.Line.{Line}
 use Rattle.session_order.specs.declared.line.Line.TheVariants as line

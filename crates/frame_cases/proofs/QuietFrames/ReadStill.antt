@@ -15,44 +15,44 @@ use Rattle.channel_actions.proofs.Settles.{follows_by, is_with_open}
 use Rattle.channel_actions.proofs.Stamps.{counted_at}
 use Rattle.channel_actions.specs.Agrees.{Agrees}
 use Rattle.channel_actions.specs.Calls.{SeesCall}
-use Rattle.channel_actions.specs.Calm.{IsAt}
+use Rattle.channel_actions.specs.Quiescent.{IsAt}
 use Rattle.channel_actions.specs.Columns.{links_noted}
 use Rattle.channel_actions.specs.KeptSessions.Kept.{IsKept}
-use Rattle.channel_actions.specs.LinkFrames.Alike.{CannotTell}
+use Rattle.channel_actions.specs.LinkFrames.Alike.{CannotDistinguish}
 use Rattle.channel_actions.specs.Links.{HasLink, IsGoing, SeesLinkOf, lines_in}
 use Rattle.call_actions.specs.TakeActions.Serves.{came}
 use Rattle.attempt_cases.proofs.DrainEvents.Links.{own_lines, read_then}
 use Rattle.attempt_cases.proofs.DrainEvents.Rooms.{length_changed, one_some}
 use Rattle.channel_core.proofs.BookLaws.{number_changed, number_other}
 use Rattle.channel_core.proofs.Resting.{changed_length}
-use Rattle.channel_core.specs.Arrivals.{frame_heard}
+use Rattle.channel_core.specs.Arrivals.{frame_received}
 use Rattle.channel_core.specs.States.{StateSeen}
-use Rattle.channel_core.specs.Tables.{Heard, heard_by, heard_in, sealed_in}
+use Rattle.channel_core.specs.Tables.{Received, received_by, received_in, sealed_in}
 use Rattle.channel_core.specs.declared.state.links.LinkSlot.{LinkSlot}
 use Rattle.channel_core.specs.Books.{slot_at}
 use Rattle.channel_core.specs.declared.state.slots.CallSlot.{CallSlot}
-use Rattle.frame_cases.proofs.PassedBytes.Agreeing.{HasCame, IsToldOn, nothing_came, recalled, told_keeps}
+use Rattle.frame_cases.proofs.PassedBytes.Agreeing.{HasCame, IsReportedOn, nothing_came, recalled, reported_keeps}
 use Rattle.frame_cases.proofs.PassedBytes.Noted.{IsReadOn, noted_read}
 use Rattle.frame_cases.proofs.PassedBytes.Same.{drained_through}
-use Rattle.frame_cases.proofs.PieceWalks.Slots.{IsSlot, after_slot, hears_now, other_slots, others_coming, own_slot, slot_count, unreported}
+use Rattle.frame_cases.proofs.PieceWalks.Slots.{IsSlot, after_slot, receives_now, other_slots, others_coming, own_slot, slot_count, unreported}
 use Rattle.frame_cases.proofs.PieceWalks.Stops.{kept_slot, sees_old}
 use Rattle.frame_cases.proofs.PieceWalks.Walk.{same_event}
 use Rattle.frame_cases.proofs.QuietFrames.Lines as lines
 use Rattle.frame_cases.proofs.QuietFrames.Read.{listed_more, HasCome, IsReading, ShowsFrame, has_come, reads_so, shows_frame}
 use Rattle.frame_cases.specs.PassedBytes.Laws.{relinked}
-use Rattle.frame_cases.specs.PieceWalks.Points.{IsHearing, IsReadFairly, coming, with_rest}
+use Rattle.frame_cases.specs.PieceWalks.Points.{IsReceiving, IsReadFairly, coming, with_rest}
 use Rattle.frame_cases.specs.QuietFrames.Laws.{HasNothingNew, IsReadStill}
 use Rattle.grpc_link.specs.Links as grpc
-use Rattle.grpc_link.specs.Links.{GrpcSeen, found, told_all, told_of}
+use Rattle.grpc_link.specs.Links.{GrpcSeen, found, reported_all, reported_of}
 use Rattle.grpc_link.specs.Readers.{ReaderSeen, stepped}
-use Rattle.grpc_link.specs.Links.{Told as Reported}
+use Rattle.grpc_link.specs.Links.{Report as Reported}
 use Rattle.h2_frame.specs.Frames.{FrameSeen}
-use Rattle.h2_link.proofs.Fronts.{behind}
-use Rattle.h2_link.specs.Heard.{front_as, front_of, heard_with}
+use Rattle.h2_link.proofs.Prefixes.{afterwards}
+use Rattle.h2_link.specs.Received.{prefix_as, prefix_of, received_with}
 use Rattle.h2_link.specs.declared.news.LinkNews.{LinkNews}
 use Rattle.h2_link.specs.declared.news.LinkNews.TheVariants as report
-use Rattle.h2_link.specs.Steps.{sealed_wire, told}
-use Rattle.h2_link.specs.Wire.{Told, Wire}
+use Rattle.h2_link.specs.Steps.{sealed_wire, reported}
+use Rattle.h2_link.specs.Wire.{Report, Wire}
 use Rattle.ledger_stamps.specs.Steps.{changed_at, read_link}
 use Rattle.link_actions.proofs.History.{bytes_more, used_same}
 use Rattle.link_actions.proofs.Lists.{on_if}
@@ -60,7 +60,7 @@ use Rattle.link_actions.proofs.Reading.{reads_are_same}
 use Rattle.link_actions.specs.Laws.{IsSameRead}
 use Rattle.link_actions.specs.ResponseActions.Readers as responses
 use Rattle.link_actions.proofs.ResetActions.Cuts.{none_is_ahead, none_is_left, seals_keep}
-use Rattle.link_actions.specs.ResponseActions.Laws.{reported}
+use Rattle.link_actions.specs.ResponseActions.Laws.{frame_reported}
 use Rattle.link_actions.specs.StreamActions.Laws.{IsOn}
 use Rattle.link_actions.specs.StreamActions.Sees.{SeesStreams, response_of}
 use Rattle.session_actions.specs.Actions.{after, after_if, following, following_in, of_calls, of_links, of_policies, of_stage}
@@ -89,14 +89,14 @@ frame_follows o s a at next =
     let staged : of_stage o s o.stage ≡ Some a
     = ap (of_stage o s) at.stage_is ∙ ap (λ (f : Option Action). option_or f (Some action.SettlingBegins)) next in
     ap (option_and_then (following_in s)) at.current
-    ∙ follows_by (of_calls o s) (of_links o s) (of_policies o s) (of_stage o s o.stage) a at.calm.calls at.calm.links at.calm.policies staged
+    ∙ follows_by (of_calls o s) (of_links o s) (of_policies o s) (of_stage o s o.stage) a at.quiescent.calls at.quiescent.links at.quiescent.policies staged
 
 -- what a link reports leaves what it keeps of a frame
-rest_by : (g : GrpcSeen) (tag : ℕ) (n : LinkNews) (o : Option (ℕ × ReaderSeen)) → (told_of g tag n o).link.link.rest ≡ g.link.rest
+rest_by : (g : GrpcSeen) (tag : ℕ) (n : LinkNews) (o : Option (ℕ × ReaderSeen)) → (reported_of g tag n o).link.link.rest ≡ g.link.rest
 rest_by g tag n None = refl
 rest_by g tag n (Some x) = on_if (λ (t : Reported). t.link.link.rest ≡ g.link.rest) (stepped x.1 tag n).reader.over _ _ (λ e. refl) (λ e. refl)
 
-rest_one : (g : GrpcSeen) (n : LinkNews) → (grpc.told g n).link.link.rest ≡ g.link.rest
+rest_one : (g : GrpcSeen) (n : LinkNews) → (grpc.reported g n).link.link.rest ≡ g.link.rest
 rest_one g report.Ready = refl
 rest_one g report.Retiring = refl
 rest_one g (report.Broken code) = refl
@@ -106,12 +106,12 @@ rest_one g (report.Reset tag code seen) = rest_by g tag (report.Reset tag code s
 rest_one g (report.Fault tag code seen) = rest_by g tag (report.Fault tag code seen) (found tag g.readers)
 rest_one g (report.Unseen tag seen) = rest_by g tag (report.Unseen tag seen) (found tag g.readers)
 
-rest_all : (g : GrpcSeen) (ns : List LinkNews) → (told_all g ns).link.link.rest ≡ g.link.rest
+rest_all : (g : GrpcSeen) (ns : List LinkNews) → (reported_all g ns).link.link.rest ≡ g.link.rest
 rest_all g [] = refl
-rest_all g (n ∷ ns) = rest_all (grpc.told g n).link ns ∙ rest_one g n
+rest_all g (n ∷ ns) = rest_all (grpc.reported g n).link ns ∙ rest_one g n
 
-module _ (link : ℕ) (piece : List ℕ) (x : StateSeen) (o : OpenEntry) (s : Seen) (is : IsHearing link piece x o s) (h : Heard) (r : ReadFrame)
-    (next : next_frame_read link s ≡ Some (action.FrameRead link r)) (hears : heard_in link piece x.links ≡ Some h) where
+module _ (link : ℕ) (piece : List ℕ) (x : StateSeen) (o : OpenEntry) (s : Seen) (is : IsReceiving link piece x o s) (h : Received) (r : ReadFrame)
+    (next : next_frame_read link s ≡ Some (action.FrameRead link r)) (receives : received_in link piece x.links ≡ Some h) where
   abbrev pub l : Link
   l = is.l
 
@@ -146,13 +146,13 @@ module _ (link : ℕ) (piece : List ℕ) (x : StateSeen) (o : OpenEntry) (s : Se
   abbrev pub bytes : List ℕ
   bytes = slot.link.link.rest ++ piece
 
-  abbrev pub hb : Heard
-  hb = heard_by slot link piece x.links
+  abbrev pub hb : Received
+  hb = received_by slot link piece x.links
 
   pub h_is : h ≡ hb
   h_is =
-      one_some h hb (heard_in link piece x.links) hears
-      (hears_now link piece x slot kept.there (sym sees.over ∙ ap (λ (q : Option LinkOver). is_some q) shown.unbroken) going.streams.sees.sees.reads.whole)
+      one_some h hb (received_in link piece x.links) receives
+      (receives_now link piece x slot kept.there (sym sees.over ∙ ap (λ (q : Option LinkOver). is_some q) shown.unbroken) going.streams.sees.sees.reads.whole)
 
   -- the frame
   pub reading : IsReading l s r bytes
@@ -161,24 +161,24 @@ module _ (link : ℕ) (piece : List ℕ) (x : StateSeen) (o : OpenEntry) (s : Se
   pub come : HasCome l w r reading.size bytes
   come = has_come l s w (lines_in l s) r bytes going.streams reading
 
-  front : front_of w bytes ≡ Some (reading.size, told w r.frame)
-  front = ap (front_as w bytes) reading.is
+  prefix : prefix_of w bytes ≡ Some (reading.size, reported w r.frame)
+  prefix = ap (prefix_as w bytes) reading.is
 
   longer : length slot.link.link.rest < reading.size
-  longer = behind w slot.link.link.rest piece (reading.size, told w r.frame) (is.part slot kept.there shown.unbroken) front
+  longer = afterwards w slot.link.link.rest piece (reading.size, reported w r.frame) (is.part slot kept.there shown.unbroken) prefix
 
   abbrev pub out : Reported
-  out = reported w slot.link.readers r.frame
+  out = frame_reported w slot.link.readers r.frame
 
   taken : hb.taken ≡ reading.size - length slot.link.link.rest
-  taken = ap (λ (f : Option (ℕ × Told)). (heard_with slot.link.link piece f).taken) front
+  taken = ap (λ (f : Option (ℕ × Report)). (received_with slot.link.link piece f).taken) prefix
 
-  read_is : hb.read ≡ (told w r.frame).wire.read
-  read_is = ap (λ (f : Option (ℕ × Told)). (heard_with slot.link.link piece f).link.wire.read) front
+  read_is : hb.read ≡ (reported w r.frame).wire.read
+  read_is = ap (λ (f : Option (ℕ × Report)). (received_with slot.link.link piece f).link.wire.read) prefix
 
-  pub told_is : told_all (record { link = (heard_with slot.link.link piece (front_of w bytes)).link; readers = slot.link.readers }) (heard_with slot.link.link piece (front_of w bytes)).news ≡ out
-  told_is =
-      ap (λ (f : Option (ℕ × Told)). told_all (record { link = (heard_with slot.link.link piece f).link; readers = slot.link.readers }) (heard_with slot.link.link piece f).news) front
+  pub reported_is : reported_all (record { link = (received_with slot.link.link piece (prefix_of w bytes)).link; readers = slot.link.readers }) (received_with slot.link.link piece (prefix_of w bytes)).news ≡ out
+  reported_is =
+      ap (λ (f : Option (ℕ × Report)). reported_all (record { link = (received_with slot.link.link piece f).link; readers = slot.link.readers }) (received_with slot.link.link piece f).news) prefix
 
   -- the session after it
   abbrev pub frames : List FrameSeen
@@ -232,17 +232,17 @@ module _ (link : ℕ) (piece : List ℕ) (x : StateSeen) (o : OpenEntry) (s : Se
   abbrev pub y : StateSeen
   y = relinked slots columns x
 
-  pub unreported_is : h.news ≡ [] → frame_heard link h x ≡ y
-  unreported_is none = unreported link h x h0.sets.resets none ∙ ap (λ (k : Heard). relinked (sealed_in link k.links) columns x) h_is
+  pub unreported_is : h.news ≡ [] → frame_received link h x ≡ y
+  unreported_is none = unreported link h x h0.sets.resets none ∙ ap (λ (k : Received). relinked (sealed_in link k.links) columns x) h_is
 
   abbrev slot_now : LinkSlot
   slot_now = after_slot link piece x slot kept.there
 
   slot_is : slot_now ≡ record slot { link = record out.link { link = record out.link.link { wire = sealed_wire out.link.link.wire } } }
-  slot_is = ap (λ (q : Reported). record slot { link = record q.link { link = record q.link.link { wire = sealed_wire q.link.link.wire } } }) told_is
+  slot_is = ap (λ (q : Reported). record slot { link = record q.link { link = record q.link.link { wire = sealed_wire q.link.link.wire } } }) reported_is
 
   pub rest_now : out.link.link.rest ≡ []
-  rest_now = rest_all (record { link = record { wire = (told w r.frame).wire; rest = [] }; readers = slot.link.readers }) (told w r.frame).news
+  rest_now = rest_all (record { link = record { wire = (reported w r.frame).wire; rest = [] }; readers = slot.link.readers }) (reported w r.frame).news
 
   -- how far it was read
   pub end_within : r.end ≤ length l.received
@@ -252,21 +252,21 @@ module _ (link : ℕ) (piece : List ℕ) (x : StateSeen) (o : OpenEntry) (s : Se
       let some : length slot.link.link.rest < reading.size = longer in
       omega (arith, size, long, some, reading.end, is.fair.within)
 
-  wire_read : (told w r.frame).wire.read ≡ r.end
+  wire_read : (reported w r.frame).wire.read ≡ r.end
   wire_read =
-      let same : IsSameRead l s w (next_read l s) (front_of w bytes) = reads_are_same l s w bytes going.streams.sees.sees going.rest in
-      let shown_so : IsSameRead l s w (nextread.Frame r) (Some (reading.size, told w r.frame))
-      = subst (λ (n : NextRead). IsSameRead l s w n (Some (reading.size, told w r.frame))) shown.shows (subst (IsSameRead l s w (next_read l s)) front same) in
+      let same : IsSameRead l s w (next_read l s) (prefix_of w bytes) = reads_are_same l s w bytes going.streams.sees.sees going.rest in
+      let shown_so : IsSameRead l s w (nextread.Frame r) (Some (reading.size, reported w r.frame))
+      = subst (λ (n : NextRead). IsSameRead l s w n (Some (reading.size, reported w r.frame))) shown.shows (subst (IsSameRead l s w (next_read l s)) prefix same) in
       let few : r.end ≤ 18446744073709551615 = (let a = end_within in let c = is.few in omega (arith, a, c)) in
       shown_so.1.read ∙ ap (λ (n : ℕ). min n 18446744073709551615) (bytes_more l r frames) ∙ min-eq_left few
 
   pub read_h : h.read ≡ r.end
-  read_h = ap (λ (k : Heard). k.read) h_is ∙ read_is ∙ wire_read
+  read_h = ap (λ (k : Received). k.read) h_is ∙ read_is ∙ wire_read
 
   pub left_is : drop (read_bytes m) m.received ≡ left
   left_is =
       let size : reading.size ≡ length slot.link.link.rest + h.taken
-      = (let a = ap (λ (k : Heard). k.taken) h_is ∙ taken in let c = longer in omega (arith, a, c)) in
+      = (let a = ap (λ (k : Received). k.taken) h_is ∙ taken in let c = longer in omega (arith, a, c)) in
       ap (λ (n : ℕ). drop n l.received) (bytes_more l r frames ∙ reading.end) ∙ sym (drop_on (read_bytes l) reading.size l.received)
       ∙ ap (drop reading.size) going.rest ∙ ap (λ (n : ℕ). drop n bytes) size ∙ drop-append-add slot.link.link.rest piece h.taken
 
@@ -328,16 +328,16 @@ module _ (link : ℕ) (piece : List ℕ) (x : StateSeen) (o : OpenEntry) (s : Se
 
     -- all agrees, with what came for applications
     module _ (calls : List CallSlot) (long : length calls ≡ length x.book.calls)
-        (heard : (number : ℕ) (c : Call) (held : CallSlot) → numbered s.calls number ≡ Some c → slot_at x.book number ≡ Some held → SeesCall (coming link piece x) s c held
+        (handled : (number : ℕ) (c : Call) (held : CallSlot) → numbered s.calls number ≡ Some c → slot_at x.book number ≡ Some held → SeesCall (coming link piece x) s c held
         → HasCame calls t number c held) where
-      abbrev told_z : StateSeen
-      told_z = coming link left (relinked slots columns (recalled calls x))
+      abbrev reported_z : StateSeen
+      reported_z = coming link left (relinked slots columns (recalled calls x))
 
-      has_now : HasLink told_z t m link
+      has_now : HasLink reported_z t m link
       has_now = record { slot = with_rest left slot_now; there = there_now; sees = sees_now }
 
-      told_on : IsToldOn link (coming link piece x) told_z o o s t
-      told_on = record {
+      reported_on : IsReportedOn link (coming link piece x) reported_z o o s t
+      reported_on = record {
         state = refl;
         current = is.at.current;
         seen = refl;
@@ -345,22 +345,22 @@ module _ (link : ℕ) (piece : List ℕ) (x : StateSeen) (o : OpenEntry) (s : Se
         word = refl;
         drawn = refl;
         kept = kept_t;
-        cannot = subst (CannotTell (λ (k : ℕ). link == k) s) after_is (actions_are_untold (action.FrameRead link r) s h0.kept tt);
+        cannot = subst (CannotDistinguish (λ (k : ℕ). link == k) s) after_is (actions_are_untold (action.FrameRead link r) s h0.kept tt);
         slots = others_now;
         count = count_now;
         long = long;
-        heard = heard;
+        handled = handled;
         drained_same = drained_through s f link (Some o) (λ stream k. used_same stream k r frames);
         noted = noted_as retiring;
-        own = λ k got. subst (λ (q : Link). HasLink told_z t q link) (one_some m k (numbered t.links link) there got) has_now;
+        own = λ k got. subst (λ (q : Link). HasLink reported_z t q link) (one_some m k (numbered t.links link) there got) has_now;
       }
 
-      pub agrees_told : Agrees told_z t
-      agrees_told = told_keeps link (coming link piece x) told_z o o s t h0 told_on
+      pub agrees_reported : Agrees reported_z t
+      agrees_reported = reported_keeps link (coming link piece x) reported_z o o s t h0 reported_on
 
     -- where nothing came
     pub agrees_passed : ((c : Call) → came c t ≡ came c s) → Agrees (coming link left y) t
-    agrees_passed same = agrees_told x.book.calls refl (λ number c held got has k. nothing_came x.book.calls s t number c held has (same c) k.serves.left)
+    agrees_passed same = agrees_reported x.book.calls refl (λ number c held got has k. nothing_came x.book.calls s t number c held has (same c) k.serves.left)
 
   -- where the responses gain nothing
   module _ (quiet : IsReadStill l m s (frame_read l.number r s) out.link.link.wire (lines_in l s) out.link.readers) where

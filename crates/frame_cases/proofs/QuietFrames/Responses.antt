@@ -15,17 +15,17 @@ use Rattle.grpc_frame.specs.Messages.{messages_of}
 use Rattle.grpc_frame.specs.declared.next.MessageFault.{MessageFault}
 use Rattle.grpc_frame.specs.declared.next.MessageFault.TheVariants as messagefault
 use Rattle.grpc_meta.specs.ResponseFields.{shown_of}
-use Rattle.grpc_link.specs.Links.{Told as Reported}
+use Rattle.grpc_link.specs.Links.{Report as Reported}
 use Rattle.grpc_link.specs.Response.{end_gained, head_gained, message_news}
 use Rattle.grpc_link.specs.declared.readers.TagReader.{TagReader}
 use Rattle.h2_frame.specs.Frames.{FrameSeen, has_flag, is_allowed, is_of_connection, is_overpadded, is_zero_update, keeps_protocol, keeps_sizes, kind_allows_stream}
 use Rattle.h2_frame.specs.Numbers.{continuation_type, data_type, end_stream_flag, goaway_type, headers_type, ping_type, rst_stream_type, settings_type, window_update_type}
 use Rattle.h2_frame.specs.Payloads.{content_of, increment, last_stream, reset_code}
 use Rattle.h2_link.specs.Feeds.{Line}
-use Rattle.h2_link.specs.Steps.{told}
+use Rattle.h2_link.specs.Steps.{reported}
 use Rattle.h2_link.specs.Wire.{Wire}
 use Rattle.h2_link.specs.declared.live.LiveStream.{LiveStream}
-use Rattle.link_actions.proofs.Hearing.{of_settings}
+use Rattle.link_actions.proofs.Receiving.{of_settings}
 use Rattle.link_actions.proofs.History.{retiring_more, settings_more}
 use Rattle.link_actions.proofs.Lists.{if_true, on_if}
 use Rattle.link_actions.proofs.LossActions.Over.{all_go}
@@ -40,10 +40,10 @@ use Rattle.link_actions.proofs.StreamActions.StreamRead.{read_is}
 use Rattle.link_actions.proofs.StreamActions.StreamGoes.{Stands, stands}
 use Rattle.link_actions.specs.LossActions.Sees.{IsGoing, end_news}
 use Rattle.link_actions.specs.ResponseActions.Gained.{gained, is_done, is_listed_fairly, large_gained}
-use Rattle.link_actions.specs.ResponseActions.Laws.{IsReported, reported, seen_at}
+use Rattle.link_actions.specs.ResponseActions.Laws.{IsFrameReported, frame_reported, seen_at}
 use Rattle.link_actions.specs.ResponseActions.Laws as laws
 use Rattle.link_actions.specs.ResponseActions.Readers.{SeesReaders}
-use Rattle.link_actions.specs.Sees.{ArePlaced, AreLive, IsLive, by_stream}
+use Rattle.link_actions.specs.Sees.{AttemptsStandInPlace, StreamsAreLive, IsLive, by_stream}
 use Rattle.link_actions.specs.StreamActions.Laws.{Comes, IsOn, read_link}
 use Rattle.link_actions.specs.StreamActions.Sees.{SeesStreams, response_of}
 use Rattle.session_actions.specs.Links.{has_settings, is_retiring, is_settings}
@@ -60,21 +60,21 @@ use Rattle.session_actions.specs.declared.response.Outcome.{Outcome}
 use Rattle.session_actions.specs.declared.response.Response.{Response}
 use Rattle.session_actions.specs.declared.seen.Seen.{Seen}
 
--- a response only grows: its messages stay, and so does its head; and there are messages only behind a head
+-- a response only grows: its messages stay, and so does its head; and there are messages only after a head
 pub record HasGrown (p q : Response) : Type 0 where
   pub more : List (List ℕ)
   pub messages : q.messages ≡ p.messages ++ more
   pub head : is_some p.head ≡ true → q.head ≡ p.head
-  pub bare : is_none p.head ≡ true → more ≡ []
+  pub awaiting_config : is_none p.head ≡ true → more ≡ []
 
 same_grown : (p q : Response) → q.messages ≡ p.messages → q.head ≡ p.head → HasGrown p q
-same_grown p q messages head = record { more = []; messages = messages ∙ sym (append-nil p.messages); head = λ e. head; bare = λ e. refl }
+same_grown p q messages head = record { more = []; messages = messages ∙ sym (append-nil p.messages); head = λ e. head; awaiting_config = λ e. refl }
 
 fault_grown : (p q : Response) (o : Option MessageFault) → HasGrown p q → HasGrown p (with_fault o q)
 fault_grown p q None is =
-    on_if (HasGrown p) q.closes (ended _ q) q (λ e. record { more = is.more; messages = is.messages; head = is.head; bare = is.bare }) (λ e. is)
-fault_grown p q (Some messagefault.BadFlag) is = record { more = is.more; messages = is.messages; head = is.head; bare = is.bare }
-fault_grown p q (Some (messagefault.TooLarge len)) is = record { more = is.more; messages = is.messages; head = is.head; bare = is.bare }
+    on_if (HasGrown p) q.closes (ended _ q) q (λ e. record { more = is.more; messages = is.messages; head = is.head; awaiting_config = is.awaiting_config }) (λ e. is)
+fault_grown p q (Some messagefault.BadFlag) is = record { more = is.more; messages = is.messages; head = is.head; awaiting_config = is.awaiting_config }
+fault_grown p q (Some (messagefault.TooLarge len)) is = record { more = is.more; messages = is.messages; head = is.head; awaiting_config = is.awaiting_config }
 
 data_grown : (limit : ℕ) (p : Response) (f : FrameSeen) → HasGrown p (with_data limit p f)
 data_grown limit p f =
@@ -82,7 +82,7 @@ data_grown limit p f =
     (λ e.
     let m = messages_of limit (p.rest ++ content_of f) in
     fault_grown p (with_messages p m (has_flag f.flags end_stream_flag)) m.fault
-    (record { more = m.whole; messages = refl; head = λ h. refl; bare = λ h. absurd (let bad : true ≡ false = sym h ∙ e in let no : ⊥ = (cc) in no) }))
+    (record { more = m.whole; messages = refl; head = λ h. refl; awaiting_config = λ h. absurd (let bad : true ≡ false = sym h ∙ e in let no : ⊥ = (cc) in no) }))
 
 update_grown : (p : Response) (by : ℕ) → HasGrown p (with_update p by)
 update_grown p by =
@@ -115,7 +115,7 @@ block_grown p b =
     (λ i.
     let none : is_some p.head ≡ false = or_first (is_some p.head) (is_none (http_status b.fields)) i in
     on_if (HasGrown p) (is_head b.fields) (record p { head = Some (shown_of b.fields) }) _
-    (λ j. record { more = []; messages = sym (append-nil p.messages); head = λ k. never_some p.head _ none k; bare = λ k. refl })
+    (λ j. record { more = []; messages = sym (append-nil p.messages); head = λ k. never_some p.head _ none k; awaiting_config = λ k. refl })
     (λ j. same_grown p _ refl refl))))
 
 frame_grown : (limit : ℕ) (p : Response) (f : FrameSeen) (o : Option Block) → HasGrown p (with_stream_frame limit p f o)
@@ -154,16 +154,16 @@ head_still tag seen (Some x) after e still = still refl
 head_still tag seen None None e still = refl
 head_still tag seen None (Some y) e still = absurd (let no : ⊥ = (cc) in no)
 
-pub dropped_front : {X : Type 0} (xs ys : List X) → drop (length xs) (xs ++ ys) ≡ ys
-dropped_front [] ys = refl
-dropped_front (x ∷ xs) ys = dropped_front xs ys
+pub dropped_prefix : {X : Type 0} (xs ys : List X) → drop (length xs) (xs ++ ys) ≡ ys
+dropped_prefix [] ys = refl
+dropped_prefix (x ∷ xs) ys = dropped_prefix xs ys
 
 nothing_new : (tag seen : ℕ) (p q : Response) → p.end ≡ None → p.large ≡ false → HasGrown p q → gained tag seen p q ≡ [] → HasNothingNew p q
 nothing_new tag seen p q goes small grown none =
     let parts = four_none (head_gained tag seen p.head q.head) (map (message_news tag seen) (drop (length p.messages) q.messages)) (large_gained tag seen q.large)
     (end_gained tag (option_map (λ (o : Outcome). end_news o seen) q.end)) none in
     let left : drop (length p.messages) q.messages ≡ [] = none_mapped tag seen (drop (length p.messages) q.messages) parts.1 in
-    let more : grown.more ≡ [] = sym (dropped_front p.messages grown.more) ∙ ap (drop (length p.messages)) (sym grown.messages) ∙ left in
+    let more : grown.more ≡ [] = sym (dropped_prefix p.messages grown.more) ∙ ap (drop (length p.messages)) (sym grown.messages) ∙ left in
     record {
       head = head_still tag seen p.head q.head parts.0 grown.head;
       messages = grown.messages ∙ ap (λ (ms : List (List ℕ)). p.messages ++ ms) more ∙ append-nil p.messages;
@@ -209,7 +209,7 @@ attempt_by l s n x a true more e is live here rest =
     }
 attempt_by l s n x a false more e is live here rest = rest is
 
-attempt_in : (l : Link) (s : Seen) (n : ℕ) (xs : List LiveStream) (as_ : List Attempt) → AreLive l xs as_ → AllByRecursion (IsHere l s) as_
+attempt_in : (l : Link) (s : Seen) (n : ℕ) (xs : List LiveStream) (as_ : List Attempt) → StreamsAreLive l xs as_ → AllByRecursion (IsHere l s) as_
     → list_any (λ (x : LiveStream). x.number == n) xs ≡ true → HasAttempt l s n
 attempt_in l s n [] [] live here is = absurd (let no : ⊥ = (cc) in no)
 attempt_in l s n (x ∷ xs) (a ∷ as_) live here is =
@@ -270,7 +270,7 @@ or_false true b e = refl
 or_false false b e = e
 
 -- attempts that are counted stand at their places
-place_all : (all : List Attempt) (n : ℕ) (xs : List Attempt) → ((i : ℕ) → slice_get xs i ≡ slice_get all (n + i)) → ArePlaced (n + 1) xs
+place_all : (all : List Attempt) (n : ℕ) (xs : List Attempt) → ((i : ℕ) → slice_get xs i ≡ slice_get all (n + i)) → AttemptsStandInPlace (n + 1) xs
     → AllByRecursion (λ (a : Attempt). numbered all a.place ≡ Some a) xs
 place_all all n [] same placed = tt
 place_all all n (a ∷ xs) same placed =
@@ -278,10 +278,10 @@ place_all all n (a ∷ xs) same placed =
     let none : n ≡ n + 0 = omega arith in
     let more : (n + 1) + 1 ≡ suc n + 1 = omega arith in (
       ap (numbered all) (placed.0 ∙ next) ∙ ap (slice_get all) none ∙ sym (same 0),
-      place_all all (suc n) xs (λ i. same (suc i) ∙ ap (slice_get all) (let moved : n + suc i ≡ suc n + i = omega arith in moved)) (subst (λ (k : ℕ). ArePlaced k xs) more placed.1),
+      place_all all (suc n) xs (λ i. same (suc i) ∙ ap (slice_get all) (let moved : n + suc i ≡ suc n + i = omega arith in moved)) (subst (λ (k : ℕ). AttemptsStandInPlace k xs) more placed.1),
     )
 
-pub all_at_place : (s : Seen) → ArePlaced 1 s.attempts → AllByRecursion (AtPlace s) s.attempts
+pub all_at_place : (s : Seen) → AttemptsStandInPlace 1 s.attempts → AllByRecursion (AtPlace s) s.attempts
 all_at_place s placed = place_all s.attempts 0 s.attempts (λ i. ap (slice_get s.attempts) (let none : i ≡ 0 + i = omega arith in none)) placed
 
 or_two : (a b : Bool) → (a || b) ≡ false → (a ≡ false) × (b ≡ false)
@@ -305,7 +305,7 @@ module _ (l : Link) (s : Seen) (w : Wire) (g : ℕ → Line) (readers : List Tag
   u = frame_read l.number r s
 
   abbrev out : Reported
-  out = reported w readers f
+  out = frame_reported w readers f
 
   abbrev Quiet : Type 0
   Quiet = IsReadQuietly l m s u out.link.link.wire g out.link.readers
@@ -333,7 +333,7 @@ module _ (l : Link) (s : Seen) (w : Wire) (g : ℕ → Line) (readers : List Tag
   -- it is of no attempt's stream
   pub apart_still : list_any (λ (x : LiveStream). x.number == f.stream) w.live ≡ false → IsReadStill l m s u out.link.link.wire g out.link.readers
   apart_still off =
-      let quiet : laws.IsQuiet l s m u w (told w f).wire out readers f = quiet_is_reported l s w g readers r is reads comes (no_goaway, off) in
+      let quiet : laws.IsQuiet l s m u w (reported w f).wire out readers f = quiet_is_reported l s w g readers r is reads comes (no_goaway, off) in
       record {
         streams = subst (λ (v : Wire). SeesStreams m u v g) (sym quiet.wire) (quiet_frames_keep_streams l s w g r is comes (no_goaway, off));
         reads = subst (SeesReaders m u) (sym quiet.same) quiet.sees;
@@ -362,7 +362,7 @@ module _ (l : Link) (s : Seen) (w : Wire) (g : ℕ → Line) (readers : List Tag
     no_settings = of_settings f.kind f.flags kinds.0
 
     abbrev Own : Type 0
-    Own = IsReported l s m u out g f.stream (seen_at r) a
+    Own = IsFrameReported l s m u out g f.stream (seen_at r) a
 
     by_block : (o : Option Block) → r.block ≡ o → is_of_block f ≡ true → Own
     by_block None e block = parts_are_reported l s w g readers r a is reads comes own.on unbroken (block, e)

@@ -10,19 +10,19 @@ use Rattle.call_actions.specs.TakeActions.Serves.{came}
 use Rattle.channel_actions.proofs.Gone.{all_numbered}
 use Rattle.channel_actions.specs.Links.{lines_in}
 use Rattle.channel_core.specs.States.{StateSeen}
-use Rattle.channel_core.specs.Tables.{Heard, heard_in}
+use Rattle.channel_core.specs.Tables.{Received, received_in}
 use Rattle.frame_cases.proofs.OwnFrames.Frame as frame
 use Rattle.frame_cases.proofs.QuietFrames.Lines as lines
 use Rattle.frame_cases.proofs.QuietFrames.ReadStill as read
 use Rattle.frame_cases.proofs.RetiredLinks.Shapes.{AfterGoaway, IsPlainEnd, is_left, out_for}
-use Rattle.frame_cases.specs.PieceWalks.Points.{IsHearing}
+use Rattle.frame_cases.specs.PieceWalks.Points.{IsReceiving}
 use Rattle.grpc_base.specs.ErrorCodes.{cancel}
 use Rattle.grpc_base.specs.declared.fields.Field.{Field}
 use Rattle.h2_frame.specs.Frames.{FrameSeen}
 use Rattle.h2_frame.specs.Numbers.{goaway_type, settings_type}
 use Rattle.h2_frame.specs.Payloads.{last_stream}
 use Rattle.h2_link.specs.Wire.{Wire}
-use Rattle.link_actions.proofs.Hearing.{not_kind, of_settings}
+use Rattle.link_actions.proofs.Receiving.{not_kind, of_settings}
 use Rattle.link_actions.proofs.History.{retiring_more, settings_more}
 use Rattle.link_actions.proofs.LossActions.Losses.{link_is}
 use Rattle.link_actions.proofs.LossActions.Over.{all_go}
@@ -56,7 +56,7 @@ use Rattle.session_actions.specs.declared.response.Response.{Response}
 use Rattle.session_actions.specs.declared.seen.Seen.{Seen}
 use Rattle.session_order.proofs.Begun.{last_in}
 use Rattle.session_order.proofs.Changed.{changed_away, passes_not}
-use Rattle.session_order.specs.Calm.{is_to_end}
+use Rattle.session_order.specs.Quiescent.{is_to_end}
 use Rattle.session_order.specs.declared.line.Line.TheVariants as line
 
 -- a response has come so far and no further, however it ends
@@ -102,49 +102,49 @@ no_end : (e : Option RowEnd) → is_none e ≡ true → is_some e ≡ false
 no_end None h = refl
 no_end (Some e) h = absurd (cc)
 
-module _ (link : ℕ) (piece : List ℕ) (x : StateSeen) (o : OpenEntry) (s : Seen) (is : IsHearing link piece x o s) (h : Heard) (r : ReadFrame)
-    (next : next_frame_read link s ≡ Some (action.FrameRead link r)) (hears : heard_in link piece x.links ≡ Some h) (goes : (r.frame.kind == goaway_type) ≡ true) where
+module _ (link : ℕ) (piece : List ℕ) (x : StateSeen) (o : OpenEntry) (s : Seen) (is : IsReceiving link piece x o s) (h : Received) (r : ReadFrame)
+    (next : next_frame_read link s ≡ Some (action.FrameRead link r)) (receives : received_in link piece x.links ≡ Some h) (goes : (r.frame.kind == goaway_type) ≡ true) where
   abbrev l : Link
   l = is.l
 
   abbrev m : Link
-  m = read.m link piece x o s is h r next hears
+  m = read.m link piece x o s is h r next receives
 
   abbrev t : Seen
-  t = read.t link piece x o s is h r next hears
+  t = read.t link piece x o s is h r next receives
 
   abbrev last : ℕ
   last = last_stream r.frame.payload
 
   abbrev frames : List FrameSeen
-  frames = read.frames link piece x o s is h r next hears
+  frames = read.frames link piece x o s is h r next receives
 
   abbrev w : Wire
-  w = read.w link piece x o s is h r next hears
+  w = read.w link piece x o s is h r next receives
 
   own : l.number ≡ link
-  own = read.own link piece x o s is h r next hears
+  own = read.own link piece x o s is h r next receives
 
   kind : r.frame.kind ≡ goaway_type
   kind = eqb-true r.frame.kind goaway_type goes
 
   streams : SeesStreams l s w (lines_in l s)
-  streams = (read.going link piece x o s is h r next hears).streams
+  streams = (read.going link piece x o s is h r next receives).streams
 
   comes : Comes l w r
-  comes = (read.come link piece x o s is h r next hears).comes
+  comes = (read.come link piece x o s is h r next receives).comes
 
   unbroken : l.over ≡ None
-  unbroken = (read.shown link piece x o s is h r next hears).unbroken
+  unbroken = (read.shown link piece x o s is h r next receives).unbroken
 
   here : numbered s.links l.number ≡ Some l
-  here = read.here_own link piece x o s is h r next hears
+  here = read.here_own link piece x o s is h r next receives
 
   here_t : numbered t.links l.number ≡ Some m
-  here_t = ap (numbered t.links) own ∙ read.there link piece x o s is h r next hears
+  here_t = ap (numbered t.links) own ∙ read.there link piece x o s is h r next receives
 
   places : (i : ℕ) (a : Attempt) → numbered s.attempts i ≡ Some a → a.place ≡ i
-  places = read.places link piece x o s is h r next hears
+  places = read.places link piece x o s is h r next receives
 
   retiring : is_retiring m ≡ true
   retiring = retiring_more l r frames ∙ ap (λ (b : Bool). is_retiring l || b) goes ∙ or_last (is_retiring l)
@@ -162,11 +162,11 @@ module _ (link : ℕ) (piece : List ℕ) (x : StateSeen) (o : OpenEntry) (s : Se
   -- the response on a stream of the link
   low_same : (n : ℕ) (a : Attempt) → IsOn l s n a → nat_lt last n ≡ false → response_of m t n a ≡ response_of l s n a
   low_same n a on low =
-      subst (λ (v : Seen). response_of m v n a ≡ response_of l s n a) (read.on_is link piece x o s is h r next hears) (goaway_leaves l s w (lines_in l s) r n a streams comes kind on low)
+      subst (λ (v : Seen). response_of m v n a ≡ response_of l s n a) (read.on_is link piece x o s is h r next receives) (goaway_leaves l s w (lines_in l s) r n a streams comes kind on low)
 
   high_ended : (n : ℕ) (a : Attempt) → IsOn l s n a → nat_lt last n ≡ true → response_of m t n a ≡ ended left_out_end (response_of l s n a)
   high_ended n a on high =
-      subst (λ (v : Seen). response_of m v n a ≡ ended left_out_end (response_of l s n a)) (read.on_is link piece x o s is h r next hears)
+      subst (λ (v : Seen). response_of m v n a ≡ ended left_out_end (response_of l s n a)) (read.on_is link piece x o s is h r next receives)
       (goaway_ended l s w (lines_in l s) r a n streams on goes high)
 
   new_by : (n : ℕ) (a : Attempt) (b : Bool) → nat_lt last n ≡ b → IsOn l s n a → HasNoMore (response_of l s n a) (response_of m t n a)
@@ -175,7 +175,7 @@ module _ (link : ℕ) (piece : List ℕ) (x : StateSeen) (o : OpenEntry) (s : Se
 
   no_more : (i : ℕ) (a : Attempt) → numbered s.attempts i ≡ Some a → HasNoMore (response a s) (response a t)
   no_more i a got =
-      lines.each_new s link l is.here own r frames (Some o) places (read.less link piece x o s is h r next hears) (λ (z : Attempt). Unit {0}) HasNoMore no_more_self
+      lines.each_new s link l is.here own r frames (Some o) places (read.less link piece x o s is h r next receives) (λ (z : Attempt). Unit {0}) HasNoMore no_more_self
       (λ n z on its. new_by n z (nat_lt last n) refl on) i a got tt
 
   came_by : (k : Option Attempt) → ((q : Attempt) → k ≡ Some q → HasNoMore (response q s) (response q t))
@@ -279,7 +279,7 @@ module _ (link : ℕ) (piece : List ℕ) (x : StateSeen) (o : OpenEntry) (s : Se
   others_by i a true (Some at) out placed got stays =
       ap (λ (k : Option Outcome). (is_outstanding a && not (is_over a s)) && is_some k)
       (placed_same i a at (at.link == link) refl got placed (gone_none a.row.ended (both_true (is_some a.row.placed) (is_none a.row.ended) out).1) stays)
-      ∙ passes_not (is_to_end s) s.attempts i a (frame.calm_s link piece x o s is h r next hears line.WireEnd) got
+      ∙ passes_not (is_to_end s) s.attempts i a (frame.quiescent_s link piece x o s is h r next receives line.WireEnd) got
 
   -- the codes of their resets
   unreset : (i : ℕ) (a : Attempt) → numbered s.attempts i ≡ Some a → is_outstanding_on l a ≡ true → a.reset ≡ false
@@ -290,7 +290,7 @@ module _ (link : ℕ) (piece : List ℕ) (x : StateSeen) (o : OpenEntry) (s : Se
 
   counted : list_all (is_read_by (read_bytes m)) m.traffic ≡ true
   counted =
-      all_numbered (λ (k : Link). list_all (is_read_by (read_bytes k)) k.traffic) t.links link m (read.there link piece x o s is h r next hears) (read.kept_t link piece x o s is h r next hears).reads
+      all_numbered (λ (k : Link). list_all (is_read_by (read_bytes k)) k.traffic) t.links link m (read.there link piece x o s is h r next receives) (read.kept_t link piece x o s is h r next receives).reads
 
   open_still : (n : ℕ) (a : Attempt) (e : RowEnd) → IsOn l s n a → nat_lt last n ≡ true → e.seen ≡ read_bytes m → (response (with_end e a) t).closes ≡ false
   open_still n a e on high seen =

@@ -14,19 +14,19 @@ use Rattle.call_cases.proofs.LinkEnds.Cutting.{counted_places}
 use Rattle.channel_actions.proofs.Links.Frames.Frame.{others_agree}
 use Rattle.channel_actions.proofs.Links.Frames.Readers.{readers_still}
 use Rattle.channel_actions.proofs.Links.Frames.Streams.{streams_still}
-use Rattle.channel_actions.proofs.Links.Frames.Tellings.{untold}
+use Rattle.channel_actions.proofs.Links.Frames.Distinguishing.{untold}
 use Rattle.channel_actions.proofs.Links.Frames.Untold.{actions_are_untold}
 use Rattle.channel_actions.proofs.Lines.{all_at_places}
 use Rattle.channel_actions.proofs.Stamps.{counted_at}
-use Rattle.channel_actions.specs.KeptSessions.Kept.{AreCounted, IsKept}
-use Rattle.channel_actions.specs.LinkFrames.Alike.{AreAlike, CannotTell, IsAlike, Numbers, is_on}
+use Rattle.channel_actions.specs.KeptSessions.Kept.{NumbersCountUp, IsKept}
+use Rattle.channel_actions.specs.LinkFrames.Alike.{AttemptsAreAlike, CannotDistinguish, IsAlike, Numbers, is_on}
 use Rattle.channel_actions.specs.Links.{HasLink, IsGoing, SeesLinkOf, lines_in}
 use Rattle.channel_core.proofs.BookLaws.{number_changed, number_other}
 use Rattle.channel_core.proofs.Resting.{changed_length}
 use Rattle.channel_core.specs.States.{StateSeen}
 use Rattle.channel_core.specs.Steps.{ends_kept}
 use Rattle.channel_core.specs.Tables as tables
-use Rattle.channel_core.specs.Tables.{Heard, heard_in, heard_link, retired_in, with_link}
+use Rattle.channel_core.specs.Tables.{Received, received_in, received_link, retired_in, with_link}
 use Rattle.channel_core.specs.declared.state.links.LinkSlot.{LinkSlot}
 use Rattle.end_cases.proofs.AttemptEnds.LeftLinks.{places_left, rows_long}
 use Rattle.end_cases.proofs.CutEnds.AsFar.{AreSameRows, IsAsFar, as_far}
@@ -38,17 +38,17 @@ use Rattle.frame_cases.proofs.QuietFrames.ReadStill as read
 use Rattle.frame_cases.proofs.RetiredLinks.Ends as ends
 use Rattle.frame_cases.proofs.RetiredLinks.Ends.{IsEndOf, owed_end, owed_ends, places_owed}
 use Rattle.link_actions.specs.ReaderActions.Laws.{GoawaysLeaveReaders}
-use Rattle.link_actions.specs.ResetActions.Laws.{AreEndedAt, GoawaysGoAhead, GoawaysOweResets, OweAt, OwesIf, cancels_of}
+use Rattle.link_actions.specs.ResetActions.Laws.{AttemptsAreEndedAt, GoawaysGoAhead, GoawaysOweResets, OweAt, OwesIf, cancels_of}
 use Rattle.frame_cases.proofs.RetiredLinks.Rows.{rows_are_ended}
 use Rattle.frame_cases.proofs.RetiredLinks.RowsThen.{IsEndedBy, alike_each, owe_each, places, row_off, row_on, row_then, rows_at}
 use Rattle.frame_cases.proofs.RetiredLinks.Shapes.{AfterGoaway, IsPlainEnd, is_left}
 use Rattle.frame_cases.proofs.RetiredLinks.Starts as starts
-use Rattle.frame_cases.proofs.RetiredLinks.Told.{slot_there}
-use Rattle.frame_cases.specs.PieceWalks.Points.{IsHearing, coming, with_rest}
-use Rattle.grpc_link.specs.Links.{Told as Reported}
+use Rattle.frame_cases.proofs.RetiredLinks.Report.{slot_there}
+use Rattle.frame_cases.specs.PieceWalks.Points.{IsReceiving, coming, with_rest}
+use Rattle.grpc_link.specs.Links.{Report as Reported}
 use Rattle.h2_frame.specs.Numbers.{goaway_type}
 use Rattle.h2_frame.specs.Payloads.{last_stream}
-use Rattle.h2_link.specs.Steps.{told}
+use Rattle.h2_link.specs.Steps.{reported}
 use Rattle.h2_link.specs.Wire.{Wire}
 use Rattle.lb_policy.specs.Table.{is_one_of}
 use Rattle.link_actions.proofs.History.{bytes_more}
@@ -57,7 +57,7 @@ use Rattle.link_actions.specs.ResetActions.Ahead.{SeesAhead}
 use Rattle.link_actions.specs.ResetActions.Laws.{IsCut}
 use Rattle.link_actions.specs.ResponseActions.Laws.{left_out_end, seen_at}
 use Rattle.link_actions.specs.ResponseActions.Readers as responses
-use Rattle.link_actions.specs.Sees.{ArePlaced, by_stream}
+use Rattle.link_actions.specs.Sees.{AttemptsStandInPlace, by_stream}
 use Rattle.link_actions.specs.StreamActions.Laws.{AreAllOf, left_out}
 use Rattle.link_actions.specs.StreamActions.Sees.{SeesStreams}
 use Rattle.session_actions.specs.AttemptEnds.{is_framing, is_reset, reset_code_of, unsent_end}
@@ -74,7 +74,7 @@ use Rattle.session_actions.specs.declared.link.Link.{Link}
 use Rattle.session_actions.specs.declared.link.ReadFrame.{ReadFrame}
 use Rattle.session_actions.specs.declared.seen.Seen.{Seen}
 use Rattle.session_order.proofs.Changed.{passes_not}
-use Rattle.session_order.specs.Calm as order
+use Rattle.session_order.specs.Quiescent as order
 use Rattle.session_order.specs.declared.line.Line.TheVariants as line
 
 -- how such an end comes
@@ -123,32 +123,32 @@ some_of : {X : Type 0} (o : Option X) (y : X) (f : X → X) → option_map f o �
 some_of None y f e = absurd (cc)
 some_of (Some x) y f e = (x, (refl, (cc)))
 
-module _ (link : ℕ) (piece : List ℕ) (x : StateSeen) (o : OpenEntry) (s : Seen) (is : IsHearing link piece x o s) (h : Heard) (r : ReadFrame)
-    (next : next_frame_read link s ≡ Some (action.FrameRead link r)) (hears : heard_in link piece x.links ≡ Some h) (goes : (r.frame.kind == goaway_type) ≡ true)
-    (said : AfterGoaway is.l (read.m link piece x o s is h r next hears) s (read.t link piece x o s is h r next hears) (last_stream r.frame.payload)) where
+module _ (link : ℕ) (piece : List ℕ) (x : StateSeen) (o : OpenEntry) (s : Seen) (is : IsReceiving link piece x o s) (h : Received) (r : ReadFrame)
+    (next : next_frame_read link s ≡ Some (action.FrameRead link r)) (receives : received_in link piece x.links ≡ Some h) (goes : (r.frame.kind == goaway_type) ≡ true)
+    (said : AfterGoaway is.l (read.m link piece x o s is h r next receives) s (read.t link piece x o s is h r next receives) (last_stream r.frame.payload)) where
   abbrev l : Link
   l = is.l
 
   abbrev m : Link
-  m = read.m link piece x o s is h r next hears
+  m = read.m link piece x o s is h r next receives
 
   abbrev t : Seen
-  t = read.t link piece x o s is h r next hears
+  t = read.t link piece x o s is h r next receives
 
   abbrev t1 : Seen
-  t1 = starts.t1 link piece x o s is h r next hears goes said
+  t1 = starts.t1 link piece x o s is h r next receives goes said
 
   abbrev z1 : StateSeen
-  z1 = starts.z1 link piece x o s is h r next hears goes said
+  z1 = starts.z1 link piece x o s is h r next receives goes said
 
   abbrev slot : LinkSlot
-  slot = read.slot link piece x o s is h r next hears
+  slot = read.slot link piece x o s is h r next receives
 
   abbrev left : List ℕ
   left = drop h.taken piece
 
   abbrev out_ : Reported
-  out_ = read.out link piece x o s is h r next hears
+  out_ = read.out link piece x o s is h r next receives
 
   abbrev w : Wire
   w = slot.link.link.wire
@@ -157,13 +157,13 @@ module _ (link : ℕ) (piece : List ℕ) (x : StateSeen) (o : OpenEntry) (s : Se
   last = last_stream r.frame.payload
 
   own : l.number ≡ link
-  own = read.own link piece x o s is h r next hears
+  own = read.own link piece x o s is h r next receives
 
   kept_t : IsKept t
-  kept_t = starts.kept_t link piece x o s is h r next hears goes said
+  kept_t = starts.kept_t link piece x o s is h r next receives goes said
 
-  places_s : ArePlaced 1 s.attempts
-  places_s = starts.places link piece x o s is h r next hears goes said
+  places_s : AttemptsStandInPlace 1 s.attempts
+  places_s = starts.places link piece x o s is h r next receives goes said
 
   -- the ends that are owed
   abbrev pub these : List (ℕ × EndNews)
@@ -176,21 +176,21 @@ module _ (link : ℕ) (piece : List ℕ) (x : StateSeen) (o : OpenEntry) (s : Se
   rows = rows_ended later s.attempts
 
   each_end : AllByRecursion (IsEndOf l s last (seen_at r)) these
-  each_end = ends.each_end l s last (seen_at r) h.news places_s (starts.news_are link piece x o s is h r next hears goes said)
+  each_end = ends.each_end l s last (seen_at r) h.news places_s (starts.news_are link piece x o s is h r next receives goes said)
 
   all_of : AreAllOf l s last later
-  all_of = ends.all_of l s last (seen_at r) h.news places_s (starts.news_are link piece x o s is h r next hears goes said) (entry t) (now t)
+  all_of = ends.all_of l s last (seen_at r) h.news places_s (starts.news_are link piece x o s is h r next receives goes said) (entry t) (now t)
 
   pub tags_at : (n : ℕ) (a : Attempt) → numbered s.attempts n ≡ Some a → is_one_of (places later) n ≡ is_left l last a
   tags_at n a at =
       ap (λ (ks : List ℕ). is_one_of ks n) (places_owed (entry t) (now t) these)
-      ∙ ends.tags_at l s last (seen_at r) h.news places_s (starts.news_are link piece x o s is h r next hears goes said) n a at
+      ∙ ends.tags_at l s last (seen_at r) h.news places_s (starts.news_are link piece x o s is h r next receives goes said) n a at
 
   pub seen_is : seen_at r ≡ read_bytes m
   seen_is =
-      let p = read.end_within link piece x o s is h r next hears in
+      let p = read.end_within link piece x o s is h r next receives in
       let q = is.few in
-      min-eq_left (let few : r.end ≤ 18446744073709551615 = omega (arith, p, q) in few) ∙ sym (bytes_more l r (read.frames link piece x o s is h r next hears))
+      min-eq_left (let few : r.end ≤ 18446744073709551615 = omega (arith, p, q) in few) ∙ sym (bytes_more l r (read.frames link piece x o s is h r next receives))
 
   plain_one : (e : ℕ × EndNews) → IsEndOf l s last (seen_at r) e → IsPlainEnd (entry t) (read_bytes m) (owed_end (entry t) (now t) e.1)
   plain_one e k = record {
@@ -215,16 +215,16 @@ module _ (link : ℕ) (piece : List ℕ) (x : StateSeen) (o : OpenEntry) (s : Se
   abbrev pub u1 : Seen
   u1 = all_left later t1
 
-  places_u0 : ArePlaced 1 u0.attempts
+  places_u0 : AttemptsStandInPlace 1 u0.attempts
   places_u0 = places_left later s.attempts places_s
 
   owned_u0 : AreOwned u0
   owned_u0 = owned_left later t kept_t.owned
 
-  counted_u0 : AreCounted 1 (map (λ (a : Attempt). a.place) u0.attempts)
+  counted_u0 : NumbersCountUp 1 (map (λ (a : Attempt). a.place) u0.attempts)
   counted_u0 = counted_places 1 u0.attempts places_u0
 
-  ended_at : AreEndedAt (map (λ (e : ℕ × RowEnd). e.0) later) s.attempts rows
+  ended_at : AttemptsAreEndedAt (map (λ (e : ℕ × RowEnd). e.0) later) s.attempts rows
   ended_at = rows_are_ended later s.attempts places_s
 
   row_is : (i : ℕ) (a b : Attempt) → slice_get s.attempts i ≡ Some a → slice_get rows i ≡ Some b → b ≡ row_then later (suc i) a
@@ -232,13 +232,13 @@ module _ (link : ℕ) (piece : List ℕ) (x : StateSeen) (o : OpenEntry) (s : Se
       let both : Some b ≡ Some (row_then later (suc i) a) = sym to ∙ rows_at later (suc i) s.attempts ∙ ap (option_map (row_then later (suc i))) at in (cc)
 
   place_is : (i : ℕ) (a : Attempt) → slice_get s.attempts i ≡ Some a → a.place ≡ suc i
-  place_is i a at = read.places link piece x o s is h r next hears (suc i) a at
+  place_is i a at = read.places link piece x o s is h r next receives (suc i) a at
 
   -- what is owed
   none_owed : (i : ℕ) (a : Attempt) → slice_get s.attempts i ≡ Some a → reset_code_of t a ≡ None
   none_owed i a at =
       none_by (reset_code_of t a)
-      (passes_not (order.is_to_reset t) s.attempts (suc i) a (starts.still_t link piece x o s is h r next hears goes said line.Reset refl refl) at)
+      (passes_not (order.is_to_reset t) s.attempts (suc i) a (starts.still_t link piece x o s is h r next receives goes said line.Reset refl refl) at)
 
   out_left : (a : Attempt) → is_left l last a ≡ true → is_outstanding_on l a ≡ true
   out_left a e = (and_parts (is_outstanding_on l a) _ e).0
@@ -276,7 +276,7 @@ module _ (link : ℕ) (piece : List ℕ) (x : StateSeen) (o : OpenEntry) (s : Se
       let got = some_of (slice_get s.attempts i) b (row_then later (suc i)) (sym (rows_at later (suc i) s.attempts) ∙ to) in
       owed_off_by i q got.0 b (is_one_of (places later) (suc i)) off got.1.0 got.1.1 refl))
 
-  -- the others cannot tell
+  -- the others cannot distinguish
   alike_by : (i : ℕ) (a b : Attempt) (c : Bool) → slice_get s.attempts i ≡ Some a → b ≡ row_then later (suc i) a → is_one_of (places later) (suc i) ≡ c
       → IsAlike (touched link) t u0 a b
   alike_by i a b true at same e =
@@ -297,39 +297,39 @@ module _ (link : ℕ) (piece : List ℕ) (x : StateSeen) (o : OpenEntry) (s : Se
         still = λ j off on. record { stream = refl; calls = λ c got. record { call = c; is = got; limit = refl; more = omega arith } };
       })
 
-  alike : AreAlike (touched link) t u0 t.attempts u0.attempts
+  alike : AttemptsAreAlike (touched link) t u0 t.attempts u0.attempts
   alike =
       alike_each (touched link) t u0 s.attempts rows (rows_long later s.attempts)
       (λ i a b at to. alike_by i a b (is_one_of (places later) (suc i)) at (row_is i a b at to) refl)
 
   -- the slots
   abbrev z_slot : LinkSlot
-  z_slot = with_rest left (tables.retired (with_link (heard_link piece) slot))
+  z_slot = with_rest left (tables.retired (with_link (received_link piece) slot))
 
   z_there : numbered z1.links link ≡ Some z_slot
   z_there =
       number_changed (with_rest left) (retired_in link h.links) link
       ∙ ap (option_map (with_rest left))
-      (number_changed tables.retired h.links link ∙ ap (option_map tables.retired) (slot_there link piece x o s is h r next hears goes said))
+      (number_changed tables.retired h.links link ∙ ap (option_map tables.retired) (slot_there link piece x o s is h r next receives goes said))
 
   z_others : (k : ℕ) → (link == k) ≡ false → numbered z1.links k ≡ numbered (coming link piece x).links k
   z_others k e =
       number_other (with_rest left) (retired_in link h.links) link k (λ same. eqb-false link k e (sym same))
       ∙ number_other tables.retired h.links link k (λ same. eqb-false link k e (sym same))
-      ∙ ap (λ (q : Heard). numbered q.links k) (read.h_is link piece x o s is h r next hears)
-      ∙ number_other (with_link (heard_link piece)) x.links link k (λ same. eqb-false link k e (sym same)) ∙ sym (others_coming link piece x k e)
+      ∙ ap (λ (q : Received). numbered q.links k) (read.h_is link piece x o s is h r next receives)
+      ∙ number_other (with_link (received_link piece)) x.links link k (λ same. eqb-false link k e (sym same)) ∙ sym (others_coming link piece x k e)
 
   z_count : length t.links ≡ length z1.links
   z_count =
-      length_changed (read.f link piece x o s is h r next hears) link s.links ∙ is.agrees.links.count ∙ changed_length (with_rest piece) x.links link
+      length_changed (read.f link piece x o s is h r next receives) link s.links ∙ is.agrees.links.count ∙ changed_length (with_rest piece) x.links link
       ∙ sym (changed_length (with_rest left) (retired_in link h.links) link ∙ changed_length tables.retired h.links link
-      ∙ ap (λ (q : Heard). length q.links) (read.h_is link piece x o s is h r next hears) ∙ changed_length (with_link (heard_link piece)) x.links link)
+      ∙ ap (λ (q : Received). length q.links) (read.h_is link piece x o s is h r next receives) ∙ changed_length (with_link (received_link piece)) x.links link)
 
-  slot_is : with_link (heard_link piece) slot ≡ record slot { link = out_.link }
-  slot_is = ap (λ (q : Reported). record slot { link = q.link }) (read.told_is link piece x o s is h r next hears)
+  slot_is : with_link (received_link piece) slot ≡ record slot { link = out_.link }
+  slot_is = ap (λ (q : Reported). record slot { link = q.link }) (read.reported_is link piece x o s is h r next receives)
 
   sees_l : SeesLinkOf l s (with_rest piece slot)
-  sees_l = read.sees link piece x o s is h r next hears
+  sees_l = read.sees link piece x o s is h r next receives
 
   here_u : (k : ℕ) (q : Link) → numbered t.links k ≡ Some q → numbered u0.links q.number ≡ Some q
   here_u k q got = ap (numbered t.links) (counted_at (λ (b : Link). b.number) t.links k q kept_t.links got) ∙ got
@@ -339,18 +339,18 @@ module _ (link : ℕ) (piece : List ℕ) (x : StateSeen) (o : OpenEntry) (s : Se
     owed_m = owes l s last later rows (reset_code_of u0) all_of ended_at owe_at
 
     -- the link
-    cut_then : IsCut (cancels_of (left_out l s last)) m u0 (told w r.frame).wire (lines_in l s)
+    cut_then : IsCut (cancels_of (left_out l s last)) m u0 (reported w r.frame).wire (lines_in l s)
     cut_then =
-        subst (λ (v : Seen). IsCut (cancels_of (left_out l s last)) m (record v { attempts = rows }) (told w r.frame).wire (lines_in l s)) (read.read_l link piece x o s is h r next hears)
-        (ahead l s w (lines_in l s) r later rows (read.going link piece x o s is h r next hears).streams (read.come link piece x o s is h r next hears).comes goes all_of ended_at)
+        subst (λ (v : Seen). IsCut (cancels_of (left_out l s last)) m (record v { attempts = rows }) (reported w r.frame).wire (lines_in l s)) (read.read_l link piece x o s is h r next receives)
+        (ahead l s w (lines_in l s) r later rows (read.going link piece x o s is h r next receives).streams (read.come link piece x o s is h r next receives).comes goes all_of ended_at)
 
     relined : (v : Wire) → SeesStreams m u0 v (lines_in l s) → SeesStreams m u0 v (lines_in m u0)
     relined v k =
         streams_still m m u0 u0 (λ (j : ℕ). false) refl owned_u0 (all_at_places u0.attempts counted_u0) (untold (λ (j : ℕ). false) u0).attempts v (lines_in l s)
         (record { number = refl; traffic_ = refl; owed = refl }) k k.sees.at k.sees.places
 
-    wire_is : (told w r.frame).wire ≡ out_.link.link.wire
-    wire_is = sym (starts.retired_ link piece x o s is h r next hears goes said).wire
+    wire_is : (reported w r.frame).wire ≡ out_.link.link.wire
+    wire_is = sym (starts.retired_ link piece x o s is h r next receives goes said).wire
 
     ahead_streams : SeesAhead (resets_owed m u0) m u0 out_.link.link.wire (lines_in m u0)
     ahead_streams =
@@ -364,16 +364,16 @@ module _ (link : ℕ) (piece : List ℕ) (x : StateSeen) (o : OpenEntry) (s : Se
 
     readers_then : responses.SeesReaders m u0 out_.link.readers
     readers_then =
-        subst (λ (v : Seen). responses.SeesReaders m (record v { attempts = rows }) out_.link.readers) (read.read_l link piece x o s is h r next hears)
-        (readers l s w (lines_in l s) slot.link.readers r later rows (read.going link piece x o s is h r next hears).streams
-        (read_so l s slot.link.readers (read.going link piece x o s is h r next hears).readers) (read.come link piece x o s is h r next hears).comes goes all_of ended_at)
+        subst (λ (v : Seen). responses.SeesReaders m (record v { attempts = rows }) out_.link.readers) (read.read_l link piece x o s is h r next receives)
+        (readers l s w (lines_in l s) slot.link.readers r later rows (read.going link piece x o s is h r next receives).streams
+        (read_so l s slot.link.readers (read.going link piece x o s is h r next receives).readers) (read.come link piece x o s is h r next receives).comes goes all_of ended_at)
 
     ahead_m : IsAhead m u0 z_slot
     ahead_m =
         subst (λ (q : LinkSlot). IsAhead m u0 (with_rest left (tables.retired q))) (sym slot_is) (record {
           streams = ahead_streams;
           readers = read_then m u0 out_.link.readers readers_then;
-          rest = read.left_is link piece x o s is h r next hears ∙ ap (λ (b : List ℕ). b ++ left) (sym (read.rest_now link piece x o s is h r next hears));
+          rest = read.left_is link piece x o s is h r next receives ∙ ap (λ (b : List ℕ). b ++ left) (sym (read.rest_now link piece x o s is h r next receives));
           fresh = ap (λ (v : Wire). v.queue.fresh) (sym wire_is) ∙ cut_then.fresh ∙ sym (ap (λ (rs : List (ℕ × ℕ)). length rs) owed_m);
         })
 
@@ -385,9 +385,9 @@ module _ (link : ℕ) (piece : List ℕ) (x : StateSeen) (o : OpenEntry) (s : Se
     }
 
     -- the others
-    read_apart : CannotTell (touched link) s t
+    read_apart : CannotDistinguish (touched link) s t
     read_apart =
-        subst (CannotTell (touched link) s) (read.after_is link piece x o s is h r next hears) (actions_are_untold (action.FrameRead link r) s is.agrees.kept tt)
+        subst (CannotDistinguish (touched link) s) (read.after_is link piece x o s is h r next receives) (actions_are_untold (action.FrameRead link r) s is.agrees.kept tt)
 
     ahead_other : (k : ℕ) (q : Link) → numbered t.links k ≡ Some q → (link == k) ≡ false → HasLinkAhead z1 u0 q k
     ahead_other k q got off =
@@ -423,7 +423,7 @@ module _ (link : ℕ) (piece : List ℕ) (x : StateSeen) (o : OpenEntry) (s : Se
         by false e = ahead_other k q got e
         by true e =
             let same : link ≡ k = eqb-true link k e in
-            let both : Some m ≡ Some q = sym (starts.there_m link piece x o s is h r next hears goes said) ∙ ap (numbered t.links) same ∙ got in
+            let both : Some m ≡ Some q = sym (starts.there_m link piece x o s is h r next receives goes said) ∙ ap (numbered t.links) same ∙ got in
             let one : m ≡ q = (cc) in
             subst (λ (j : ℕ). HasLinkAhead z1 u0 q j) same (subst (λ (b : Link). HasLinkAhead z1 u0 b link) one has_m)
 
@@ -439,26 +439,26 @@ module _ (link : ℕ) (piece : List ℕ) (x : StateSeen) (o : OpenEntry) (s : Se
     -- and once its subchannel went down
     code_same : (b : Attempt) → reset_code_of u1 b ≡ reset_code_of u0 b
     code_same b =
-        let dn = starts.dn link piece x o s is h r next hears goes said in
+        let dn = starts.dn link piece x o s is h r next receives goes said in
         ap (λ (v : Seen). reset_code_of v b) dn.boarded ∙ ap (λ (c : Option OpenEntry). reset_code_of (record t { current = c; links = t1.links }) b) dn.current
         ∙ ap (λ (ls : List Link). reset_code_of (record t { links = ls }) b) dn.links
 
     attempts_same : t1.attempts ≡ t.attempts
-    attempts_same = ap (λ (v : Seen). v.attempts) (starts.dn link piece x o s is h r next hears goes said).boarded
+    attempts_same = ap (λ (v : Seen). v.attempts) (starts.dn link piece x o s is h r next receives goes said).boarded
 
     rows_same : u1.attempts ≡ u0.attempts
     rows_same = ap (rows_ended later) attempts_same
 
-    places_u1 : ArePlaced 1 u1.attempts
-    places_u1 = subst (ArePlaced 1) (sym rows_same) places_u0
+    places_u1 : AttemptsStandInPlace 1 u1.attempts
+    places_u1 = subst (AttemptsStandInPlace 1) (sym rows_same) places_u0
 
     far : IsAsFar u0 u1
     far = record {
-      links = (starts.dn link piece x o s is h r next hears goes said).links;
+      links = (starts.dn link piece x o s is h r next receives goes said).links;
       calls = λ n c at. record {
         call = c;
-        there = ap (λ (v : Seen). numbered v.calls n) (starts.dn link piece x o s is h r next hears goes said).boarded ∙ at;
-        limit = ap (λ (v : Seen). (chosen_of c v).response) (starts.dn link piece x o s is h r next hears goes said).boarded;
+        there = ap (λ (v : Seen). numbered v.calls n) (starts.dn link piece x o s is h r next receives goes said).boarded ∙ at;
+        limit = ap (λ (v : Seen). (chosen_of c v).response) (starts.dn link piece x o s is h r next receives goes said).boarded;
         more = omega arith;
       };
       rows = subst (AreSameRows u0 u1 u0.attempts) (sym rows_same) (rows_self u0 u1 code_same u0.attempts);

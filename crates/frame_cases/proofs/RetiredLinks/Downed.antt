@@ -82,11 +82,11 @@ module _ (n : NetSeen) (x : StateSeen) (s t : Seen) (h : AgreesOffLinks x s) (is
   sets_for : SetsAgree y (boarded s t)
   sets_for = record {
     queue = h.sets.queue;
-    patient = h.sets.patient;
+    ready_waiters = h.sets.ready_waiters;
     dues = record { rising = h.sets.dues.rising; exact = λ m k. h.sets.dues.exact m k ∙ sym (dues_same m k) };
     deadlines = h.sets.deadlines;
-    bare = h.sets.bare;
-    impatient = h.sets.impatient;
+    awaiting_config = h.sets.awaiting_config;
+    fail_fast = h.sets.fail_fast;
     outstanding = h.sets.outstanding;
   }
 

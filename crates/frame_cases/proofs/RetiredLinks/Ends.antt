@@ -6,7 +6,7 @@ use Rattle.attempt_ledger.specs.declared.news.EndNews.{EndNews}
 use Rattle.attempt_ledger.specs.declared.news.News.{News}
 use Rattle.attempt_ledger.specs.declared.news.News.TheVariants as news
 use Rattle.attempt_ledger.specs.declared.row.RowEnd.{RowEnd}
-use Rattle.channel_core.specs.Arrivals.{heard_all}
+use Rattle.channel_core.specs.Arrivals.{received_all}
 use Rattle.channel_core.specs.States.{StateSeen}
 use Rattle.channel_core.specs.Steps.{ends_kept, retired}
 use Rattle.frame_cases.proofs.RetiredLinks.News.{AreRising, each_kept, kept_on, rising_kept, tags, tags_kept}
@@ -15,7 +15,7 @@ use Rattle.frame_cases.proofs.RetiredLinks.Shapes.{is_left, out_for}
 use Rattle.lb_policy.specs.Table.{is_one_of}
 use Rattle.link_actions.specs.LossActions.Sees.{end_news}
 use Rattle.link_actions.specs.ResponseActions.Laws.{ended_as, left_out_end, places_of}
-use Rattle.link_actions.specs.Sees.{ArePlaced, by_stream}
+use Rattle.link_actions.specs.Sees.{AttemptsStandInPlace, by_stream}
 use Rattle.link_actions.specs.StreamActions.Laws.{AreAllOf, IsSomewhere, is_left_out, left_out}
 use Rattle.session_actions.specs.AttemptEnds.{unsent_end}
 use Rattle.session_actions.specs.Links.{is_retiring}
@@ -50,16 +50,16 @@ pub places_owed : (at moment : ℕ) (ends : List (ℕ × EndNews)) → map (λ (
 places_owed at moment [] = refl
 places_owed at moment (x ∷ ends) = ap (λ (ns : List ℕ). x.0 ∷ ns) (places_owed at moment ends)
 
--- of what is heard beside the ends
-ends_unheard : (link : ℕ) (o : Outcome) (seen : ℕ) (xs : List Attempt) (ms : List News) (x : StateSeen) → heard_all link (map (ended_as o seen) xs ++ ms) x ≡ heard_all link ms x
-ends_unheard link o seen [] ms x = refl
-ends_unheard link o seen (a ∷ xs) ms x = ends_unheard link o seen xs ms x
+-- of what is handled beside the ends
+ends_unreceived : (link : ℕ) (o : Outcome) (seen : ℕ) (xs : List Attempt) (ms : List News) (x : StateSeen) → received_all link (map (ended_as o seen) xs ++ ms) x ≡ received_all link ms x
+ends_unreceived link o seen [] ms x = refl
+ends_unreceived link o seen (a ∷ xs) ms x = ends_unreceived link o seen xs ms x
 
 joined : (as_ bs cs : List News) → (as_ ++ bs) ++ cs ≡ as_ ++ (bs ++ cs)
 joined [] bs cs = refl
 joined (a ∷ as_) bs cs = ap (λ (ns : List News). a ∷ ns) (joined as_ bs cs)
 
-retired_if : (link : ℕ) (b : Bool) (x : StateSeen) → heard_all link (if b then [] else news.Retiring ∷ []) x ≡ (if b then x else retired link x)
+retired_if : (link : ℕ) (b : Bool) (x : StateSeen) → received_all link (if b then [] else news.Retiring ∷ []) x ≡ (if b then x else retired link x)
 retired_if link true x = refl
 retired_if link false x = refl
 
@@ -98,7 +98,7 @@ out_with (Some n) true low e f = refl
 out_with (Some n) false low e f = absurd (cc)
 out_with None out low e f = absurd (cc)
 
-module _ (l : Link) (s : Seen) (last seen : ℕ) (ns : List News) (places : ArePlaced 1 s.attempts)
+module _ (l : Link) (s : Seen) (last seen : ℕ) (ns : List News) (places : AttemptsStandInPlace 1 s.attempts)
     (is : ns ≡ map (ended_as left_out_end seen) (left_out l s last) ++ map (ended_as unsent_end seen) (waiting_on l s) ++ (if is_retiring l then [] else news.Retiring ∷ [])) where
   abbrev pub ends : List (ℕ × EndNews)
   ends = ends_kept ns []
@@ -116,10 +116,10 @@ module _ (l : Link) (s : Seen) (last seen : ℕ) (ns : List News) (places : AreP
   ends_are =
       ap (λ (ms : List News). ends_kept ms []) is ∙ kept_on (sent ++ waiting) rest [] ∙ none_more (is_retiring l) (ends_kept (sent ++ waiting) []) ∙ kept_on sent waiting []
 
-  pub heard_is : (link : ℕ) (x : StateSeen) → heard_all link ns x ≡ (if is_retiring l then x else retired link x)
-  heard_is link x =
-      ap (λ (ms : List News). heard_all link ms x) (is ∙ joined sent waiting rest) ∙ ends_unheard link left_out_end seen (left_out l s last) (waiting ++ rest) x
-      ∙ ends_unheard link unsent_end seen (waiting_on l s) rest x ∙ retired_if link (is_retiring l) x
+  pub received_is : (link : ℕ) (x : StateSeen) → received_all link ns x ≡ (if is_retiring l then x else retired link x)
+  received_is link x =
+      ap (λ (ms : List News). received_all link ms x) (is ∙ joined sent waiting rest) ∙ ends_unreceived link left_out_end seen (left_out l s last) (waiting ++ rest) x
+      ∙ ends_unreceived link unsent_end seen (waiting_on l s) rest x ∙ retired_if link (is_retiring l) x
 
   pub rising : AreRising ends
   rising = rising_kept ns [] tt

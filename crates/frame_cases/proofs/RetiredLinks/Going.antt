@@ -5,14 +5,14 @@ use Rattle.attempt_ledger.specs.declared.news.EndNews.{EndNews}
 use Rattle.attempt_ledger.specs.declared.news.News.{News}
 use Rattle.attempt_ledger.specs.declared.news.News.TheVariants as news
 use Rattle.attempt_ledger.specs.declared.row.Placed.{Placed}
-use Rattle.call_core.specs.Steps.{Stepped, heard_news}
+use Rattle.call_core.specs.Steps.{Stepped, received_news}
 use Rattle.call_core.specs.declared.act.CallAct.{CallAct}
 use Rattle.call_core.specs.declared.act.CallAct.TheVariants as act
 use Rattle.channel_actions.proofs.Calls.Going.Slots.{AllGo, all_acted, all_beside}
 use Rattle.channel_actions.specs.GoingCalls.Going.{AllowsAttempts, CallsGoOn, GoesOn}
 use Rattle.channel_core.specs.Books.{BookActs, book_acted, call_of, deadline_of, due_at, has_drawn, link_of, row_at, slot_at}
 use Rattle.channel_core.specs.States.{StateSeen}
-use Rattle.channel_core.specs.Steps.{act_done, acts_done, drawn_if, next_word, reset_on, stamped_gone, told}
+use Rattle.channel_core.specs.Steps.{act_done, acts_done, drawn_if, next_word, reset_on, stamped_gone, reported}
 use Rattle.channel_core.specs.Tables.{with_timers}
 use Rattle.channel_core.specs.declared.state.slots.CallSlot.{CallSlot}
 use Rattle.end_cases.specs.AttemptEnds.Ends.{ended_in, gone_with, taken_off}
@@ -20,9 +20,9 @@ use Rattle.event_cases.proofs.LostLinks.Stamped.{stamped_form}
 use Rattle.picker_gate.specs.Pairs.{is_same}
 use Rattle.session_actions.specs.declared.attempt.Attempt.{Attempt}
 
--- what a call hears lets it go on (`call_core` promises it)
-abbrev pub HeardGoesOn : Type 0
-HeardGoesOn = (row : ℕ) (n : News) (moment word : ℕ) (s : Stepped) → GoesOn s.call → GoesOn (heard_news row n moment word s).call
+-- what a call receives lets it go on (`call_core` promises it)
+abbrev pub ReceivedGoesOn : Type 0
+ReceivedGoesOn = (row : ℕ) (n : News) (moment word : ℕ) (s : Stepped) → GoesOn s.call → GoesOn (received_news row n moment word s).call
 
 -- what follows in the channel changes no call
 pub record IsSameHeld (x y : StateSeen) : Type 0 where
@@ -49,18 +49,18 @@ acts_same n (a ∷ acts) x =
 same_goes : (x y : StateSeen) → IsSameHeld x y → CallsGoOn x → CallsGoOn y
 same_goes x y is g = record { calls = subst AllGo (sym is.calls) g.calls; allows = subst AllowsAttempts (sym is.held) g.allows }
 
-module _ (heard : HeardGoesOn) where
-  told_goes : (row : ℕ) (n : News) (x : StateSeen) → CallsGoOn x → CallsGoOn (told row n x)
-  told_goes row n x g =
+module _ (handled : ReceivedGoesOn) where
+  reported_goes : (row : ℕ) (n : News) (x : StateSeen) → CallsGoOn x → CallsGoOn (reported row n x)
+  reported_goes row n x g =
       let number : ℕ = call_of (row_at x.book row) in
-      let b : BookActs = book_acted (heard_news row n x.book.moment (next_word x)) number x.book in
+      let b : BookActs = book_acted (received_news row n x.book.moment (next_word x)) number x.book in
       let z : StateSeen = record (drawn_if (has_drawn (row_at b.book row)) x) { book = b.book } in
       let w : StateSeen = acts_done number b.acts z in
       let same : IsSameHeld z w = acts_same number b.acts z in
       record {
         calls = all_beside (with_timers (due_at (slot_at w.book number)) (deadline_of (slot_at w.book number))) (λ (slot : CallSlot). refl) w.book.calls number
             (subst AllGo (sym same.calls)
-            (all_acted (heard_news row n x.book.moment (next_word x)) x.book.ledger _ (λ c k. heard row n x.book.moment (next_word x) _ k) x.book.calls number g.calls));
+            (all_acted (received_news row n x.book.moment (next_word x)) x.book.ledger _ (λ c k. handled row n x.book.moment (next_word x) _ k) x.book.calls number g.calls));
         allows = subst AllowsAttempts (sym same.held) g.allows;
       }
 
@@ -74,5 +74,5 @@ module _ (heard : HeardGoesOn) where
 
   pub ended_goes : (a : Attempt) (end : EndNews) (x : StateSeen) → CallsGoOn x → CallsGoOn (ended_in a end x)
   ended_goes a end x g =
-      gone_goes a.row.placed (told a.place (news.Ended a.place end) (taken_off a.row.call a.place a.row.placed x))
-      (told_goes a.place (news.Ended a.place end) (taken_off a.row.call a.place a.row.placed x) (off_goes a.row.call a.place a.row.placed x g))
+      gone_goes a.row.placed (reported a.place (news.Ended a.place end) (taken_off a.row.call a.place a.row.placed x))
+      (reported_goes a.place (news.Ended a.place end) (taken_off a.row.call a.place a.row.placed x) (off_goes a.row.call a.place a.row.placed x g))

@@ -23,7 +23,7 @@ use Rattle.grpc_base.specs.declared.event.Conn.TheVariants as conn
 use Rattle.link_actions.proofs.Ended.{is_ended}
 use Rattle.link_actions.proofs.LossActions.Calls.{changed_any}
 use Rattle.link_actions.specs.ResponseActions.Laws.{left_out_end}
-use Rattle.link_actions.specs.Sees.{ArePlaced}
+use Rattle.link_actions.specs.Sees.{AttemptsStandInPlace}
 use Rattle.call_cases.proofs.EndsFollow.Steps.{placed_of}
 use Rattle.session_actions.specs.Actions.{after, after_if, after_in, following}
 use Rattle.session_actions.specs.AttemptEnds.{attempt_ended, attempt_ended_as, cut_end, end_of, is_framing, is_reset, outcome_of, stream_reset_of, unsent_end, with_end, with_reset_queued}
@@ -293,7 +293,7 @@ module _ (link n row : ℕ) where
   on_row b f true o on e = e
   on_row b f false o on e = absurd (let no : ⊥ = (cc) in no)
 
-  module _ (o : OpenEntry) (s : Seen) (current : s.current ≡ Some o) (places : ArePlaced 1 s.attempts) (m : Link) (there_m : numbered s.links link ≡ Some m) (read : read_bytes m ≡ n)
+  module _ (o : OpenEntry) (s : Seen) (current : s.current ≡ Some o) (places : AttemptsStandInPlace 1 s.attempts) (m : Link) (there_m : numbered s.links link ≡ Some m) (read : read_bytes m ≡ n)
       (is : IsGoawayRow link n s row) where
     -- what is so of the session once an attempt has ended
     ended_by : (k : ℕ) (e : RowEnd) (z : Bool) (q : Option Attempt) → (row == k) ≡ z → numbered s.attempts k ≡ q → (u : Seen) (p : OpenEntry) → u ≡ attempt_ended k e s → IsPassedStill s u

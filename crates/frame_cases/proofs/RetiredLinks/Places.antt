@@ -5,7 +5,7 @@ use Rattle.std.specs.List.{AllByRecursion}
 use Rattle.frame_cases.proofs.RetiredLinks.Shapes.{is_left}
 use Rattle.lb_policy.specs.Table.{is_one_of}
 use Rattle.link_actions.specs.ResponseActions.Laws.{places_of}
-use Rattle.link_actions.specs.Sees.{ArePlaced, by_stream, put_by_stream}
+use Rattle.link_actions.specs.Sees.{AttemptsStandInPlace, by_stream, put_by_stream}
 use Rattle.link_actions.specs.StreamActions.Laws.{is_left_out, left_out}
 use Rattle.session_actions.specs.Links.{stream_number}
 use Rattle.session_actions.specs.Reading.{is_outstanding_on}
@@ -40,7 +40,7 @@ none_by : (p : Attempt → Bool) (x : Attempt) (fs : List Attempt) (n : ℕ) (b 
 none_by p x fs n true off rest = ap (λ (c : Bool). c || is_one_of (places_of fs) n) off ∙ rest
 none_by p x fs n false off rest = rest
 
-none_below : (p : Attempt → Bool) (k n : ℕ) (xs : List Attempt) → ArePlaced k xs → nat_lt n k ≡ true → is_one_of (places_of (filter p xs)) n ≡ false
+none_below : (p : Attempt → Bool) (k n : ℕ) (xs : List Attempt) → AttemptsStandInPlace k xs → nat_lt n k ≡ true → is_one_of (places_of (filter p xs)) n ≡ false
 none_below p k n [] are low = refl
 none_below p k n (x ∷ xs) are low =
     none_by p x (filter p xs) n (p x) (ap (λ (j : ℕ). j == n) are.0 ∙ apart_below n k low) (none_below p (k + 1) n xs are.1 (below_next n k low))
@@ -53,7 +53,7 @@ later_by : (x : Attempt) (fs : List Attempt) (n : ℕ) (b : Bool) → (x.place =
 later_by x fs n true off = ap (λ (c : Bool). c || is_one_of (places_of fs) n) off
 later_by x fs n false off = refl
 
-placed_from : (p : Attempt → Bool) (k i : ℕ) (xs : List Attempt) → ArePlaced k xs → is_one_of (places_of (filter p xs)) (k + i) ≡ holds p (slice_get xs i)
+placed_from : (p : Attempt → Bool) (k i : ℕ) (xs : List Attempt) → AttemptsStandInPlace k xs → is_one_of (places_of (filter p xs)) (k + i) ≡ holds p (slice_get xs i)
 placed_from p k i [] are = refl
 placed_from p k zero (x ∷ xs) are =
     first_by x (filter p xs) (k + 0) (p x) (ap (λ (j : ℕ). j == k + 0) are.0 ∙ same_zero k) (none_below p (k + 1) (k + 0) xs are.1 (below_one k))
@@ -64,7 +64,7 @@ placed_from p k (suc i) (x ∷ xs) are =
 one_more : (i : ℕ) → suc i ≡ 1 + i
 one_more i = omega arith
 
-filtered_at : (p : Attempt → Bool) (xs : List Attempt) (n : ℕ) (a : Attempt) → ArePlaced 1 xs → numbered xs n ≡ Some a → is_one_of (places_of (filter p xs)) n ≡ p a
+filtered_at : (p : Attempt → Bool) (xs : List Attempt) (n : ℕ) (a : Attempt) → AttemptsStandInPlace 1 xs → numbered xs n ≡ Some a → is_one_of (places_of (filter p xs)) n ≡ p a
 filtered_at p xs zero a are at = absurd (cc)
 filtered_at p xs (suc i) a are at = ap (is_one_of (places_of (filter p xs))) (one_more i) ∙ placed_from p 1 i xs are ∙ ap (holds p) at
 
@@ -115,7 +115,7 @@ filter_two p q [] = refl
 filter_two p q (x ∷ xs) = two_by p q x (filter q xs) (filter (λ (y : Attempt). p y && q y) xs) (p x) (q x) refl refl (filter_two p q xs)
 
 -- those that wait, and those that are left out
-module _ (l : Link) (s : Seen) (last : ℕ) (places : ArePlaced 1 s.attempts) where
+module _ (l : Link) (s : Seen) (last : ℕ) (places : AttemptsStandInPlace 1 s.attempts) where
   abbrev with_stream : Attempt → Bool
   with_stream a = is_some a.row.stream && is_outstanding_on l a
 
@@ -174,7 +174,7 @@ each_sorted P [] all = tt
 each_sorted P (a ∷ xs) all = put_each P a (by_stream xs) all.0 (each_sorted P xs all.1)
 
 -- each stands at its place
-there_from : (whole : List Attempt) (k : ℕ) (xs : List Attempt) → ((j : ℕ) → slice_get whole (k + j) ≡ slice_get xs j) → ArePlaced (k + 1) xs
+there_from : (whole : List Attempt) (k : ℕ) (xs : List Attempt) → ((j : ℕ) → slice_get whole (k + j) ≡ slice_get xs j) → AttemptsStandInPlace (k + 1) xs
     → AllByRecursion (λ (a : Attempt). numbered whole a.place ≡ Some a) xs
 there_from whole k [] same are = tt
 there_from whole k (x ∷ xs) same are =
@@ -184,8 +184,8 @@ there_from whole k (x ∷ xs) same are =
       there_from whole (k + 1) xs (λ j. ap (slice_get whole) (let next : k + 1 + j ≡ k + suc j = omega arith in next) ∙ same (suc j)) are.1,
     )
 
-pub each_there : (xs : List Attempt) → ArePlaced 1 xs → AllByRecursion (λ (a : Attempt). numbered xs a.place ≡ Some a) xs
+pub each_there : (xs : List Attempt) → AttemptsStandInPlace 1 xs → AllByRecursion (λ (a : Attempt). numbered xs a.place ≡ Some a) xs
 each_there xs are =
     let o : ℕ = 0 in
     let one : o + 1 ≡ 1 = refl in
-    there_from xs o xs (λ j. ap (slice_get xs) (let none : o + j ≡ j = omega arith in none)) (subst (λ (n : ℕ). ArePlaced n xs) (sym one) are)
+    there_from xs o xs (λ j. ap (slice_get xs) (let none : o + j ≡ j = omega arith in none)) (subst (λ (n : ℕ). AttemptsStandInPlace n xs) (sym one) are)

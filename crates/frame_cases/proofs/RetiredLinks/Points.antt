@@ -11,14 +11,14 @@ use Rattle.attempt_ledger.specs.declared.row.RowEnd.{RowEnd}
 use Rattle.call_cases.proofs.EndsFollow.Steps.{placed_of}
 use Rattle.channel_actions.proofs.Stamps.{counted_at, numbered_map}
 use Rattle.channel_actions.specs.GoingCalls.Going.{CallsGoOn}
-use Rattle.channel_actions.specs.GreetedLinks.Greeted.{AreGreeted}
+use Rattle.channel_actions.specs.PrefacedLinks.Prefaced.{LinksArePrefaced}
 use Rattle.channel_actions.specs.KeptSessions.Kept.{IsKept}
-use Rattle.channel_actions.specs.OwnStreams.Own.{AreOwnStreams}
+use Rattle.channel_actions.specs.OwnStreams.Own.{StreamsAreOwn}
 use Rattle.channel_actions.specs.Points.{IsSameEntry}
 use Rattle.channel_core.specs.Arrivals.{all_ended_on, ended_on}
 use Rattle.channel_core.specs.Books.{has_ended, row_at}
 use Rattle.channel_core.specs.States.{StateSeen}
-use Rattle.channel_core.specs.Steps.{left_behind, stamped_gone, told}
+use Rattle.channel_core.specs.Steps.{left_after, stamped_gone, reported}
 use Rattle.end_cases.proofs.AttemptEnds.LeftLinks.{is_among}
 use Rattle.end_cases.proofs.CutEnds.Ahead.{IsReady}
 use Rattle.end_cases.proofs.CutEnds.LeftCuts.{AreOwned}
@@ -39,7 +39,7 @@ use Rattle.frame_cases.proofs.RetiredLinks.RowsThen.{among_same}
 use Rattle.frame_cases.proofs.RetiredLinks.Shapes.{IsGoawayRow, IsPlainEnd, out_for}
 use Rattle.lb_policy.specs.Table.{is_one_of}
 use Rattle.link_actions.specs.LossActions.Sees.{end_news}
-use Rattle.link_actions.specs.Sees.{ArePlaced}
+use Rattle.link_actions.specs.Sees.{AttemptsStandInPlace}
 use Rattle.session_actions.specs.AttemptEnds.{is_framing, is_reset, outcome_of}
 use Rattle.session_actions.specs.Attempts.{is_outstanding, is_over}
 use Rattle.session_actions.specs.Entries.{entry}
@@ -52,12 +52,12 @@ use Rattle.session_actions.specs.declared.entry.OpenEntry.{OpenEntry}
 use Rattle.session_actions.specs.declared.entry.Stage.TheVariants as stage
 use Rattle.session_actions.specs.declared.seen.Seen.{Seen}
 use Rattle.session_order.proofs.Changed.{none_from}
-use Rattle.session_order.specs.Calm.{IsStill, is_to_end}
+use Rattle.session_order.specs.Quiescent.{IsStill, is_to_end}
 use Rattle.session_order.specs.Lines.{is_line}
 use Rattle.session_order.specs.declared.line.Line.{Line}
 use Rattle.session_order.specs.declared.line.Line.TheVariants as line
 
--- places below the first, and the first itself, are not among those behind it
+-- places below the first, and the first itself, are not among those after it
 above_off : (j k n : ℕ) → nat_lt j n ≡ true → nat_lt n k ≡ true → (k == j) ≡ false
 above_off j k n e f = grind (arith, nat_tests, e, f)
 
@@ -125,8 +125,8 @@ module _ (link : ℕ) (whole : List ℕ) (n : ℕ) (bs : List ℕ) (at moment : 
     pub rising : AreRising es
     pub each : AllByRecursion (IsToEnd s) es
     pub others : (row : ℕ) (b : Attempt) → numbered s.attempts row ≡ Some b → is_one_of (tags es) row ≡ false → is_to_end s b ≡ false
-    pub greeted : AreGreeted s
-    pub streams : AreOwnStreams s
+    pub prefaced : LinksArePrefaced s
+    pub streams : StreamsAreOwn s
     pub runs : RunsRise s
     pub calls : CallsGoOn x
     pub held : AreHeld x
@@ -193,7 +193,7 @@ module _ (link : ℕ) (whole : List ℕ) (n : ℕ) (bs : List ℕ) (at moment : 
     pub kept : IsKept s
     kept = is.agrees.books.kept
 
-    pub places : ArePlaced 1 s.attempts
+    pub places : AttemptsStandInPlace 1 s.attempts
     places = placed_of 1 s.attempts kept.book.places
 
     pub place : a.place ≡ row
@@ -230,7 +230,7 @@ module _ (link : ℕ) (whole : List ℕ) (n : ℕ) (bs : List ℕ) (at moment : 
         ∙ ap (option_map (λ (q : Attempt). q.row)) g.there
 
     abbrev ended_then : StateSeen
-    ended_then = stamped_gone link (told row (news.Ended row e.1) (left_behind link row x))
+    ended_then = stamped_gone link (reported row (news.Ended row e.1) (left_after link row x))
 
     -- it came already
     module _ (f : RowEnd) (over : a.row.ended ≡ Some f) where
@@ -265,7 +265,7 @@ module _ (link : ℕ) (whole : List ℕ) (n : ℕ) (bs : List ℕ) (at moment : 
         rising = is.rising.1;
         each = is.each.1;
         others = λ r b got off. others_by r b (row == r) refl got off;
-        greeted = is.greeted;
+        prefaced = is.prefaced;
         streams = is.streams;
         runs = is.runs;
         calls = is.calls;

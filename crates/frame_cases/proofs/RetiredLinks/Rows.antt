@@ -5,8 +5,8 @@ use Rattle.attempt_ledger.specs.declared.row.RowEnd.{RowEnd}
 use Rattle.end_cases.proofs.AttemptEnds.LeftLinks.{changed_down, places_left}
 use Rattle.end_cases.specs.AttemptEnds.Left.{rows_ended}
 use Rattle.lb_policy.specs.Table.{is_one_of}
-use Rattle.link_actions.specs.ResetActions.Laws.{AreEndedAt, IsEndedIf}
-use Rattle.link_actions.specs.Sees.{ArePlaced}
+use Rattle.link_actions.specs.ResetActions.Laws.{AttemptsAreEndedAt, IsEndedIf}
+use Rattle.link_actions.specs.Sees.{AttemptsStandInPlace}
 use Rattle.session_actions.specs.AttemptEnds.{with_end}
 use Rattle.session_actions.specs.Words.{changed}
 use Rattle.session_actions.specs.declared.attempt.Attempt.{Attempt}
@@ -29,13 +29,13 @@ later_off m k t i e h = grind (arith, nat_tests, e, h)
 here : (m k t : ℕ) → m ≡ k → t + 1 ≡ k + 1 → (m == t) ≡ true
 here m k t e h = grind (arith, nat_tests, e, h)
 
-none_from : (e : RowEnd) (t k : ℕ) (xs : List Attempt) → ArePlaced k xs → t < k → IsOneEnded e t xs xs
+none_from : (e : RowEnd) (t k : ℕ) (xs : List Attempt) → AttemptsStandInPlace k xs → t < k → IsOneEnded e t xs xs
 none_from e t k [] places low = tt
 none_from e t k (x ∷ xs) places low =
     let next : t < k + 1 = omega (arith, low) in
     (sym (ap (λ (b : Bool). one_ended e b x) (away x.place k t places.0 low)), none_from e t (k + 1) xs places.1 next)
 
-one_from : (e : RowEnd) (n k t : ℕ) (xs : List Attempt) → ArePlaced k xs → t + 1 ≡ k + n → IsOneEnded e t xs (changed (with_end e) n xs)
+one_from : (e : RowEnd) (n k t : ℕ) (xs : List Attempt) → AttemptsStandInPlace k xs → t + 1 ≡ k + n → IsOneEnded e t xs (changed (with_end e) n xs)
 one_from e zero k t xs places at = (let low : t < k = omega (arith, at) in none_from e t k xs places low)
 one_from e (suc i) k t [] places at = tt
 one_from e (suc zero) k t (x ∷ xs) places at =
@@ -60,7 +60,7 @@ place_by e a b false is = ap (λ (z : Attempt). z.place) is
 turned : (m n : ℕ) → (m == n) ≡ (n == m)
 turned m n = grind (arith, nat_tests)
 
-one_more : (e : RowEnd) (t : ℕ) (ts : List ℕ) (as_ bs cs : List Attempt) → IsOneEnded e t as_ bs → AreEndedAt ts bs cs → AreEndedAt (t ∷ ts) as_ cs
+one_more : (e : RowEnd) (t : ℕ) (ts : List ℕ) (as_ bs cs : List Attempt) → IsOneEnded e t as_ bs → AttemptsAreEndedAt ts bs cs → AttemptsAreEndedAt (t ∷ ts) as_ cs
 one_more e t ts [] [] [] one are = tt
 one_more e t ts (a ∷ as_) (b ∷ bs) (c ∷ cs) one are =
     let place : b.place ≡ a.place = place_by e a b (a.place == t) one.0 in
@@ -71,11 +71,11 @@ one_more e t ts [] (b ∷ bs) cs one are = absurd one
 one_more e t ts (a ∷ as_) [] cs one are = absurd one
 one_more e t ts (a ∷ as_) (b ∷ bs) [] one are = absurd are
 
-none_ended : (xs : List Attempt) → AreEndedAt [] xs xs
+none_ended : (xs : List Attempt) → AttemptsAreEndedAt [] xs xs
 none_ended [] = tt
 none_ended (x ∷ xs) = (refl, none_ended xs)
 
-pub rows_are_ended : (ends : List (ℕ × RowEnd)) (xs : List Attempt) → ArePlaced 1 xs → AreEndedAt (map (λ (x : ℕ × RowEnd). x.0) ends) xs (rows_ended ends xs)
+pub rows_are_ended : (ends : List (ℕ × RowEnd)) (xs : List Attempt) → AttemptsStandInPlace 1 xs → AttemptsAreEndedAt (map (λ (x : ℕ × RowEnd). x.0) ends) xs (rows_ended ends xs)
 rows_are_ended [] xs places = none_ended xs
 rows_are_ended (x ∷ ends) xs places =
     let ys : List Attempt = changed (with_end x.1) x.0 xs in

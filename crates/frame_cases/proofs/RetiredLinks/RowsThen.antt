@@ -4,7 +4,7 @@ use Rattle.std.proofs.lemmas.Bool.Decides.{nat_tests}
 use Rattle.std.specs.List.{AllByRecursion}
 use Rattle.std.specs.Option.{option_map}
 use Rattle.attempt_ledger.specs.declared.row.RowEnd.{RowEnd}
-use Rattle.channel_actions.specs.LinkFrames.Alike.{AreAlike, IsAlike, Numbers}
+use Rattle.channel_actions.specs.LinkFrames.Alike.{AttemptsAreAlike, IsAlike, Numbers}
 use Rattle.end_cases.proofs.AttemptEnds.LeftLinks.{is_among}
 use Rattle.end_cases.specs.AttemptEnds.Left.{rows_ended}
 use Rattle.link_actions.specs.ResetActions.Laws.{OweAt, OwesIf}
@@ -95,7 +95,7 @@ owe_each code l ts [] (y ∷ ys) long each = absurd (let no : ⊥ = omega (arith
 owe_each code l ts (x ∷ xs) [] long each = absurd (let no : ⊥ = omega (arith, long) in no)
 
 pub alike_each : (touched : Numbers) (s t : Seen) (xs ys : List Attempt) → length ys ≡ length xs
-    → ((i : ℕ) (a b : Attempt) → slice_get xs i ≡ Some a → slice_get ys i ≡ Some b → IsAlike touched s t a b) → AreAlike touched s t xs ys
+    → ((i : ℕ) (a b : Attempt) → slice_get xs i ≡ Some a → slice_get ys i ≡ Some b → IsAlike touched s t a b) → AttemptsAreAlike touched s t xs ys
 alike_each touched s t [] [] long each = tt
 alike_each touched s t (x ∷ xs) (y ∷ ys) long each =
     (each 0 x y refl refl, alike_each touched s t xs ys (let same : length ys ≡ length xs = omega (arith, long) in same) (λ i a b at to. each (suc i) a b at to))

@@ -18,7 +18,7 @@ use Rattle.session_actions.specs.declared.call.Call.{Call}
 use Rattle.session_actions.specs.declared.link.Link.{Link}
 use Rattle.session_actions.specs.declared.response.Outcome.{Outcome}
 use Rattle.session_actions.specs.declared.seen.Seen.{Seen}
-use Rattle.session_order.specs.Calm.{is_to_end}
+use Rattle.session_order.specs.Quiescent.{is_to_end}
 
 abbrev pub is_left : Link → ℕ → Attempt → Bool
 is_left l last a = is_outstanding_on l a && (is_none a.row.stream || is_left_out last a)

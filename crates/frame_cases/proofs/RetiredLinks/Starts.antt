@@ -16,31 +16,31 @@ use Rattle.channel_actions.specs.Links.{lines_in}
 use Rattle.channel_core.specs.Books.{link_at}
 use Rattle.channel_core.specs.States.{StateSeen}
 use Rattle.channel_core.specs.Steps.{sub_of}
-use Rattle.channel_core.specs.Tables.{Heard, heard_in, retired_in}
+use Rattle.channel_core.specs.Tables.{Received, received_in, retired_in}
 use Rattle.channel_core.specs.declared.state.links.LinkSlot.{LinkSlot}
 use Rattle.channel_net.specs.Runs.{Down}
 use Rattle.channel_net.specs.Steps.{NetSeen, net_down}
 use Rattle.end_cases.specs.AttemptEnds.Ahead.{AgreesOffLinks}
 use Rattle.event_cases.proofs.LostLinks.Down.{GoesDown, IsDown, down_next}
-use Rattle.frame_cases.proofs.PassedBytes.Agreeing.{IsToldOff, nothing_came, told_books}
+use Rattle.frame_cases.proofs.PassedBytes.Agreeing.{IsReportedOff, nothing_came, reported_books}
 use Rattle.frame_cases.proofs.PassedBytes.Same.{drained_through}
-use Rattle.frame_cases.proofs.QuietFrames.Heard as quiet
+use Rattle.frame_cases.proofs.QuietFrames.Received as quiet
 use Rattle.frame_cases.proofs.QuietFrames.Lines as lines
 use Rattle.frame_cases.proofs.QuietFrames.ReadStill as read
 use Rattle.frame_cases.proofs.RetiredLinks.Downed.{downed_books}
 use Rattle.frame_cases.proofs.RetiredLinks.Shapes.{AfterGoaway}
 use Rattle.frame_cases.specs.PassedBytes.Laws.{relinked}
-use Rattle.frame_cases.specs.PieceWalks.Points.{IsHearing, coming}
-use Rattle.grpc_link.specs.Links.{Told as Reported}
+use Rattle.frame_cases.specs.PieceWalks.Points.{IsReceiving, coming}
+use Rattle.grpc_link.specs.Links.{Report as Reported}
 use Rattle.h2_frame.specs.Frames.{FrameSeen}
 use Rattle.h2_frame.specs.Numbers.{goaway_type}
 use Rattle.h2_frame.specs.Payloads.{last_stream}
-use Rattle.h2_link.specs.Steps.{told}
+use Rattle.h2_link.specs.Steps.{reported}
 use Rattle.h2_link.specs.Wire.{Wire}
 use Rattle.link_actions.proofs.History.{used_same}
 use Rattle.link_actions.proofs.ResponseActions.Goaways.{goaways_are_reported}
 use Rattle.link_actions.specs.ResponseActions.Laws.{IsRetired, ended_as, left_out_end, seen_at}
-use Rattle.link_actions.specs.Sees.{ArePlaced}
+use Rattle.link_actions.specs.Sees.{AttemptsStandInPlace}
 use Rattle.link_actions.specs.StreamActions.Laws.{left_out}
 use Rattle.session_actions.specs.AttemptEnds.{unsent_end}
 use Rattle.session_actions.specs.Entries.{entry}
@@ -58,7 +58,7 @@ use Rattle.session_actions.specs.declared.link.ReadFrame.{ReadFrame}
 use Rattle.session_actions.specs.declared.policy.PolicyUse.{PolicyUse}
 use Rattle.session_actions.specs.declared.seen.Seen.{Seen}
 use Rattle.session_order.proofs.Changed.{changed_away}
-use Rattle.session_order.specs.Calm as order
+use Rattle.session_order.specs.Quiescent as order
 use Rattle.session_order.specs.Lines.{is_line}
 use Rattle.session_order.specs.Stirs.{stirs}
 use Rattle.session_order.specs.declared.line.Line.{Line}
@@ -68,20 +68,20 @@ or_true : (b : Bool) → (b || true) ≡ true
 or_true true = refl
 or_true false = refl
 
-module _ (link : ℕ) (piece : List ℕ) (x : StateSeen) (o : OpenEntry) (s : Seen) (is : IsHearing link piece x o s) (h : Heard) (r : ReadFrame)
-    (next : next_frame_read link s ≡ Some (action.FrameRead link r)) (hears : heard_in link piece x.links ≡ Some h) (goes : (r.frame.kind == goaway_type) ≡ true)
-    (said : AfterGoaway is.l (read.m link piece x o s is h r next hears) s (read.t link piece x o s is h r next hears) (last_stream r.frame.payload)) where
+module _ (link : ℕ) (piece : List ℕ) (x : StateSeen) (o : OpenEntry) (s : Seen) (is : IsReceiving link piece x o s) (h : Received) (r : ReadFrame)
+    (next : next_frame_read link s ≡ Some (action.FrameRead link r)) (receives : received_in link piece x.links ≡ Some h) (goes : (r.frame.kind == goaway_type) ≡ true)
+    (said : AfterGoaway is.l (read.m link piece x o s is h r next receives) s (read.t link piece x o s is h r next receives) (last_stream r.frame.payload)) where
   abbrev pub l : Link
   l = is.l
 
   abbrev pub m : Link
-  m = read.m link piece x o s is h r next hears
+  m = read.m link piece x o s is h r next receives
 
   abbrev pub t : Seen
-  t = read.t link piece x o s is h r next hears
+  t = read.t link piece x o s is h r next receives
 
   abbrev pub slot : LinkSlot
-  slot = read.slot link piece x o s is h r next hears
+  slot = read.slot link piece x o s is h r next receives
 
   abbrev pub left : List ℕ
   left = drop h.taken piece
@@ -90,10 +90,10 @@ module _ (link : ℕ) (piece : List ℕ) (x : StateSeen) (o : OpenEntry) (s : Se
   frames = owed_for r.frame l s
 
   abbrev f : Link → Link
-  f = read.f link piece x o s is h r next hears
+  f = read.f link piece x o s is h r next receives
 
   abbrev pub out_ : Reported
-  out_ = read.out link piece x o s is h r next hears
+  out_ = read.out link piece x o s is h r next receives
 
   abbrev w : Wire
   w = slot.link.link.wire
@@ -105,43 +105,43 @@ module _ (link : ℕ) (piece : List ℕ) (x : StateSeen) (o : OpenEntry) (s : Se
   h0 = is.agrees
 
   pub own : l.number ≡ link
-  own = read.own link piece x o s is h r next hears
+  own = read.own link piece x o s is h r next receives
 
   pub kept_t : IsKept t
-  kept_t = read.kept_t link piece x o s is h r next hears
+  kept_t = read.kept_t link piece x o s is h r next receives
 
-  pub places : ArePlaced 1 s.attempts
+  pub places : AttemptsStandInPlace 1 s.attempts
   places = placed_of 1 s.attempts h0.kept.book.places
 
   pub there_m : numbered t.links link ≡ Some m
-  there_m = read.there link piece x o s is h r next hears
+  there_m = read.there link piece x o s is h r next receives
 
   pub going_m : m.over ≡ None
-  going_m = (read.shown link piece x o s is h r next hears).unbroken
+  going_m = (read.shown link piece x o s is h r next receives).unbroken
 
   -- what is reported
-  pub retired_ : IsRetired l s w (told w r.frame).wire out_ slot.link.readers last (seen_at r)
+  pub retired_ : IsRetired l s w (reported w r.frame).wire out_ slot.link.readers last (seen_at r)
   retired_ =
-      goaways_are_reported l s w (lines_in l s) slot.link.readers r (read.going link piece x o s is h r next hears).streams
-      (read_so l s slot.link.readers (read.going link piece x o s is h r next hears).readers) (read.come link piece x o s is h r next hears).comes goes
+      goaways_are_reported l s w (lines_in l s) slot.link.readers r (read.going link piece x o s is h r next receives).streams
+      (read_so l s slot.link.readers (read.going link piece x o s is h r next receives).readers) (read.come link piece x o s is h r next receives).comes goes
 
   pub news_are : h.news ≡ map (ended_as left_out_end (seen_at r)) (left_out l s last) ++ map (ended_as unsent_end (seen_at r)) (waiting_on l s) ++ (if is_retiring l then [] else news.Retiring ∷ [])
   news_are =
-      ap (λ (k : Heard). k.news) (read.h_is link piece x o s is h r next hears) ∙ ap (λ (k : Reported). k.news) (read.told_is link piece x o s is h r next hears) ∙ retired_.news
+      ap (λ (k : Received). k.news) (read.h_is link piece x o s is h r next receives) ∙ ap (λ (k : Reported). k.news) (read.reported_is link piece x o s is h r next receives) ∙ retired_.news
 
   -- nothing else follows at once
-  pub calm_s : order.IsCalm o s
-  calm_s = quiet.calm_s link piece x o s is h r next hears
+  pub quiescent_s : order.IsQuiescent o s
+  quiescent_s = quiet.quiescent_s link piece x o s is h r next receives
 
   unstirred : (k : Line) → stirs (action.FrameRead link r) k ≡ false → order.IsStill k o t
-  unstirred k e = quiet.unstirred link piece x o s is h r next hears k e
+  unstirred k e = quiet.unstirred link piece x o s is h r next receives k e
 
   places_s : (i : ℕ) (b : Attempt) → numbered s.attempts i ≡ Some b → b.place ≡ i
-  places_s = read.places link piece x o s is h r next hears
+  places_s = read.places link piece x o s is h r next receives
 
   pub still_t : (k : Line) → is_line k line.WireEnd ≡ false → is_line k line.Link ≡ false → order.IsStill k o t
-  still_t line.Head e g = lines.heads_stay s link l is.here own r frames (Some o) places_s (read.less link piece x o s is h r next hears) said.heads o (calm_s line.Head)
-  still_t line.Response e g = lines.larges_stay s link l is.here own r frames (Some o) places_s (read.less link piece x o s is h r next hears) said.larges o (calm_s line.Response)
+  still_t line.Head e g = lines.heads_stay s link l is.here own r frames (Some o) places_s (read.less link piece x o s is h r next receives) said.heads o (quiescent_s line.Head)
+  still_t line.Response e g = lines.larges_stay s link l is.here own r frames (Some o) places_s (read.less link piece x o s is h r next receives) said.larges o (quiescent_s line.Response)
   still_t line.Link e g = absurd (cc)
   still_t line.WireEnd e g = absurd (cc)
   still_t line.Cut e g = unstirred line.Cut refl
@@ -165,8 +165,8 @@ module _ (link : ℕ) (piece : List ℕ) (x : StateSeen) (o : OpenEntry) (s : Se
   abbrev pub z0 : StateSeen
   z0 = coming link left (relinked (retired_in link h.links) (links_noted t) x)
 
-  told_off : IsToldOff link (coming link piece x) z0 o o s t
-  told_off = record {
+  reported_off : IsReportedOff link (coming link piece x) z0 o o s t
+  reported_off = record {
     state = refl;
     current = is.at.current;
     seen = refl;
@@ -175,13 +175,13 @@ module _ (link : ℕ) (piece : List ℕ) (x : StateSeen) (o : OpenEntry) (s : Se
     drawn = refl;
     kept = kept_t;
     long = refl;
-    heard = λ j d held got there sees. nothing_came x.book.calls s t j d held there (said.came_same d) sees.serves.left;
+    handled = λ j d held got there sees. nothing_came x.book.calls s t j d held there (said.came_same d) sees.serves.left;
     drained_same = drained_through s f link (Some o) (λ stream k. used_same stream k r frames);
     noted = refl;
   }
 
   pub books_t : AgreesOffLinks z0 t
-  books_t = told_books link (coming link piece x) z0 o o s t h0 told_off
+  books_t = reported_books link (coming link piece x) z0 o o s t h0 reported_off
 
   -- it goes down
   pub sub_is : sub_of (link_at z0.book link) ≡ l.sub
@@ -189,7 +189,7 @@ module _ (link : ℕ) (piece : List ℕ) (x : StateSeen) (o : OpenEntry) (s : Se
 
   pub goes_down : GoesDown t.links s.wants (Some o) link z0 o o s
   goes_down = record {
-    calm = calm_s;
+    quiescent = quiescent_s;
     own = is.known.own;
     boards = is.known.early.boards;
     kept_s = h0.kept;
@@ -227,8 +227,8 @@ module _ (link : ℕ) (piece : List ℕ) (x : StateSeen) (o : OpenEntry) (s : Se
 
   pub does : Does those s t1
   does = (
-    read.follows link piece x o s is h r next hears,
-    subst (λ (v : Seen). Does dn.actions v t1) (sym (read.after_is link piece x o s is h r next hears)) dn.does,
+    read.follows link piece x o s is h r next receives,
+    subst (λ (v : Seen). Does dn.actions v t1) (sym (read.after_is link piece x o s is h r next receives)) dn.does,
   )
 
   pub entry_same : entry t1 ≡ entry t

@@ -10,7 +10,7 @@ use Rattle.attempt_ledger.specs.declared.row.Placed.{Placed}
 use Rattle.attempt_ledger.specs.declared.row.RowEnd.{RowEnd}
 use Rattle.call_actions.specs.Laws.{IsEnding, news_of}
 use Rattle.channel_actions.proofs.Gone.{all_numbered, gone_by, sub_noted}
-use Rattle.channel_actions.proofs.Links.Greeted.Along.{greeted_along}
+use Rattle.channel_actions.proofs.Links.Prefaced.Along.{prefaced_along}
 use Rattle.channel_actions.proofs.Streams.Own.Along.{streams_along}
 use Rattle.channel_actions.proofs.Refusing.{none_numbered}
 use Rattle.channel_actions.proofs.Stamps.{counted_at}
@@ -26,7 +26,7 @@ use Rattle.end_cases.proofs.CutEnds.LeftNext.{first_ends}
 use Rattle.end_cases.specs.AttemptEnds.Ahead.{AgreesOffLinks, HasLinkAhead, LinksAhead}
 use Rattle.end_cases.specs.AttemptEnds.Ends.{EndNext, HasEnded, ended_in, gone_with}
 use Rattle.end_cases.specs.AttemptEnds.Laws.{EndsStayHeld, OneAttemptEnds}
-use Rattle.end_cases.specs.AttemptEnds.Left.{AreThere, all_left}
+use Rattle.end_cases.specs.AttemptEnds.Left.{AttemptsAreThere, all_left}
 use Rattle.event_cases.proofs.LostLinks.After.{before, outcome_same}
 use Rattle.event_cases.proofs.LostLinks.Ends.{before_end, lives_by}
 use Rattle.event_cases.proofs.LostLinks.Walk.{rises}
@@ -36,13 +36,13 @@ use Rattle.event_cases.specs.PassedAtOnce.Passed.{HasStream, IsPassedStill}
 use Rattle.frame_cases.proofs.BrokenLinks.Waits.{resets_wait, sooner_by, waits_late}
 use Rattle.frame_cases.proofs.EndedFrames.KeptSlots.{ended_keeps_slots}
 use Rattle.frame_cases.proofs.EndedFrames.OneEnd.{IsLeft, left_in}
-use Rattle.frame_cases.proofs.EndedFrames.Told.{ended_same}
+use Rattle.frame_cases.proofs.EndedFrames.Report.{ended_same}
 use Rattle.frame_cases.proofs.PieceWalks.Unread.{IsUnread, unread_passed, unread_stays}
 use Rattle.frame_cases.proofs.RetiredLinks.Ahead.{plain_framing, plain_reset}
 use Rattle.frame_cases.proofs.RetiredLinks.Alike.{plain_alike}
 use Rattle.frame_cases.proofs.RetiredLinks.Ends.{owed_ends}
 use Rattle.frame_cases.proofs.RetiredLinks.Firsts.{any_there, either, entry_goes, first_gives, low_self, no_action, none_by, none_of, not_end, off_last, over_by, second, some_call, uncut_by, unsent_by}
-use Rattle.frame_cases.proofs.RetiredLinks.Going.{HeardGoesOn, ended_goes}
+use Rattle.frame_cases.proofs.RetiredLinks.Going.{ReceivedGoesOn, ended_goes}
 use Rattle.frame_cases.proofs.RetiredLinks.Meant.{goaway_rows_stay}
 use Rattle.frame_cases.proofs.RetiredLinks.News.{tags}
 use Rattle.frame_cases.proofs.RetiredLinks.Points as points
@@ -70,14 +70,14 @@ use Rattle.session_actions.specs.declared.link.Link.{Link}
 use Rattle.session_actions.specs.declared.link.LinkOver.{LinkOver}
 use Rattle.session_actions.specs.declared.response.Outcome.{Outcome}
 use Rattle.session_actions.specs.declared.seen.Seen.{Seen}
-use Rattle.session_order.proofs.Calms.{first_line_gives}
+use Rattle.session_order.proofs.Quiescence.{first_line_gives}
 use Rattle.session_order.proofs.Changed.{changed_here, passes_not}
-use Rattle.session_order.specs.Calm.{IsStill, is_to_cut, is_to_end}
+use Rattle.session_order.specs.Quiescent.{IsStill, is_to_cut, is_to_end}
 use Rattle.session_order.specs.Lines.{is_line}
 use Rattle.session_order.specs.declared.line.Line.{Line}
 use Rattle.session_order.specs.declared.line.Line.TheVariants as line
 
-module _ (link : ℕ) (whole : List ℕ) (n : ℕ) (bs : List ℕ) (at moment : ℕ) (within : n ≤ length bs) (ends : OneAttemptEnds) (stays : EndsStayHeld) (heard : HeardGoesOn)
+module _ (link : ℕ) (whole : List ℕ) (n : ℕ) (bs : List ℕ) (at moment : ℕ) (within : n ≤ length bs) (ends : OneAttemptEnds) (stays : EndsStayHeld) (handled : ReceivedGoesOn)
     (e : ℕ × EndNews) (es : List (ℕ × EndNews)) (x : StateSeen) (o : OpenEntry) (s : Seen) (is : GoawayGoesOn link whole n bs at moment (e ∷ es) x o s)
     (going : (points.a link whole n bs at moment e es x o s is).row.ended ≡ None) where
   abbrev row : ℕ
@@ -220,7 +220,7 @@ module _ (link : ℕ) (whole : List ℕ) (n : ℕ) (bs : List ℕ) (at moment : 
       (plain_alike at n (points.d link whole n bs at moment e es x o s is) end s (points.plain_d link whole n bs at moment e es x o s is) plain_e) (link ∷ []) x
       (points.links_s link whole n bs at moment e es x o s is)
 
-  all_there : (ks : List (ℕ × EndNews)) → AllByRecursion (IsToEnd link whole n bs at moment s) ks → AreThere (owed_ends at moment ks) s
+  all_there : (ks : List (ℕ × EndNews)) → AllByRecursion (IsToEnd link whole n bs at moment s) ks → AttemptsAreThere (owed_ends at moment ks) s
   all_there [] all = refl
   all_there (k ∷ ks) all =
       ap (λ (b : Bool). b && list_all (λ (y : ℕ × RowEnd). nat_le y.0 (length s.attempts)) (owed_ends at moment ks)) (within_list k.0 s.attempts all.0.row.attempt all.0.row.there)
@@ -415,9 +415,9 @@ module _ (link : ℕ) (whole : List ℕ) (n : ℕ) (bs : List ℕ) (at moment : 
     rising = is.rising.1;
     each = all_then es is.each.1;
     others = λ r b got off. other_by r b (is_outstanding b) got refl off;
-    greeted = greeted_along those s t kept is.greeted he.does;
-    streams = streams_along those s t kept is.greeted is.streams he.does;
+    prefaced = prefaced_along those s t kept is.prefaced he.does;
+    streams = streams_along those s t kept is.prefaced is.streams he.does;
     runs = rises those s t kept is.runs he.does;
-    calls = ended_goes heard a (news_of a out s) x is.calls;
+    calls = ended_goes handled a (news_of a out s) x is.calls;
     held = stays a (news_of a out s) x is.held;
   }

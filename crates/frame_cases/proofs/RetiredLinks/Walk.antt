@@ -8,13 +8,13 @@ use Rattle.channel_core.specs.States.{StateSeen}
 use Rattle.end_cases.specs.AttemptEnds.Ahead.{AgreesAhead}
 use Rattle.end_cases.specs.AttemptEnds.Laws.{EndsStayHeld, OneAttemptEnds}
 use Rattle.event_cases.proofs.PassedAtOnce.Acts.{passed_then}
-use Rattle.frame_cases.proofs.RetiredLinks.Going.{HeardGoesOn}
+use Rattle.frame_cases.proofs.RetiredLinks.Going.{ReceivedGoesOn}
 use Rattle.frame_cases.proofs.RetiredLinks.Points.{GoawayGoesOn, HasRetired, a, over_next, retired_now, same_x}
 use Rattle.frame_cases.proofs.RetiredLinks.Step as step
 use Rattle.session_actions.specs.declared.entry.OpenEntry.{OpenEntry}
 use Rattle.session_actions.specs.declared.seen.Seen.{Seen}
 
-module _ (link : ℕ) (whole : List ℕ) (n : ℕ) (bs : List ℕ) (at moment : ℕ) (within : n ≤ length bs) (ends : OneAttemptEnds) (stays : EndsStayHeld) (heard : HeardGoesOn) where
+module _ (link : ℕ) (whole : List ℕ) (n : ℕ) (bs : List ℕ) (at moment : ℕ) (within : n ≤ length bs) (ends : OneAttemptEnds) (stays : EndsStayHeld) (handled : ReceivedGoesOn) where
   -- one came already
   passed_over : (e : ℕ × EndNews) (es : List (ℕ × EndNews)) (x : StateSeen) (o : OpenEntry) (s : Seen) → ended_on link e.0 e.1 x ≡ x → HasRetired link whole n bs at moment es x o s
       → HasRetired link whole n bs at moment (e ∷ es) x o s
@@ -38,18 +38,18 @@ module _ (link : ℕ) (whole : List ℕ) (n : ℕ) (bs : List ℕ) (at moment : 
   module _ (e : ℕ × EndNews) (es : List (ℕ × EndNews)) (x : StateSeen) (o : OpenEntry) (s : Seen) (is : GoawayGoesOn link whole n bs at moment (e ∷ es) x o s)
       (going : (a link whole n bs at moment e es x o s is).row.ended ≡ None) where
     abbrev y : StateSeen
-    y = step.y link whole n bs at moment within ends stays heard e es x o s is going
+    y = step.y link whole n bs at moment within ends stays handled e es x o s is going
 
     abbrev p : OpenEntry
-    p = step.p link whole n bs at moment within ends stays heard e es x o s is going
+    p = step.p link whole n bs at moment within ends stays handled e es x o s is going
 
     abbrev t : Seen
-    t = step.t link whole n bs at moment within ends stays heard e es x o s is going
+    t = step.t link whole n bs at moment within ends stays handled e es x o s is going
 
     joined : HasRetired link whole n bs at moment es y p t → HasRetired link whole n bs at moment (e ∷ es) x o s
     joined k =
-        let he = step.he link whole n bs at moment within ends stays heard e es x o s is going in
-        let those = step.those link whole n bs at moment within ends stays heard e es x o s is going in
+        let he = step.he link whole n bs at moment within ends stays handled e es x o s is going in
+        let those = step.those link whole n bs at moment within ends stays handled e es x o s is going in
         record {
           actions = those ++ k.actions;
           seen = k.seen;
@@ -67,10 +67,10 @@ module _ (link : ℕ) (whole : List ℕ) (n : ℕ) (bs : List ℕ) (at moment : 
           reply = k.reply ∙ he.reply;
           turn = k.turn ∙ he.turn;
           current = k.current;
-          passed = passed_then s t k.seen (step.passed link whole n bs at moment within ends stays heard e es x o s is going) k.passed;
+          passed = passed_then s t k.seen (step.passed link whole n bs at moment within ends stays handled e es x o s is going) k.passed;
           still = k.still;
           agrees = subst (λ (z : StateSeen). AgreesAhead [] (link ∷ []) (all_ended_on link es z) k.seen)
-              (sym (step.ended_is link whole n bs at moment within ends stays heard e es x o s is going)) k.agrees;
+              (sym (step.ended_is link whole n bs at moment within ends stays handled e es x o s is going)) k.agrees;
         }
 
   first_by : (e : ℕ × EndNews) (es : List (ℕ × EndNews)) (x : StateSeen) (o : OpenEntry) (s : Seen) (is : GoawayGoesOn link whole n bs at moment (e ∷ es) x o s) (q : Option RowEnd)
@@ -79,7 +79,7 @@ module _ (link : ℕ) (whole : List ℕ) (n : ℕ) (bs : List ℕ) (at moment : 
       → HasRetired link whole n bs at moment (e ∷ es) x o s
   first_by e es x o s is None going rest =
       joined e es x o s is going
-      (rest (y e es x o s is going) (p e es x o s is going) (t e es x o s is going) (step.goes_next link whole n bs at moment within ends stays heard e es x o s is going))
+      (rest (y e es x o s is going) (p e es x o s is going) (t e es x o s is going) (step.goes_next link whole n bs at moment within ends stays handled e es x o s is going))
   first_by e es x o s is (Some f) over rest =
       passed_over e es x o s (same_x link whole n bs at moment e es x o s is f over) (rest x o s (over_next link whole n bs at moment e es x o s is f over))
 

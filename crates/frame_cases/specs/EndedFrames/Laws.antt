@@ -5,7 +5,7 @@
 -- Status, with UNAVAILABLE; the retry is due after its wait; no stream is reset.
 use Rattle.end_cases.specs.AttemptEnds.Laws.{OneAttemptEnds}
 use Rattle.frame_cases.specs.FrameKinds.Laws.{Ends, IsOfKind}
-use Rattle.frame_cases.specs.PieceWalks.Laws.{HeardOf}
+use Rattle.frame_cases.specs.PieceWalks.Laws.{ReceivedOf}
 
-abbrev pub EndedFramesAreHeard : Type 0
-EndedFramesAreHeard = OneAttemptEnds → HeardOf (IsOfKind Ends)
+abbrev pub EndedFramesAreReceived : Type 0
+EndedFramesAreReceived = OneAttemptEnds → ReceivedOf (IsOfKind Ends)

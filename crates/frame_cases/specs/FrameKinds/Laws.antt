@@ -1,4 +1,4 @@
--- Frames by what the link reports of them. These are all kinds, so where each is heard, every frame is.
+-- Frames by what the link reports of them. These are all kinds, so where each is handled, every frame is.
 -- Example: DATA with END_STREAM after a head completes the message `hi`. The link reports the message, and the end UNKNOWN: a frame that ends an attempt.
 -- The laws, in the order of this file:
 -- 1. The kinds of frames.
@@ -8,8 +8,8 @@ use Rattle.std.specs.List.{list_any}
 use Rattle.std.specs.Prelude.{Bool, List, false, if◌then◌else◌, true, ◌==◌, ◌≡◌, ℕ}
 use Rattle.attempt_ledger.specs.declared.news.News.{News}
 use Rattle.attempt_ledger.specs.declared.news.News.TheVariants as news
-use Rattle.channel_core.specs.Tables.{Heard}
-use Rattle.frame_cases.specs.PieceWalks.Laws.{FramesAreHeard, HeardOf}
+use Rattle.channel_core.specs.Tables.{Received}
+use Rattle.frame_cases.specs.PieceWalks.Laws.{FramesAreReceived, ReceivedOf}
 use Rattle.h2_frame.specs.Numbers.{goaway_type}
 use Rattle.session_actions.specs.declared.action.Action.{Action}
 use Rattle.session_actions.specs.declared.action.Action.TheVariants as action
@@ -44,7 +44,7 @@ pub data FrameKind : Type 0 where
   Large : FrameKind
   Heads : FrameKind
   Messages : FrameKind
-  Greets : FrameKind
+  Prefaces : FrameKind
   Quiet : FrameKind
 
 abbrev pub kind_of : List News → FrameKind
@@ -53,45 +53,45 @@ kind_of ns =
     else if list_any is_large ns then Large
     else if list_any is_head ns then Heads
     else if list_any is_message ns then Messages
-    else if list_any is_ready ns then Greets
+    else if list_any is_ready ns then Prefaces
     else Quiet
 
 -- GOAWAY apart, which may end several attempts
-pub record IsOfKind (kind : FrameKind) (link : ℕ) (s : Seen) (a : Action) (h : Heard) : Type 0 where
+pub record IsOfKind (kind : FrameKind) (link : ℕ) (s : Seen) (a : Action) (h : Received) : Type 0 where
   pub frame : ReadFrame
   pub is : a ≡ action.FrameRead link frame
   pub stays : (frame.frame.kind == goaway_type) ≡ false
   pub kind_is : kind_of h.news ≡ kind
 
-pub record IsGoaway (link : ℕ) (s : Seen) (a : Action) (h : Heard) : Type 0 where
+pub record IsGoaway (link : ℕ) (s : Seen) (a : Action) (h : Received) : Type 0 where
   pub frame : ReadFrame
   pub is : a ≡ action.FrameRead link frame
   pub goes : (frame.frame.kind == goaway_type) ≡ true
 
 -- the attempt of the stream ends by its response, and its call goes on, is retried or ends (gRPC over HTTP/2, "Responses" and "Errors"; gRFC A6)
-abbrev pub EndsAreHeard : Type 0
-EndsAreHeard = HeardOf (IsOfKind Ends)
+abbrev pub EndsAreReceived : Type 0
+EndsAreReceived = ReceivedOf (IsOfKind Ends)
 
 -- a message that is longer than allowed ends its call (gRPC over HTTP/2, "Length-Prefixed-Message")
-abbrev pub LargeMessagesAreHeard : Type 0
-LargeMessagesAreHeard = HeardOf (IsOfKind Large)
+abbrev pub LargeMessagesAreReceived : Type 0
+LargeMessagesAreReceived = ReceivedOf (IsOfKind Large)
 
 -- a head commits its call, and its other attempts are cut off (gRFC A6, "When Retries are Valid")
-abbrev pub HeadsAreHeard : Type 0
-HeadsAreHeard = HeardOf (IsOfKind Heads)
+abbrev pub HeadsAreReceived : Type 0
+HeadsAreReceived = ReceivedOf (IsOfKind Heads)
 
 -- messages come for the application
-abbrev pub MessagesAreHeard : Type 0
-MessagesAreHeard = HeardOf (IsOfKind Messages)
+abbrev pub MessagesAreReceived : Type 0
+MessagesAreReceived = ReceivedOf (IsOfKind Messages)
 
 -- the server's connection preface: the subchannel of the link becomes READY (RFC 9113, section 3.4; "gRPC Connectivity Semantics and API")
-abbrev pub GreetingsAreHeard : Type 0
-GreetingsAreHeard = HeardOf (IsOfKind Greets)
+abbrev pub PrefacesAreReceived : Type 0
+PrefacesAreReceived = ReceivedOf (IsOfKind Prefaces)
 
 -- GOAWAY: attempts whose streams it leaves out end, and those that wait for a stream, and the link takes no further attempt (RFC 9113, section 6.8)
-abbrev pub GoawaysAreHeard : Type 0
-GoawaysAreHeard = HeardOf IsGoaway
+abbrev pub GoawaysAreReceived : Type 0
+GoawaysAreReceived = ReceivedOf IsGoaway
 
 -- these are all
 abbrev pub FramesByKinds : Type 0
-FramesByKinds = EndsAreHeard → LargeMessagesAreHeard → HeadsAreHeard → MessagesAreHeard → GreetingsAreHeard → GoawaysAreHeard → FramesAreHeard
+FramesByKinds = EndsAreReceived → LargeMessagesAreReceived → HeadsAreReceived → MessagesAreReceived → PrefacesAreReceived → GoawaysAreReceived → FramesAreReceived

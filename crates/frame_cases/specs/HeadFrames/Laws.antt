@@ -1,7 +1,7 @@
 -- Frames that bring the head of a response, and neither its end nor a message that is too long: the last frame of a header block (gRPC over HTTP/2, "Responses").
 -- Example: the hedged attempts 1, 2 and 3 of call 1 are on the streams 1, 3 and 5 of a link. HEADERS with `:status` 200 and `content-type` application/grpc come on
 -- stream 3: a head came of the response to attempt 2, and nothing of the other two. So the call is committed to attempt 2, and the other two are cut off.
--- What is reported stands here; that channel and session agree after it is `HeadsAreHeard` of `frame_kinds`.
+-- What is reported stands here; that channel and session agree after it is `HeadsAreReceived` of `frame_kinds`.
 use Rattle.std.specs.List.{list_all}
 use Rattle.std.specs.Prelude.{List, None, Some, [], false, true, ◌==◌, ◌∷◌, ◌≡◌, ℕ}
 use Rattle.attempt_ledger.specs.declared.news.News.{News}
@@ -14,7 +14,7 @@ use Rattle.h2_frame.specs.Numbers.{goaway_type}
 use Rattle.h2_link.specs.Feeds.{Line}
 use Rattle.h2_link.specs.Wire.{Wire}
 use Rattle.link_actions.specs.ResponseActions.Gained.{is_listed_fairly}
-use Rattle.link_actions.specs.ResponseActions.Laws.{reported, seen_at}
+use Rattle.link_actions.specs.ResponseActions.Laws.{frame_reported, seen_at}
 use Rattle.link_actions.specs.ResponseActions.Readers.{SeesReaders}
 use Rattle.link_actions.specs.StreamActions.Laws.{Comes, IsOn, read_link}
 use Rattle.link_actions.specs.StreamActions.Sees.{SeesStreams, response_of}
@@ -52,6 +52,6 @@ pub record IsReadWithHead (l m : Link) (s t : Seen) (n seen : ℕ) (ns : List Ne
 abbrev pub HeadsComeAlone : Type 0
 HeadsComeAlone =
     (l : Link) (s : Seen) (w : Wire) (g : ℕ → Line) (readers : List TagReader) (r : ReadFrame) → SeesStreams l s w g → SeesReaders l s readers → Comes l w r → l.over ≡ None
-    → list_all is_listed_fairly l.traffic ≡ true → (r.frame.kind == goaway_type) ≡ false → kind_of (reported w readers r.frame).news ≡ Heads
-    → IsReadWithHead l (read_link r l s) s (frame_read l.number r s) r.frame.stream (seen_at r) (reported w readers r.frame).news
-    (reported w readers r.frame).link.link.wire g (reported w readers r.frame).link.readers
+    → list_all is_listed_fairly l.traffic ≡ true → (r.frame.kind == goaway_type) ≡ false → kind_of (frame_reported w readers r.frame).news ≡ Heads
+    → IsReadWithHead l (read_link r l s) s (frame_read l.number r s) r.frame.stream (seen_at r) (frame_reported w readers r.frame).news
+    (frame_reported w readers r.frame).link.link.wire g (frame_reported w readers r.frame).link.readers

@@ -12,7 +12,7 @@ use Rattle.h2_frame.specs.Numbers.{goaway_type}
 use Rattle.h2_link.specs.Feeds.{Line}
 use Rattle.h2_link.specs.Wire.{Wire}
 use Rattle.link_actions.specs.ResponseActions.Gained.{is_listed_fairly}
-use Rattle.link_actions.specs.ResponseActions.Laws.{reported, seen_at}
+use Rattle.link_actions.specs.ResponseActions.Laws.{frame_reported, seen_at}
 use Rattle.link_actions.specs.ResponseActions.Readers.{SeesReaders}
 use Rattle.link_actions.specs.StreamActions.Laws.{Comes, IsOn, read_link}
 use Rattle.link_actions.specs.StreamActions.Sees.{SeesStreams, response_of}
@@ -47,6 +47,6 @@ pub record IsReadWithMessages (l m : Link) (s t : Seen) (n seen : ℕ) (ns : Lis
 abbrev pub MessagesComeAlone : Type 0
 MessagesComeAlone =
     (l : Link) (s : Seen) (w : Wire) (g : ℕ → Line) (readers : List TagReader) (r : ReadFrame) → SeesStreams l s w g → SeesReaders l s readers → Comes l w r → l.over ≡ None
-    → list_all is_listed_fairly l.traffic ≡ true → (r.frame.kind == goaway_type) ≡ false → kind_of (reported w readers r.frame).news ≡ Messages
-    → IsReadWithMessages l (read_link r l s) s (frame_read l.number r s) r.frame.stream (seen_at r) (reported w readers r.frame).news
-    (reported w readers r.frame).link.link.wire g (reported w readers r.frame).link.readers
+    → list_all is_listed_fairly l.traffic ≡ true → (r.frame.kind == goaway_type) ≡ false → kind_of (frame_reported w readers r.frame).news ≡ Messages
+    → IsReadWithMessages l (read_link r l s) s (frame_read l.number r s) r.frame.stream (seen_at r) (frame_reported w readers r.frame).news
+    (frame_reported w readers r.frame).link.link.wire g (frame_reported w readers r.frame).link.readers

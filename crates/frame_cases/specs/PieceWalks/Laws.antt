@@ -7,10 +7,10 @@ use Rattle.std.specs.Prelude.{List, None, Some, [], drop, length, ◌+◌, ◌<�
 use Rattle.channel_actions.specs.Known.{IsKnown}
 use Rattle.channel_actions.specs.Stages.{EventsAnswered}
 use Rattle.channel_core.specs.Applying as channel
-use Rattle.channel_core.specs.Arrivals.{frame_heard}
+use Rattle.channel_core.specs.Arrivals.{frame_received}
 use Rattle.channel_core.specs.States.{StateSeen}
-use Rattle.channel_core.specs.Tables.{Heard, heard_in}
-use Rattle.frame_cases.specs.PieceWalks.Points.{HasHeard, IsHearing, IsReadOut}
+use Rattle.channel_core.specs.Tables.{Received, received_in}
+use Rattle.frame_cases.specs.PieceWalks.Points.{HasReceived, IsReceiving, IsReadOut}
 use Rattle.grpc_base.specs.declared.event.Event.{Event}
 use Rattle.grpc_base.specs.declared.event.Event.TheVariants as event
 use Rattle.session_actions.specs.Laws.{posted_in}
@@ -24,31 +24,31 @@ use Rattle.session_actions.specs.declared.link.Link.{Link}
 use Rattle.session_actions.specs.declared.link.ReadFrame.{ReadFrame}
 use Rattle.session_actions.specs.declared.seen.Seen.{Seen}
 
--- what the bytes show next is read in the session, and heard by the channel; from there the actions that follow lead to the next point. By what it is
-abbrev pub HeardOf : (ℕ → Seen → Action → Heard → Type 0) → Type 0
-HeardOf Case =
-    (link : ℕ) (piece : List ℕ) (x : StateSeen) (o : OpenEntry) (s : Seen) (a : Action) (h : Heard) → IsHearing link piece x o s → next_frame_read link s ≡ Some a
-    → heard_in link piece x.links ≡ Some h → Case link s a h → HasHeard link (drop h.taken piece) (frame_heard link h x) o s
+-- what the bytes show next is read in the session, and received by the channel; from there the actions that follow lead to the next point. By what it is
+abbrev pub ReceivedOf : (ℕ → Seen → Action → Received → Type 0) → Type 0
+ReceivedOf Case =
+    (link : ℕ) (piece : List ℕ) (x : StateSeen) (o : OpenEntry) (s : Seen) (a : Action) (h : Received) → IsReceiving link piece x o s → next_frame_read link s ≡ Some a
+    → received_in link piece x.links ≡ Some h → Case link s a h → HasReceived link (drop h.taken piece) (frame_received link h x) o s
 
 -- a frame
-abbrev pub FramesAreHeard : Type 0
-FramesAreHeard = HeardOf (λ link s a h. (r : ReadFrame) × (a ≡ action.FrameRead link r))
+abbrev pub FramesAreReceived : Type 0
+FramesAreReceived = ReceivedOf (λ link s a h. (r : ReadFrame) × (a ≡ action.FrameRead link r))
 
 -- bytes that break the link (RFC 9113, section 5.4.1), where fewer than 2^64 - 1 attempts were made
-pub record IsBreak (link : ℕ) (s : Seen) (a : Action) (h : Heard) : Type 0 where
+pub record IsBreak (link : ℕ) (s : Seen) (a : Action) (h : Received) : Type 0 where
   pub code : ℕ
   pub is : a ≡ action.LinkBreaks link code
   pub few : length s.attempts < 18446744073709551615
 
-abbrev pub BreaksAreHeard : Type 0
-BreaksAreHeard = HeardOf IsBreak
+abbrev pub BreaksAreReceived : Type 0
+BreaksAreReceived = ReceivedOf IsBreak
 
--- what is known stays known along a frame: of the channel, whatever it hears; of the session, along its actions
+-- what is known stays known along a frame: of the channel, whatever it receives; of the session, along its actions
 abbrev pub KnownAlongFrames : Type 0
 KnownAlongFrames =
-    (link : ℕ) (piece : List ℕ) (x : StateSeen) (o : OpenEntry) (s t : Seen) (a : Action) (h : Heard) (actions : List Action) → IsHearing link piece x o s
-    → next_frame_read link s ≡ Some a → heard_in link piece x.links ≡ Some h → Does actions s t → posted_in actions ≡ [] → t.entries ≡ s.entries
-    → IsKnown (frame_heard link h x) t
+    (link : ℕ) (piece : List ℕ) (x : StateSeen) (o : OpenEntry) (s t : Seen) (a : Action) (h : Received) (actions : List Action) → IsReceiving link piece x o s
+    → next_frame_read link s ≡ Some a → received_in link piece x.links ≡ Some h → Does actions s t → posted_in actions ≡ [] → t.entries ≡ s.entries
+    → IsKnown (frame_received link h x) t
 
 -- a piece arrives on a link that is not gone. What was not read of it shows no whole frame, and fewer than 2^64 bytes came on it, as in every session whose journal is
 -- below its limit
@@ -61,5 +61,5 @@ pub record IsArrival (e : Event) (x : StateSeen) (s : Seen) : Type 0 where
   pub few : (l : Link) → numbered s.links link ≡ Some l → length l.received + length piece ≤ 18446744073709551615
   pub known : IsKnown x s
 
-abbrev pub PiecesAreHeard : Type 0
-PiecesAreHeard = FramesAreHeard → BreaksAreHeard → KnownAlongFrames → EventsAnswered IsArrival
+abbrev pub PiecesAreReceived : Type 0
+PiecesAreReceived = FramesAreReceived → BreaksAreReceived → KnownAlongFrames → EventsAnswered IsArrival

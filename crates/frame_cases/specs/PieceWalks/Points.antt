@@ -1,12 +1,12 @@
 -- A piece of bytes arrives on a link. A session has all of it at once (BytesArrive), and reads it one frame after the other; the channel takes of the piece what shows
--- the next frame, hears it with all that follows from it, and then goes on with the rest. So between two frames the two agree as if the link of the channel kept the
--- bytes that are still to be heard (RFC 9113, section 4.1).
+-- the next frame, receives it with all that follows from it, and then goes on with the rest. So between two frames the two agree as if the link of the channel kept the
+-- bytes that are still to be handled (RFC 9113, section 4.1).
 -- Example: of two frames of 17 bytes and 3 bytes of a third, which come in one piece, the channel agrees as if its link kept 37 bytes after BytesArrive, 20 after the
 -- first frame, and 3 after the second. These 3 it keeps.
 use Rattle.std.specs.List.{list_all}
 use Rattle.std.specs.Prelude.{List, None, Some, [], drop, length, true, ◌++◌, ◌≡◌, ◌≤◌, ℕ}
 use Rattle.channel_actions.specs.Agrees.{Agrees}
-use Rattle.channel_actions.specs.Calm.{IsAt}
+use Rattle.channel_actions.specs.Quiescent.{IsAt}
 use Rattle.channel_actions.specs.Known.{IsKnown}
 use Rattle.channel_actions.specs.Points.{IsSameEntry}
 use Rattle.channel_core.specs.States.{StateSeen}
@@ -43,9 +43,9 @@ pub record IsReadOut (l : Link) : Type 0 where
   pub fair : IsReadFairly l
   pub part : l.over ≡ None → reading_of (drop (read_bytes l) l.received) ≡ Partial
 
--- a point between two frames: these bytes of the piece are still to be heard, and nothing follows at once. (A count of 64 bits stays at its last number, which no
+-- a point between two frames: these bytes of the piece are still to be handled, and nothing follows at once. (A count of 64 bits stays at its last number, which no
 -- journal reaches.)
-pub record IsHearing (link : ℕ) (piece : List ℕ) (x : StateSeen) (o : OpenEntry) (s : Seen) : Type 0 where
+pub record IsReceiving (link : ℕ) (piece : List ℕ) (x : StateSeen) (o : OpenEntry) (s : Seen) : Type 0 where
   pub at : IsAt stage.Replied o s
   pub whole : List ℕ
   pub event_is : o.event ≡ event.Arrived link whole
@@ -60,8 +60,8 @@ pub record IsHearing (link : ℕ) (piece : List ℕ) (x : StateSeen) (o : OpenEn
   pub agrees : Agrees (coming link piece x) s
   pub known : IsKnown x s
 
--- one frame was heard, with all that follows from it: these bytes are left of the piece, unless the link is over
-pub record HasHeard (link : ℕ) (piece : List ℕ) (y : StateSeen) (o : OpenEntry) (s : Seen) : Type 0 where
+-- one frame was handled, with all that follows from it: these bytes are left of the piece, unless the link is over
+pub record HasReceived (link : ℕ) (piece : List ℕ) (y : StateSeen) (o : OpenEntry) (s : Seen) : Type 0 where
   pub actions : List Action
   pub seen : Seen
   pub entry : OpenEntry

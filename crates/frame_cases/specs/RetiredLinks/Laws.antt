@@ -4,7 +4,7 @@
 -- its subchannel; AttemptEnds 2, unseen by the server, and AttemptMade 4, which retries it transparently; AttemptEnds 3, and AttemptMade 5; StreamReset 2 and
 -- StreamReset 3, with CANCEL. Attempt 1 goes on.
 use Rattle.end_cases.specs.AttemptEnds.Laws.{OneAttemptEnds}
-use Rattle.frame_cases.specs.FrameKinds.Laws.{GoawaysAreHeard}
+use Rattle.frame_cases.specs.FrameKinds.Laws.{GoawaysAreReceived}
 
-abbrev pub RetiredLinksAreHeard : Type 0
-RetiredLinksAreHeard = OneAttemptEnds → GoawaysAreHeard
+abbrev pub RetiredLinksAreReceived : Type 0
+RetiredLinksAreReceived = OneAttemptEnds → GoawaysAreReceived

@@ -7,7 +7,7 @@ use Rattle.attempt_ledger.specs.declared.row.Placed.{Placed}
 use Rattle.attempt_ledger.specs.declared.row.RowEnd.{RowEnd}
 use Rattle.grpc_base.specs.ErrorCodes.{cancel}
 use Rattle.link_actions.proofs.Lists.{if_true, on_if}
-use Rattle.link_actions.specs.Sees.{ArePlaced}
+use Rattle.link_actions.specs.Sees.{AttemptsStandInPlace}
 use Rattle.link_actions.specs.LossActions.Laws.{EndsAreLosses, IsQuiet, LossesAreReported, LossesGoInOrder, NoneIsReset, loss_action}
 use Rattle.link_actions.specs.LossActions.Sees.{IsGoing, SeesOver, loss_of}
 use Rattle.session_actions.specs.AttemptEnds.{code_at_end, code_for_stream, code_to_reset, end_of, is_framing, is_reset, lost_end, outcome_of, outcome_on, unsent_end, wire_end}
@@ -65,7 +65,7 @@ losses_are_reported None seen = refl
 losses_are_reported (Some n) seen = refl
 
 -- the lowest place comes first
-each_there : (ys : List Attempt) (n : ℕ) (xs : List Attempt) → ((i : ℕ) → slice_get xs i ≡ slice_get ys (n + i)) → ArePlaced (n + 1) xs → AllByRecursion (λ a. numbered ys a.place ≡ Some a) xs
+each_there : (ys : List Attempt) (n : ℕ) (xs : List Attempt) → ((i : ℕ) → slice_get xs i ≡ slice_get ys (n + i)) → AttemptsStandInPlace (n + 1) xs → AllByRecursion (λ a. numbered ys a.place ≡ Some a) xs
 each_there ys n [] at places = tt
 each_there ys n (x ∷ xs) at places =
     let place : x.place ≡ n + 1 = places.0 in
@@ -76,7 +76,7 @@ each_there ys n (x ∷ xs) at places =
       each_there ys (n + 1) xs more places.1,
     )
 
-pub all_there : (s : Seen) → ArePlaced 1 s.attempts → AllByRecursion (λ a. numbered s.attempts a.place ≡ Some a) s.attempts
+pub all_there : (s : Seen) → AttemptsStandInPlace 1 s.attempts → AllByRecursion (λ a. numbered s.attempts a.place ≡ Some a) s.attempts
 all_there s places = each_there s.attempts 0 s.attempts (λ i. ap (slice_get s.attempts) (let e : i ≡ 0 + i = omega arith in e)) places
 
 here_ends : (l : Link) (s : Seen) (a : Attempt) → SeesOver l s → numbered s.attempts a.place ≡ Some a → is_outstanding_on l a ≡ true → is_over a s ≡ false

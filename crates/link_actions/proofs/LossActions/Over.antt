@@ -3,7 +3,7 @@ use Rattle.std.proofs.Common.{◌≡◌, ap, refl, subst, sym, ◌∙◌, Bool, 
 use Rattle.std.specs.Option.{option_map_or}
 use Rattle.h2_link.specs.Feeds.{Line}
 use Rattle.h2_link.specs.Steps.{broke}
-use Rattle.h2_link.specs.Wire.{Told, Wire}
+use Rattle.h2_link.specs.Wire.{Report, Wire}
 use Rattle.link_actions.proofs.Reading.{reads_are_same}
 use Rattle.link_actions.proofs.Written.{changed_here}
 use Rattle.link_actions.specs.Laws.{IsSameRead}
@@ -33,8 +33,8 @@ pub all_go : (l : Link) (s : Seen) (w : Wire) (g : ℕ → Line) (n : ℕ) (a : 
 all_go l s w g n a is on =
     let st : Stands l s w n a = stands l s w g n a is on in
     record {
-      goes = ap (λ (k : ℕ). (response_of l s k a).end) (sym st.number) ∙ st.heard.goes;
-      small = ap (λ (k : ℕ). (response_of l s k a).large) (sym st.number) ∙ st.heard.small;
+      goes = ap (λ (k : ℕ). (response_of l s k a).end) (sym st.number) ∙ st.handled.goes;
+      small = ap (λ (k : ℕ). (response_of l s k a).large) (sym st.number) ∙ st.handled.small;
     }
 
 -- it is over, for whatever cause
@@ -105,17 +105,17 @@ timeouts_are_over l s w g sub b is at link =
     (is_over_now l s w g over.TimedOut is)
 
 -- the same bytes break it
-pub record BreaksAs (l : Link) (s : Seen) (w : Wire) (number : ℕ) (t : Told) : Type 0 where
-  pub told : t ≡ broke w number
+pub record BreaksAs (l : Link) (s : Seen) (w : Wire) (number : ℕ) (t : Report) : Type 0 where
+  pub reported : t ≡ broke w number
   pub next : next_read l s ≡ nextread.Broken number
 
-breaks_by : (l : Link) (s : Seen) (w : Wire) (o : NextRead) (taken number : ℕ) (t : Told) → next_read l s ≡ o → IsSameRead l s w o (Some (taken, t)) → t.wire.broken ≡ Some number
+breaks_by : (l : Link) (s : Seen) (w : Wire) (o : NextRead) (taken number : ℕ) (t : Report) → next_read l s ≡ o → IsSameRead l s w o (Some (taken, t)) → t.wire.broken ≡ Some number
     → BreaksAs l s w number t
 breaks_by l s w nextread.Nothing taken number t e same b = absurd same
 breaks_by l s w (nextread.Broken why) taken number t e same b =
-    let is : Some why ≡ Some number = ap (λ (x : Told). x.wire.broken) (sym same) ∙ b in
+    let is : Some why ≡ Some number = ap (λ (x : Report). x.wire.broken) (sym same) ∙ b in
     let one : why ≡ number = (cc) in
-    record { told = same ∙ ap (broke w) one; next = e ∙ ap (λ (k : ℕ). nextread.Broken k) one }
+    record { reported = same ∙ ap (broke w) one; next = e ∙ ap (λ (k : ℕ). nextread.Broken k) one }
 breaks_by l s w (nextread.Frame r) taken number t e same b =
     let never : None ≡ Some number = sym same.1.whole ∙ b in
     absurd (let no : ⊥ = (cc) in no)
@@ -128,12 +128,12 @@ read_when_open l s number at none next =
     ∙ ap (read_action l.number) next
 
 pub breaks_are_same : BreaksAreSame
-breaks_are_same l s w g bytes taken number t is none rest front broken =
+breaks_are_same l s w g bytes taken number t is none rest prefix broken =
     let same : IsSameRead l s w (next_read l s) (Some (taken, t))
-    = subst (λ (o : Option (ℕ × Told)). IsSameRead l s w (next_read l s) o) front (reads_are_same l s w bytes is.sees.sees rest) in
+    = subst (λ (o : Option (ℕ × Report)). IsSameRead l s w (next_read l s) o) prefix (reads_are_same l s w bytes is.sees.sees rest) in
     let as_ : BreaksAs l s w number t = breaks_by l s w (next_read l s) taken number t refl same broken in
     record {
-      told = as_.told;
+      reported = as_.reported;
       next = read_when_open l s number is.sees.at none as_.next;
       over = broken_over l s (is_over_now l s w g over.Broken is);
     }

@@ -13,7 +13,7 @@ use Rattle.lb_policy.specs.Table.{is_one_of}
 use Rattle.link_actions.proofs.Ended.{ended_seen, is_ended}
 use Rattle.link_actions.proofs.Without.{changed_at, places_at}
 use Rattle.link_actions.specs.Laws.{with_owed}
-use Rattle.link_actions.specs.Sees.{ArePlaced}
+use Rattle.link_actions.specs.Sees.{AttemptsStandInPlace}
 use Rattle.link_actions.proofs.LossActions.Calls.{changed_any}
 use Rattle.link_actions.proofs.ResponseActions.Ended.{limit_ended}
 use Rattle.session_actions.specs.AttemptEnds.{attempt_ended, stream_reset, stream_reset_of, with_end, with_end_in_run, with_reset_queued}
@@ -41,7 +41,7 @@ IsOver (Some b) = is_none b.row.ended ≡ false
 pub record AreEnded (ts : List ℕ) (s u : Seen) : Type 0 where
   pub links : u.links ≡ s.links
   pub limits : (b : Attempt) → limit_of_attempt b u ≡ limit_of_attempt b s
-  pub places : ArePlaced 1 u.attempts
+  pub places : AttemptsStandInPlace 1 u.attempts
   pub others : (k : ℕ) → is_one_of ts k ≡ false → numbered u.attempts k ≡ numbered s.attempts k
   pub over : (k : ℕ) → is_one_of ts k ≡ true → IsOver (numbered u.attempts k)
 
@@ -62,10 +62,10 @@ kept_or e b (Some x) off = ap (λ (c : Bool). Some (if c then with_end e x else 
 pub record IsEndedAt (t : ℕ) (e : RowEnd) (s u : Seen) : Type 0 where
   pub links : u.links ≡ s.links
   pub limits : (b : Attempt) → limit_of_attempt b u ≡ limit_of_attempt b s
-  pub places : ArePlaced 1 u.attempts
+  pub places : AttemptsStandInPlace 1 u.attempts
   pub each : (k : ℕ) → numbered u.attempts k ≡ option_map (λ x. if k == t then with_end e x else x) (numbered s.attempts k)
 
-ended_at : (t : ℕ) (e : RowEnd) (a : Attempt) (s : Seen) → ArePlaced 1 s.attempts → numbered s.attempts t ≡ Some a → IsEndedAt t e s (attempt_ended t e s)
+ended_at : (t : ℕ) (e : RowEnd) (a : Attempt) (s : Seen) → AttemptsStandInPlace 1 s.attempts → numbered s.attempts t ≡ Some a → IsEndedAt t e s (attempt_ended t e s)
 ended_at t e a s places there =
     let runs : List ThrottleRun = (option_map_or (with_end_in_run a e s) (call_of a s) s).runs in
     let draws : Bool = is_some e.word in
@@ -73,7 +73,7 @@ ended_at t e a s places there =
     (record {
       links = refl;
       limits = λ b. limit_ended s draws a.row.call t e runs b;
-      places = subst (ArePlaced 1) (sym (changed_at (with_end e) t s.attempts a places there)) (places_at (with_end e) (λ b. refl) t 1 s.attempts places);
+      places = subst (AttemptsStandInPlace 1) (sym (changed_at (with_end e) t s.attempts a places there)) (places_at (with_end e) (λ b. refl) t 1 s.attempts places);
       each = λ k. changed_any (with_end e) t k s.attempts;
     })
 
@@ -101,7 +101,7 @@ over_more ts t k e s u v true false same among some one rest =
     (over_or e (k == t) (numbered s.attempts k) (λ off. absurd (let both : true ≡ false = sym yes ∙ off in let no : ⊥ = (cc) in no)))
 over_more ts t k e s u v false false same among some one rest = absurd (let no : ⊥ = (cc) in no)
 
-pub all_are_ended : (ends : List (ℕ × RowEnd)) (s : Seen) → ArePlaced 1 s.attempts → AllByRecursion (λ (x : ℕ × RowEnd). IsSomewhere s x.0) ends → AreEnded (ends_of ends) s (ended_all ends s)
+pub all_are_ended : (ends : List (ℕ × RowEnd)) (s : Seen) → AttemptsStandInPlace 1 s.attempts → AllByRecursion (λ (x : ℕ × RowEnd). IsSomewhere s x.0) ends → AreEnded (ends_of ends) s (ended_all ends s)
 all_are_ended [] s places all = record { links = refl; limits = λ b. refl; places = places; others = λ k off. refl; over = λ k on. absurd (let no : ⊥ = (cc) in no) }
 all_are_ended (x ∷ ends) s places all =
     let u : Seen = attempt_ended x.0 x.1 s in

@@ -5,17 +5,17 @@ use Rattle.std.proofs.lemmas.Bool.{eqb-true}
 use Rattle.std.proofs.lemmas.Bool.Decides.{nat_tests}
 use Rattle.attempt_ledger.specs.declared.row.RowEnd.{RowEnd}
 use Rattle.grpc_link.specs.Links.{reader_in}
-use Rattle.grpc_link.specs.Links.{Told as Reported}
+use Rattle.grpc_link.specs.Links.{Report as Reported}
 use Rattle.grpc_link.specs.Readers.{ReaderSeen}
 use Rattle.grpc_link.specs.declared.readers.TagReader.{TagReader}
 use Rattle.h2_frame.specs.Frames.{FrameSeen, is_allowed, is_overpadded, is_zero_update, keeps_sizes, kind_allows_stream}
 use Rattle.h2_frame.specs.Numbers.{goaway_type, settings_type}
 use Rattle.h2_frame.specs.Payloads.{last_stream}
 use Rattle.h2_link.specs.Feeds.{Line}
-use Rattle.h2_link.specs.Steps.{told}
+use Rattle.h2_link.specs.Steps.{reported}
 use Rattle.h2_link.specs.Wire.{Wire}
 use Rattle.lb_policy.specs.Table.{is_one_of}
-use Rattle.link_actions.proofs.Hearing.{not_kind, of_settings}
+use Rattle.link_actions.proofs.Receiving.{not_kind, of_settings}
 use Rattle.link_actions.proofs.Lists.{if_false, if_true, none_of, on_if}
 use Rattle.link_actions.proofs.Without.{place_is}
 use Rattle.link_actions.specs.Laws.{with_owed}
@@ -24,11 +24,11 @@ use Rattle.link_actions.specs.LossActions.Sees.{IsGoing}
 use Rattle.link_actions.proofs.ReaderActions.Alike.{gone_on, limit_reset, reader_alike, response_alike, still_on}
 use Rattle.link_actions.proofs.ReaderActions.Ended.{AreEnded, AreReset, IsOver, IsSameRow, IsSameTraffic, all_are_ended, all_are_reset, ends_of, traffic_itself}
 use Rattle.link_actions.specs.ReaderActions.Laws.{GoawaysKeepReaders, GoawaysLeaveReaders}
-use Rattle.link_actions.specs.ResetActions.Laws.{AreEndedAt, IsEndedIf}
+use Rattle.link_actions.specs.ResetActions.Laws.{AttemptsAreEndedAt, IsEndedIf}
 use Rattle.link_actions.proofs.ResponseActions.Goaways.{goaways_are_reported}
 use Rattle.link_actions.proofs.ResetActions.Goaways.{rows_placed}
 use Rattle.link_actions.proofs.ResponseActions.Kept.{IsThere, is_there, link_here}
-use Rattle.link_actions.specs.ResponseActions.Laws.{IsRetired, places_of, reported, seen_at}
+use Rattle.link_actions.specs.ResponseActions.Laws.{IsRetired, places_of, frame_reported, seen_at}
 use Rattle.link_actions.specs.ResponseActions.Readers.{IsReaderOf, SeesReaders, attempt_on}
 use Rattle.session_actions.specs.Links.{is_settings}
 use Rattle.session_actions.specs.Reading.{is_outstanding_on, outstanding_on}
@@ -48,7 +48,7 @@ use Rattle.link_actions.proofs.StreamActions.StreamRead.{read_is}
 use Rattle.link_actions.proofs.StreamActions.StreamGoes.{Stands, stands}
 use Rattle.link_actions.specs.StreamActions.Laws.{AreAllOf, Comes, IsOn, IsSomewhere, ended_all, is_left_out, left_out, left_resets, read_link, reset_all}
 use Rattle.link_actions.specs.StreamActions.Sees.{SeesStreams, response_of}
-use Rattle.link_actions.specs.Sees.{ArePlaced, by_stream}
+use Rattle.link_actions.specs.Sees.{AttemptsStandInPlace, by_stream}
 
 both_ways : (b : Bool) → b ≡ true → b ≡ false → ⊥
 both_ways true e h = (cc)
@@ -196,15 +196,15 @@ waiting_in l s k b there none =
 -- an attempt that is on the link and is not among them goes on; one that is among them is one of the ends
 pub data Fate (l : Link) (s : Seen) (last k : ℕ) (ends : List (ℕ × RowEnd)) (b : Attempt) : Type 0 where
   Ended : is_one_of (ends_places l s last) k ≡ true → Fate l s last k ends b
-  Goes : (j : ℕ) → b.row.stream ≡ Some j → nat_lt last j ≡ false → is_one_of (ends_of ends) k ≡ false → Fate l s last k ends b
+  Continues : (j : ℕ) → b.row.stream ≡ Some j → nat_lt last j ≡ false → is_one_of (ends_of ends) k ≡ false → Fate l s last k ends b
 
 fate_waits : (l : Link) (s : Seen) (w : Wire) (g : ℕ → Line) (last k : ℕ) (ends : List (ℕ × RowEnd)) (b : Attempt) → SeesStreams l s w g → IsThere l s k b → b.row.stream ≡ None
     → Fate l s last k ends b
 fate_waits l s w g last k ends b is there none =
     let i : IsIn (waiting_on l s) b = waiting_in l s k b there none in
     let place : b.place ≡ k = place_is k s.attempts b is.sees.places there.there in
-    let front : Bool = is_one_of (places_of (left_out l s last)) k in
-    Ended (one_app (places_of (left_out l s last)) (places_of (waiting_on l s)) k front true refl (in_places (waiting_on l s) i.index k b i.there place) ∙ or_true front)
+    let prefix : Bool = is_one_of (places_of (left_out l s last)) k in
+    Ended (one_app (places_of (left_out l s last)) (places_of (waiting_on l s)) k prefix true refl (in_places (waiting_on l s) i.index k b i.there place) ∙ or_true prefix)
   where
     or_true : (c : Bool) → (c || true) ≡ true
     or_true true = refl
@@ -224,7 +224,7 @@ fate_streams l s w g last k j ends b false low is all there stream =
     let place : b.place ≡ k = place_is k s.attempts b is.sees.places there.there in
     let i : IsIn bs b = streaming_in l s j b (on_of l s w g k j b is there stream) in
     let at : is_one_of (ends_of ends) b.place ≡ is_left_out last b = all_at (λ (a : Attempt). is_one_of (ends_of ends) a.place ≡ is_left_out last a) bs i.index b i.there all.streams in
-    Goes j stream low (ap (is_one_of (ends_of ends)) (sym place) ∙ at ∙ ap (λ (o : Option ℕ). nat_lt last (unwrap_or o 0)) stream ∙ low)
+    Continues j stream low (ap (is_one_of (ends_of ends)) (sym place) ∙ at ∙ ap (λ (o : Option ℕ). nat_lt last (unwrap_or o 0)) stream ∙ low)
 
 fate_by : (l : Link) (s : Seen) (w : Wire) (g : ℕ → Line) (last k : ℕ) (ends : List (ℕ × RowEnd)) (b : Attempt) (o : Option ℕ) → b.row.stream ≡ o → SeesStreams l s w g
     → AreAllOf l s last ends → IsThere l s k b → Fate l s last k ends b
@@ -247,7 +247,7 @@ reader_gone l s w v g t readers last seen k ends (Some b) false at none is sees 
   where
     fate_out : Fate l s last k ends b → reader_in k t.link.readers ≡ None
     fate_out (Ended one) = absurd (both_ways (is_one_of (ends_places l s last) k) one none)
-    fate_out (Goes j stream low off) = absurd (both_ways (is_one_of (ends_of ends) k) on off)
+    fate_out (Continues j stream low off) = absurd (both_ways (is_one_of (ends_of ends) k) on off)
 
 reader_kept : (l m : Link) (s v u z : Seen) (w x : Wire) (g : ℕ → Line) (t : Reported) (readers : List TagReader) (r : ReadFrame) (seen k : ℕ) (ends : List (ℕ × RowEnd)) (q : Bool) (o p : Option Attempt)
     → attempt_on l s k ≡ o → is_one_of (ends_places l s (last_stream r.frame.payload)) k ≡ q → SeesStreams l s w g → Comes l w r → r.frame.kind ≡ goaway_type → SeesReaders l s readers
@@ -268,8 +268,8 @@ reader_kept l m s v u z w x g t readers r seen k ends false (Some b) (Some c) at
   where
     with_fate : Fate l s (last_stream r.frame.payload) k ends b → (y : Option ReaderSeen) → IsReaderOf s (Some b) y → IsReaderOf z (Some c) y
     with_fate (Ended one) y reads = absurd (both_ways (is_one_of (ends_places l s (last_stream r.frame.payload)) k) one none)
-    with_fate (Goes j stream low still) None reads = absurd reads
-    with_fate (Goes j stream low still) (Some y) reads =
+    with_fate (Continues j stream low still) None reads = absurd reads
+    with_fate (Continues j stream low still) (Some y) reads =
         let there : IsThere l s k b = is_there l s k b at in
         let first : response b v ≡ response b s = ap (response b) read ∙ passed l s w g r k j b is comes kind there stream low in
         let limit0 : limit_of_attempt b v ≡ limit_of_attempt b s = ap (limit_of_attempt b) read in
@@ -311,8 +311,8 @@ goaways_keep_readers l s w g readers r ends is sees comes kind_ all =
     let last : ℕ = last_stream f.payload in
     let xs : List Attempt = left_out l s last in
     let m : Link = with_owed (left_resets xs) (read_link r l s) in
-    let t : Reported = reported w readers f in
-    let retired : IsRetired l s w (told w f).wire t readers last (seen_at r) = goaways_are_reported l s w g readers r is sees comes kind_ in
+    let t : Reported = frame_reported w readers f in
+    let retired : IsRetired l s w (reported w f).wire t readers last (seen_at r) = goaways_are_reported l s w g readers r is sees comes kind_ in
     let v : Seen = frame_read_on r s l in
     let u : Seen = ended_all ends v in
     let z : Seen = reset_all xs u in
@@ -320,7 +320,7 @@ goaways_keep_readers l s w g readers r ends is sees comes kind_ all =
     let reset_ : AreReset u z = all_are_reset xs u in
     subst (λ (y : Seen). SeesReaders m (reset_all xs (ended_all ends y)) t.link.readers) (sym (read_is l s r is.sees.at))
     (record {
-      each = λ k. row_by l m s v u z w (told w f).wire g t readers r (seen_at r) k ends (is_one_of (ends_of ends) k) refl refl is comes kind sees all retired refl ended_ reset_;
+      each = λ k. row_by l m s v u z w (reported w f).wire g t readers r (seen_at r) k ends (is_one_of (ends_of ends) k) refl refl is comes kind sees all retired refl ended_ reset_;
       distinct = retired.distinct;
     })
 
@@ -333,7 +333,7 @@ over_by : (c : Bool) (a b : Attempt) → c ≡ true → IsEndedIf c a b → is_n
 over_by true a b on ended = ap (λ (x : Attempt). is_none x.row.ended) ended.1
 over_by false a b on same = absurd (let no : ⊥ = (cc) in no)
 
-others_from : (ts : List ℕ) (n i k : ℕ) (as_ bs : List Attempt) → ArePlaced n as_ → AreEndedAt ts as_ bs → k ≡ n + i → is_one_of ts k ≡ false → slice_get bs i ≡ slice_get as_ i
+others_from : (ts : List ℕ) (n i k : ℕ) (as_ bs : List Attempt) → AttemptsStandInPlace n as_ → AttemptsAreEndedAt ts as_ bs → k ≡ n + i → is_one_of ts k ≡ false → slice_get bs i ≡ slice_get as_ i
 others_from ts n i k [] [] places are at off = refl
 others_from ts n zero k (a ∷ as_) (b ∷ bs) places are at off =
     let place : a.place ≡ n = places.0 in
@@ -345,7 +345,7 @@ others_from ts n (suc i) k (a ∷ as_) (b ∷ bs) places are at off =
 others_from ts n i k [] (b ∷ bs) places are at off = absurd are
 others_from ts n i k (a ∷ as_) [] places are at off = absurd are
 
-over_from : (ts : List ℕ) (n i k : ℕ) (as_ bs : List Attempt) → ArePlaced n as_ → AreEndedAt ts as_ bs → k ≡ n + i → is_one_of ts k ≡ true → IsOver (slice_get bs i)
+over_from : (ts : List ℕ) (n i k : ℕ) (as_ bs : List Attempt) → AttemptsStandInPlace n as_ → AttemptsAreEndedAt ts as_ bs → k ≡ n + i → is_one_of ts k ≡ true → IsOver (slice_get bs i)
 over_from ts n i k [] [] places are at on = tt
 over_from ts n zero k (a ∷ as_) (b ∷ bs) places are at on =
     let place : a.place ≡ n = places.0 in
@@ -357,11 +357,11 @@ over_from ts n (suc i) k (a ∷ as_) (b ∷ bs) places are at on =
 over_from ts n i k [] (b ∷ bs) places are at on = absurd are
 over_from ts n i k (a ∷ as_) [] places are at on = absurd are
 
-others_at : (ts : List ℕ) (k : ℕ) (as_ bs : List Attempt) → ArePlaced 1 as_ → AreEndedAt ts as_ bs → is_one_of ts k ≡ false → numbered bs k ≡ numbered as_ k
+others_at : (ts : List ℕ) (k : ℕ) (as_ bs : List Attempt) → AttemptsStandInPlace 1 as_ → AttemptsAreEndedAt ts as_ bs → is_one_of ts k ≡ false → numbered bs k ≡ numbered as_ k
 others_at ts zero as_ bs places are off = refl
 others_at ts (suc i) as_ bs places are off = (let at : suc i ≡ 1 + i = omega arith in others_from ts 1 i (suc i) as_ bs places are at off)
 
-over_at : (ts : List ℕ) (k : ℕ) (as_ bs : List Attempt) → ArePlaced 1 as_ → AreEndedAt ts as_ bs → is_one_of ts k ≡ true → IsOver (numbered bs k)
+over_at : (ts : List ℕ) (k : ℕ) (as_ bs : List Attempt) → AttemptsStandInPlace 1 as_ → AttemptsAreEndedAt ts as_ bs → is_one_of ts k ≡ true → IsOver (numbered bs k)
 over_at ts zero as_ bs places are on = tt
 over_at ts (suc i) as_ bs places are on = (let at : suc i ≡ 1 + i = omega arith in over_from ts 1 i (suc i) as_ bs places are at on)
 
@@ -372,8 +372,8 @@ goaways_leave_readers l s w g readers r ends rows is sees comes kind_ all are =
     let last : ℕ = last_stream f.payload in
     let m : Link = read_link r l s in
     let ts : List ℕ = ends_of ends in
-    let t : Reported = reported w readers f in
-    let retired : IsRetired l s w (told w f).wire t readers last (seen_at r) = goaways_are_reported l s w g readers r is sees comes kind_ in
+    let t : Reported = frame_reported w readers f in
+    let retired : IsRetired l s w (reported w f).wire t readers last (seen_at r) = goaways_are_reported l s w g readers r is sees comes kind_ in
     let v : Seen = frame_read_on r s l in
     let u : Seen = record v { attempts = rows } in
     let none : List Attempt = [] in
@@ -387,6 +387,6 @@ goaways_leave_readers l s w g readers r ends rows is sees comes kind_ all are =
     let reset_ : AreReset u u = all_are_reset none u in
     subst (λ (y : Seen). SeesReaders m (record y { attempts = rows }) t.link.readers) (sym (read_is l s r is.sees.at))
     (record {
-      each = λ k. row_by l m s v u u w (told w f).wire g t readers r (seen_at r) k ends (is_one_of ts k) refl refl is comes kind sees all retired refl ended_ reset_;
+      each = λ k. row_by l m s v u u w (reported w f).wire g t readers r (seen_at r) k ends (is_one_of ts k) refl refl is comes kind sees all retired refl ended_ reset_;
       distinct = retired.distinct;
     })

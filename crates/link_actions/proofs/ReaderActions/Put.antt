@@ -5,14 +5,14 @@ use Rattle.grpc_link.specs.Links.{opened_at, opened_one, reader_in, with_reader}
 use Rattle.grpc_link.specs.Readers.{ReaderSeen}
 use Rattle.grpc_link.specs.declared.readers.TagReader.{TagReader}
 use Rattle.lb_policy.specs.Table.{is_one_of}
-use Rattle.link_actions.specs.Sees.{AreDistinct}
-use Rattle.link_actions.proofs.ResponseActions.Found.{IsFound, behind_by, distinct_left, distinct_snoc, find_reader, is_other_reader, never_left, none_left, others_left, own_behind, tags, tags_snoc}
+use Rattle.link_actions.specs.Sees.{NumbersAreDistinct}
+use Rattle.link_actions.proofs.ResponseActions.Found.{IsFound, afterwards_by, distinct_left, distinct_snoc, find_reader, is_other_reader, never_left, none_left, others_left, own_after, tags, tags_snoc}
 
 -- the reader of a tag is this one, and the others are as they were
 pub record IsPut (tag : ℕ) (x : ReaderSeen) (before after : List TagReader) : Type 0 where
   pub own : reader_in tag after ≡ Some x
   pub others : (k : ℕ) → (k == tag) ≡ false → reader_in k after ≡ reader_in k before
-  pub distinct : AreDistinct (tags after)
+  pub distinct : NumbersAreDistinct (tags after)
 
 untagged_by : (tag : ℕ) (t : TagReader) (readers : List TagReader) (b : Bool) → (t.tag == tag) ≡ b → (if b then Some t.reader else reader_in tag readers) ≡ None
     → (reader_in tag readers ≡ None → is_one_of (tags readers) tag ≡ false) → (b || is_one_of (tags readers) tag) ≡ false
@@ -23,15 +23,15 @@ untagged : (tag : ℕ) (readers : List TagReader) → reader_in tag readers ≡ 
 untagged tag [] none = refl
 untagged tag (t ∷ readers) none = untagged_by tag t readers (t.tag == tag) refl none (λ h. untagged tag readers h)
 
-pub put_last : (tag : ℕ) (x : ReaderSeen) (readers : List TagReader) → reader_in tag readers ≡ None → AreDistinct (tags readers) → IsPut tag x readers (with_reader tag x readers)
+pub put_last : (tag : ℕ) (x : ReaderSeen) (readers : List TagReader) → reader_in tag readers ≡ None → NumbersAreDistinct (tags readers) → IsPut tag x readers (with_reader tag x readers)
 put_last tag x readers none all = record {
-  own = own_behind tag x readers none;
-  others = λ k apart. behind_by tag k x readers apart;
-  distinct = subst AreDistinct (sym (tags_snoc tag x readers)) (distinct_snoc tag (tags readers) all (untagged tag readers none));
+  own = own_after tag x readers none;
+  others = λ k apart. afterwards_by tag k x readers apart;
+  distinct = subst NumbersAreDistinct (sym (tags_snoc tag x readers)) (distinct_snoc tag (tags readers) all (untagged tag readers none));
 }
 
 -- the stream of a reader is opened
-pub open_one : (tag : ℕ) (x : ReaderSeen) (readers : List TagReader) → reader_in tag readers ≡ Some x → AreDistinct (tags readers)
+pub open_one : (tag : ℕ) (x : ReaderSeen) (readers : List TagReader) → reader_in tag readers ≡ Some x → NumbersAreDistinct (tags readers)
     → IsPut tag (record x { opened = true }) readers (opened_one tag readers)
 open_one tag x readers there all =
     let f : IsFound tag 0 readers x = find_reader tag 0 readers x all there in

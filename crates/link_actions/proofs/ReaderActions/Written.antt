@@ -49,7 +49,7 @@ use Rattle.session_actions.specs.declared.seen.Seen.{Seen}
 use Rattle.link_actions.proofs.StreamActions.Going.{response_is}
 use Rattle.link_actions.proofs.StreamActions.Responses.{IsLike, goes_on, like_written, response_wrote}
 use Rattle.link_actions.specs.StreamActions.Laws.{IsOn, IsWrittenOn}
-use Rattle.link_actions.specs.StreamActions.Sees.{IsUnheard, SeesStreams, response_of}
+use Rattle.link_actions.specs.StreamActions.Sees.{IsUnreceived, SeesStreams, response_of}
 use Rattle.link_actions.proofs.Without.{place_is}
 
 -- what is written leaves the bytes of a message that is not whole
@@ -179,7 +179,7 @@ waiting l s a n readers sees first at =
     record { there = there; out = out; streamless = first.waits_; reader = r.0; own = r.1; reads = r.2 }
 
 own_opened : (l : Link) (s u : Seen) (m : Link) (a : Attempt) (n : ℕ) (x : ReaderSeen) → numbered u.links m.number ≡ Some m → is_outstanding_on m (with_stream n a) ≡ true
-    → limit_of_attempt (with_stream n a) u ≡ limit_of_attempt a s → a.row.stream ≡ None → IsUnheard (response_in (limit_of_attempt a s) n m.traffic) → IsReader s a x
+    → limit_of_attempt (with_stream n a) u ≡ limit_of_attempt a s → a.row.stream ≡ None → IsUnreceived (response_in (limit_of_attempt a s) n m.traffic) → IsReader s a x
     → IsReader u (with_stream n a) (record x { opened = true })
 own_opened l s u m a n x at out limit streamless un reads =
     let k : ℕ = limit_of_attempt a s in
@@ -201,7 +201,7 @@ attempt_kept l n t k None off = refl
 attempt_kept l n t k (Some x) off = ap (λ (c : Bool). pick l (if c then with_stream n x else x)) off
 
 opened_by : (l : Link) (s : Seen) (w : Wire) (g : ℕ → Line) (z : Sent) (a : Attempt) (n k : ℕ) (readers after : List TagReader) (b : Bool) → (k == a.place) ≡ b → SeesStreams l s w g
-    → SeesReaders l s readers → (at : IsWaiting l s a readers) → IsUnheard (response_in (limit_of_attempt a s) n (with_written z l).traffic)
+    → SeesReaders l s readers → (at : IsWaiting l s a readers) → IsUnreceived (response_in (limit_of_attempt a s) n (with_written z l).traffic)
     → IsPut a.place (record at.reader { opened = true }) readers after
     → IsReaderOf (noted z l (with_attempt (with_stream n) a.place s)) (attempt_on (with_written z l) (noted z l (with_attempt (with_stream n) a.place s)) k) (reader_in k after)
 opened_by l s w g z a n k readers after true same is sees at un put =
@@ -245,9 +245,9 @@ head_keeps l s w g tag readers is sees e k =
     let going : is_retiring l ≡ false = sym is.sees.sees.reads.retiring ∙ not_retiring w.retiring _ _ (opens_open (may_open w) (slice_get w.waiting 0) tag e) in
     let above : 2 * w.opened < n = omega arith in
     let limit : ℕ = limit_of_attempt a s in
-    let un : IsUnheard (response_in limit n l.traffic) = is.unheard limit n above going in
+    let un : IsUnreceived (response_in limit n l.traffic) = is.unreceived limit n above going in
     let like : IsLike (response_in limit n l.traffic) (response_in limit n m.traffic) = like_written limit n l z un.goes un.small in
-    let un_ : IsUnheard (response_in limit n m.traffic) = record { head = like.head ∙ un.head; goes = like.end ∙ un.goes; small = like.large ∙ un.small } in
+    let un_ : IsUnreceived (response_in limit n m.traffic) = record { head = like.head ∙ un.head; goes = like.end ∙ un.goes; small = like.large ∙ un.small } in
     let after : List TagReader = opened_one a.place readers in
     let put : IsPut a.place (record wait.reader { opened = true }) readers after = open_one a.place wait.reader readers wait.own sees.distinct in
     let list : opened_all (opened_between w (sent_head w g tag).wire) readers ≡ after

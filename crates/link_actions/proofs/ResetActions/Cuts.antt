@@ -12,7 +12,7 @@ use Rattle.h2_link.specs.declared.live.LiveStream.{LiveStream}
 use Rattle.link_actions.proofs.DataSent.{tag_in}
 use Rattle.link_actions.proofs.Lists.{if_false, if_true}
 use Rattle.link_actions.proofs.QuietKept.{joined}
-use Rattle.link_actions.specs.Sees.{AreDistinct, SeesOwed, by_stream}
+use Rattle.link_actions.specs.Sees.{NumbersAreDistinct, SeesOwed, by_stream}
 use Rattle.link_actions.proofs.ResetActions.Places.{put_length, queued_is}
 use Rattle.link_actions.specs.ResetActions.Ahead.{SeesAhead, put_reset, reset_of}
 use Rattle.link_actions.specs.ResetActions.Laws.{CutsGoAhead, IsCut, NoneIsAhead, NoneIsLeft, ResetsCatchUp, SealsKeep}
@@ -22,8 +22,8 @@ use Rattle.session_actions.specs.declared.attempt.Attempt.{Attempt}
 use Rattle.session_actions.specs.declared.link.Link.{Link}
 use Rattle.session_actions.specs.declared.seen.Seen.{Seen}
 use Rattle.link_actions.proofs.StreamActions.Found.{IsIn, IsZipped, streaming_in, zipped}
-use Rattle.link_actions.proofs.StreamActions.StreamEnds.{ends_follow, number_is, reset_heard}
-use Rattle.link_actions.proofs.StreamActions.Unheard.{but_all}
+use Rattle.link_actions.proofs.StreamActions.StreamEnds.{ends_follow, number_is, reset_received}
+use Rattle.link_actions.proofs.StreamActions.Unreceived.{but_all}
 use Rattle.link_actions.specs.StreamActions.Sees.{SeesBut, SeesStreams}
 
 -- of the queue only its frames are seen
@@ -64,8 +64,8 @@ queue_keeps l s w g q is items =
         tags = is.sees.tags;
         places = is.sees.places;
       };
-      heard = is.heard;
-      unheard = is.unheard;
+      handled = is.handled;
+      unreceived = is.unreceived;
       begun = is.begun;
     }
 
@@ -86,7 +86,7 @@ turned k t e = grind (arith, nat_tests, e)
 same_tag : (m n : ℕ) → m ≡ n → (m == n) ≡ true
 same_tag m n e = grind (arith, nat_tests, e)
 
-tagged_at : (place at i : ℕ) (xs : List LiveStream) (y : LiveStream) (ns : List ℕ) → slice_get xs i ≡ Some y → AreDistinct (map (λ (z : LiveStream). z.tag) xs ++ ns)
+tagged_at : (place at i : ℕ) (xs : List LiveStream) (y : LiveStream) (ns : List ℕ) → slice_get xs i ≡ Some y → NumbersAreDistinct (map (λ (z : LiveStream). z.tag) xs ++ ns)
     → at ≡ place + i → found_from (is_tagged y.tag) place xs ≡ Some (at, y)
 tagged_at place at i [] y ns e tags here = absurd (cc)
 tagged_at place at zero (x ∷ xs) y ns e tags here =
@@ -118,7 +118,7 @@ cuts_go_ahead resets l s w g n number a e cut_ on =
     let stream : y.number ≡ n = number_is a.row.stream y.number n z.live.stream on.stream in
     let u : Wire = record v { queue = sealed v.queue } in
     let sees : SeesStreams l s u g = queue_keeps l s v g (sealed v.queue) is.sees refl in
-    let but : SeesBut a.place l s u g = record { sees = sees.sees; heard = but_all a.place l s u.live bs sees.heard; unheard = sees.unheard; begun = sees.begun } in
+    let but : SeesBut a.place l s u g = record { sees = sees.sees; handled = but_all a.place l s u.live bs sees.handled; unreceived = sees.unreceived; begun = sees.begun } in
     let left : SeesStreams l (attempt_ended a.place e s) (cut_wire u i u.queue) g
     = none_is_left l (attempt_ended a.place e s) (cut_wire u i u.queue) g (ends_follow l s u g n i a y None but on refl z.there z.live.tag e).0 in
     let q : Queue = reset_queued n number w.queue in
@@ -145,7 +145,7 @@ resets_catch_up resets l s w g t n number a e is there ended stream on =
     let q : Queue = record { items = v.queue.items ++ c ∷ []; fresh = 0 } in
     record {
       wire = record v { queue = q };
-      sees = reset_heard l s v g t n number a e q is.sees there ended stream on refl;
+      sees = reset_received l s v g t n number a e q is.sees there ended stream on refl;
       same = is.same;
       queue = is.queue ∙ sym (joined v.queue.items (c ∷ []) (map reset_of resets));
     }

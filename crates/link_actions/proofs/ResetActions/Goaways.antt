@@ -11,7 +11,7 @@ use Rattle.h2_frame.specs.Payloads.{last_stream}
 use Rattle.h2_link.specs.Feeds.{Line}
 use Rattle.h2_link.specs.Queues.{Queue, reset_queued, sealed}
 use Rattle.h2_link.specs.Steps.{all_reset, is_above}
-use Rattle.h2_link.specs.Wire.{Told, Wire}
+use Rattle.h2_link.specs.Wire.{Report, Wire}
 use Rattle.h2_link.specs.declared.control.Control.{Control}
 use Rattle.h2_link.specs.declared.control.Control.TheVariants as control
 use Rattle.h2_link.specs.declared.live.LiveStream.{LiveStream}
@@ -20,9 +20,9 @@ use Rattle.link_actions.proofs.Ended.{never_out}
 use Rattle.link_actions.proofs.Lists.{both_if, if_false, if_true}
 use Rattle.link_actions.proofs.Opened.{streams, waits}
 use Rattle.link_actions.proofs.Without.{all_filter, by_stream_filter, distinct_filter, filter_swap, map_filter, opened_without}
-use Rattle.link_actions.specs.Sees.{AreDistinct, AreFed, AreLive, ArePlaced, IsFed, SeesOwed, SeesRead, WaitFed, by_stream}
+use Rattle.link_actions.specs.Sees.{NumbersAreDistinct, StreamsAreFed, StreamsAreLive, AttemptsStandInPlace, IsFed, SeesOwed, SeesRead, WaitFed, by_stream}
 use Rattle.link_actions.specs.ResetActions.Ahead.{reset_of}
-use Rattle.link_actions.specs.ResetActions.Laws.{AreEndedAt, GoawaysGoAhead, IsCut, IsEndedIf, cancels_of}
+use Rattle.link_actions.specs.ResetActions.Laws.{AttemptsAreEndedAt, GoawaysGoAhead, IsCut, IsEndedIf, cancels_of}
 use Rattle.session_actions.specs.AttemptEnds.{with_end}
 use Rattle.session_actions.specs.Links.{stream_number}
 use Rattle.session_actions.specs.Reading.{is_outstanding_on, outstanding_on}
@@ -31,12 +31,12 @@ use Rattle.session_actions.specs.Writing.{frame_read, frame_read_on, streaming_o
 use Rattle.session_actions.specs.declared.attempt.Attempt.{Attempt}
 use Rattle.session_actions.specs.declared.link.Link.{Link}
 use Rattle.session_actions.specs.declared.seen.Seen.{Seen}
-use Rattle.link_actions.proofs.StreamActions.Goaway.{AreHeardTo, SeesTo, is_none_of, places_of, without_all}
-use Rattle.link_actions.proofs.StreamActions.GoawayRead.{goaway_base, goaway_is_told, once_ended, wire_left, wire_read}
+use Rattle.link_actions.proofs.StreamActions.Goaway.{AreReceivedTo, SeesTo, is_none_of, places_of, without_all}
+use Rattle.link_actions.proofs.StreamActions.GoawayRead.{goaway_base, goaway_is_reported, once_ended, wire_left, wire_read}
 use Rattle.link_actions.proofs.StreamActions.Resets.{all_are_queued, resets_of}
 use Rattle.link_actions.proofs.StreamActions.StreamRead.{read_is}
 use Rattle.link_actions.specs.StreamActions.Laws.{is_left_out, left_out, read_link}
-use Rattle.link_actions.specs.StreamActions.Sees.{IsHeard, SeesStreams}
+use Rattle.link_actions.specs.StreamActions.Sees.{IsReceived, SeesStreams}
 
 -- the attempts that are left, and their streams
 abbrev is_left : List ℕ → Attempt → Bool
@@ -65,7 +65,7 @@ one_out l ts a b ys zs false false is was same h =
     ap (λ (x : Attempt). filter (is_outstanding_on l) (x ∷ ys)) same
     ∙ if_false (is_outstanding_on l a) (a ∷ filter (is_outstanding_on l) ys) (filter (is_outstanding_on l) ys) was ∙ h
 
-rows_out : (l : Link) (ts : List ℕ) (as_ bs : List Attempt) → AreEndedAt ts as_ bs → filter (is_outstanding_on l) bs ≡ filter (is_left ts) (filter (is_outstanding_on l) as_)
+rows_out : (l : Link) (ts : List ℕ) (as_ bs : List Attempt) → AttemptsAreEndedAt ts as_ bs → filter (is_outstanding_on l) bs ≡ filter (is_left ts) (filter (is_outstanding_on l) as_)
 rows_out l ts [] [] are = refl
 rows_out l ts (a ∷ as_) (b ∷ bs) are =
     one_out l ts a b bs (filter (is_outstanding_on l) as_) (is_one_of ts a.place) (is_outstanding_on l a) refl refl are.0 (rows_out l ts as_ bs are.1)
@@ -76,7 +76,7 @@ place_if : (c : Bool) (a b : Attempt) → IsEndedIf c a b → b.place ≡ a.plac
 place_if true a b ended = ap (λ (x : Attempt). x.place) ended.1
 place_if false a b same = ap (λ (x : Attempt). x.place) same
 
-pub rows_placed : (ts : List ℕ) (n : ℕ) (as_ bs : List Attempt) → ArePlaced n as_ → AreEndedAt ts as_ bs → ArePlaced n bs
+pub rows_placed : (ts : List ℕ) (n : ℕ) (as_ bs : List Attempt) → AttemptsStandInPlace n as_ → AttemptsAreEndedAt ts as_ bs → AttemptsStandInPlace n bs
 rows_placed ts n [] [] places are = tt
 rows_placed ts n (a ∷ as_) (b ∷ bs) places are = (place_if (is_one_of ts a.place) a b are.0 ∙ places.0, rows_placed ts (n + 1) as_ bs places.1 are.1)
 rows_placed ts n [] (b ∷ bs) places are = absurd are
@@ -90,45 +90,45 @@ module _ (u : Seen) (rows : List Attempt) where
   fed_one : (l : Link) (a : Attempt) (line : Line) → IsFed l u a line → IsFed l t a line
   fed_one l a line is = record { call = is.call; call_is = is.call_is; fields = is.fields; written = is.written; left = is.left; finished = is.finished }
 
-  heard_one : (l : Link) (x : LiveStream) (a : Attempt) → IsHeard l u x a → IsHeard l t x a
-  heard_one l x a is = record { head = is.head; goes = is.goes; small = is.small }
+  received_one : (l : Link) (x : LiveStream) (a : Attempt) → IsReceived l u x a → IsReceived l t x a
+  received_one l x a is = record { head = is.head; goes = is.goes; small = is.small }
 
-  fed_left : (l : Link) (g : ℕ → Line) (ts : List ℕ) (xs : List LiveStream) (others : List Attempt) → AreLive l xs others → AreFed l u g xs others
-      → AreFed l t g (filter (is_left_stream ts) xs) (filter (is_left ts) others)
+  fed_left : (l : Link) (g : ℕ → Line) (ts : List ℕ) (xs : List LiveStream) (others : List Attempt) → StreamsAreLive l xs others → StreamsAreFed l u g xs others
+      → StreamsAreFed l t g (filter (is_left_stream ts) xs) (filter (is_left ts) others)
   fed_left l g ts [] [] are fed_ = tt
   fed_left l g ts (x ∷ xs) (a ∷ others) are fed_ =
       let fx : List LiveStream = filter (is_left_stream ts) xs in
       let fa : List Attempt = filter (is_left ts) others in
-      let rest : AreFed l t g fx fa = fed_left l g ts xs others are.1 fed_.1 in
-      subst (λ (c : Bool). AreFed l t g (cond (is_left_stream ts x) (x ∷ fx) fx) (cond c (a ∷ fa) fa)) (ap (is_none_of ts) are.0.tag)
-      (both_if (AreFed l t g) (is_left_stream ts x) (x ∷ fx) fx (a ∷ fa) fa (λ h. (fed_one l a (g x.tag) fed_.0, rest)) (λ h. rest))
+      let rest : StreamsAreFed l t g fx fa = fed_left l g ts xs others are.1 fed_.1 in
+      subst (λ (c : Bool). StreamsAreFed l t g (cond (is_left_stream ts x) (x ∷ fx) fx) (cond c (a ∷ fa) fa)) (ap (is_none_of ts) are.0.tag)
+      (both_if (StreamsAreFed l t g) (is_left_stream ts x) (x ∷ fx) fx (a ∷ fa) fa (λ h. (fed_one l a (g x.tag) fed_.0, rest)) (λ h. rest))
   fed_left l g ts [] (a ∷ others) are fed_ = absurd are
   fed_left l g ts (x ∷ xs) [] are fed_ = absurd are
 
-  heard_left : (last : ℕ) (l : Link) (ts : List ℕ) (xs : List LiveStream) (others : List Attempt) → AreLive l xs others → AreHeardTo last l u xs others
-      → AreHeardTo last l t (filter (is_left_stream ts) xs) (filter (is_left ts) others)
-  heard_left last l ts [] [] are heard = tt
-  heard_left last l ts (x ∷ xs) (a ∷ others) are heard =
+  received_left : (last : ℕ) (l : Link) (ts : List ℕ) (xs : List LiveStream) (others : List Attempt) → StreamsAreLive l xs others → AreReceivedTo last l u xs others
+      → AreReceivedTo last l t (filter (is_left_stream ts) xs) (filter (is_left ts) others)
+  received_left last l ts [] [] are handled = tt
+  received_left last l ts (x ∷ xs) (a ∷ others) are handled =
       let fx : List LiveStream = filter (is_left_stream ts) xs in
       let fa : List Attempt = filter (is_left ts) others in
-      let rest : AreHeardTo last l t fx fa = heard_left last l ts xs others are.1 heard.1 in
-      subst (λ (c : Bool). AreHeardTo last l t (cond (is_left_stream ts x) (x ∷ fx) fx) (cond c (a ∷ fa) fa)) (ap (is_none_of ts) are.0.tag)
-      (both_if (AreHeardTo last l t) (is_left_stream ts x) (x ∷ fx) fx (a ∷ fa) fa (λ h. (λ below. heard_one l x a (heard.0 below), rest)) (λ h. rest))
-  heard_left last l ts [] (a ∷ others) are heard = absurd are
-  heard_left last l ts (x ∷ xs) [] are heard = absurd are
+      let rest : AreReceivedTo last l t fx fa = received_left last l ts xs others are.1 handled.1 in
+      subst (λ (c : Bool). AreReceivedTo last l t (cond (is_left_stream ts x) (x ∷ fx) fx) (cond c (a ∷ fa) fa)) (ap (is_none_of ts) are.0.tag)
+      (both_if (AreReceivedTo last l t) (is_left_stream ts x) (x ∷ fx) fx (a ∷ fa) fa (λ h. (λ below. received_one l x a (handled.0 below), rest)) (λ h. rest))
+  received_left last l ts [] (a ∷ others) are handled = absurd are
+  received_left last l ts (x ∷ xs) [] are handled = absurd are
 
   waits_left : (l : Link) (g : ℕ → Line) (xs : List Attempt) → WaitFed l u g xs → WaitFed l t g xs
   waits_left l g [] are = tt
   waits_left l g (a ∷ xs) are = (fed_one l a (g a.place) are.0, waits_left l g xs are.1)
 
-live_left : (l : Link) (ts : List ℕ) (xs : List LiveStream) (others : List Attempt) → AreLive l xs others → AreLive l (filter (is_left_stream ts) xs) (filter (is_left ts) others)
+live_left : (l : Link) (ts : List ℕ) (xs : List LiveStream) (others : List Attempt) → StreamsAreLive l xs others → StreamsAreLive l (filter (is_left_stream ts) xs) (filter (is_left ts) others)
 live_left l ts [] [] are = tt
 live_left l ts (x ∷ xs) (a ∷ others) are =
     let fx : List LiveStream = filter (is_left_stream ts) xs in
     let fa : List Attempt = filter (is_left ts) others in
-    let rest : AreLive l fx fa = live_left l ts xs others are.1 in
-    subst (λ (c : Bool). AreLive l (cond (is_left_stream ts x) (x ∷ fx) fx) (cond c (a ∷ fa) fa)) (ap (is_none_of ts) are.0.tag)
-    (both_if (AreLive l) (is_left_stream ts x) (x ∷ fx) fx (a ∷ fa) fa (λ h. (are.0, rest)) (λ h. rest))
+    let rest : StreamsAreLive l fx fa = live_left l ts xs others are.1 in
+    subst (λ (c : Bool). StreamsAreLive l (cond (is_left_stream ts x) (x ∷ fx) fx) (cond c (a ∷ fa) fa)) (ap (is_none_of ts) are.0.tag)
+    (both_if (StreamsAreLive l) (is_left_stream ts x) (x ∷ fx) fx (a ∷ fa) fa (λ h. (are.0, rest)) (λ h. rest))
 live_left l ts [] (a ∷ others) are = absurd are
 live_left l ts (x ∷ xs) [] are = absurd are
 
@@ -149,7 +149,7 @@ still_read l ts w is = record {
 still_owes : (l : Link) (ts : List ℕ) (w : Wire) → SeesOwed l w → SeesOwed l (without_all ts w)
 still_owes l ts w is = record { queue = is.queue; names = is.names; resizes = is.resizes; written = is.written; answered = is.answered }
 
-rows_end : (last : ℕ) (l : Link) (u : Seen) (w : Wire) (g : ℕ → Line) (ts : List ℕ) (rows : List Attempt) → SeesTo last l u w g → AreEndedAt ts u.attempts rows
+rows_end : (last : ℕ) (l : Link) (u : Seen) (w : Wire) (g : ℕ → Line) (ts : List ℕ) (rows : List Attempt) → SeesTo last l u w g → AttemptsAreEndedAt ts u.attempts rows
     → SeesTo last l (record u { attempts = rows }) (without_all ts w) g
 rows_end last l u w g ts rows is are =
     let v : Seen = record u { attempts = rows } in
@@ -164,23 +164,23 @@ rows_end last l u w g ts rows is are =
         at = is.sees.at;
         sees = record {
           reads = still_read l ts w is.sees.sees.reads;
-          live = subst (AreLive l xs) (sym streaming) (live_left l ts w.live bs is.sees.sees.live);
+          live = subst (StreamsAreLive l xs) (sym streaming) (live_left l ts w.live bs is.sees.sees.live);
         };
         owes = still_owes l ts w is.sees.owes;
         waits = ap (filter (is_none_of ts)) is.sees.waits ∙ sym (map_filter (λ (b : Attempt). b.place) (is_none_of ts) (waiting_on l u))
             ∙ ap (map (λ (b : Attempt). b.place)) (sym waiting);
-        fed = subst (AreFed l v g xs) (sym streaming) (fed_left u rows l g ts w.live bs is.sees.sees.live is.sees.fed);
+        fed = subst (StreamsAreFed l v g xs) (sym streaming) (fed_left u rows l g ts w.live bs is.sees.sees.live is.sees.fed);
         wait_fed = subst (WaitFed l v g) (sym waiting)
             (waits_left u rows l g (filter (is_left ts) (waiting_on l u)) (all_filter (λ b. IsFed l u b (g b.place)) (is_left ts) (waiting_on l u) is.sees.wait_fed));
         opened = opened_without (is_left_stream ts) 1 (2 * w.opened + 1) w.live is.sees.opened;
         fresh = is.sees.fresh;
-        tags = subst AreDistinct
+        tags = subst NumbersAreDistinct
             (sym (ap (λ (ns : List ℕ). ns ++ filter (is_none_of ts) w.waiting) (map_filter (λ (x : LiveStream). x.tag) (is_none_of ts) w.live)
             ∙ sym (filter-append (is_none_of ts) (map (λ (x : LiveStream). x.tag) w.live) w.waiting)))
             (distinct_filter (is_none_of ts) (map (λ (x : LiveStream). x.tag) w.live ++ w.waiting) is.sees.tags);
         places = rows_placed ts 1 u.attempts rows is.sees.places are;
       };
-      heard = subst (AreHeardTo last l v xs) (sym streaming) (heard_left u rows last l ts w.live bs is.sees.sees.live is.heard);
+      handled = subst (AreReceivedTo last l v xs) (sym streaming) (received_left u rows last l ts w.live bs is.sees.sees.live is.handled);
     }
 
 -- the resets that the link queued
@@ -188,7 +188,7 @@ pub record AreResetsOf (xs : List LiveStream) (as_ : List Attempt) : Type 0 wher
   pub same : resets_of xs ≡ map reset_of (cancels_of as_)
   pub count : length xs ≡ length (cancels_of as_)
 
-resets_zip : (l : Link) (last : ℕ) (xs : List LiveStream) (others : List Attempt) → AreLive l xs others → AreResetsOf (filter (is_above last) xs) (filter (is_left_out last) others)
+resets_zip : (l : Link) (last : ℕ) (xs : List LiveStream) (others : List Attempt) → StreamsAreLive l xs others → AreResetsOf (filter (is_above last) xs) (filter (is_left_out last) others)
 resets_zip l last [] [] are = record { same = refl; count = refl }
 resets_zip l last (x ∷ xs) (a ∷ others) are =
     let fx : List LiveStream = filter (is_above last) xs in
@@ -241,4 +241,4 @@ goaways_go_ahead l s w g r ends rows is comes goes all are =
     } in
     let T : Wire → Type 0 = λ x. IsCut (cancels_of gone) m (record (frame_read l.number r s) { attempts = rows }) x g in
     let W : Seen → Type 0 = λ x. IsCut (cancels_of gone) m (record x { attempts = rows }) (record k { queue = q }) g in
-    subst T (sym (ap (λ (x : Told). x.wire) (goaway_is_told w f comes.fair kind))) (subst W (sym (read_is l s r is.sees.at)) done)
+    subst T (sym (ap (λ (x : Report). x.wire) (goaway_is_reported w f comes.fair kind))) (subst W (sym (read_is l s r is.sees.at)) done)

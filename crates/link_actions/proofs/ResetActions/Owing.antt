@@ -10,7 +10,7 @@ use Rattle.link_actions.proofs.Lists.{both_if}
 use Rattle.link_actions.proofs.Opened.{streams}
 use Rattle.link_actions.proofs.Without.{by_stream_filter}
 use Rattle.link_actions.specs.Sees.{by_stream, put_by_stream}
-use Rattle.link_actions.specs.ResetActions.Laws.{AreEndedAt, GoawaysOweResets, IsEndedIf, OweAt, OwesIf, cancels_of, reset_by}
+use Rattle.link_actions.specs.ResetActions.Laws.{AttemptsAreEndedAt, GoawaysOweResets, IsEndedIf, OweAt, OwesIf, cancels_of, reset_by}
 use Rattle.session_actions.specs.AttemptEnds.{with_end}
 use Rattle.session_actions.specs.Links.{link_number, stream_number}
 use Rattle.session_actions.specs.Reading.{is_outstanding_on, outstanding_on}
@@ -119,7 +119,7 @@ module _ (l : Link) (last : ℕ) (ts : List ℕ) (code : Attempt → Option ℕ)
         alike = λ h. absurd (never (is_owed b) h off);
       }
 
-  all_alike : (as_ bs : List Attempt) → AreEndedAt ts as_ bs → OweAt code l ts as_ bs → AllByRecursion IsListed as_ → AreAlike (filter is_out as_) (filter is_owed bs)
+  all_alike : (as_ bs : List Attempt) → AttemptsAreEndedAt ts as_ bs → OweAt code l ts as_ bs → AllByRecursion IsListed as_ → AreAlike (filter is_out as_) (filter is_owed bs)
   all_alike [] [] ended owes listed = tt
   all_alike (a ∷ as_) (b ∷ bs) ended owes listed =
       let fa : List Attempt = filter is_out as_ in

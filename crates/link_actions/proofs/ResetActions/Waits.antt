@@ -12,15 +12,15 @@ use Rattle.lb_policy.specs.Table.{is_one_of}
 use Rattle.link_actions.proofs.Lists.{if_false, if_true, none_of}
 use Rattle.link_actions.proofs.Without.{is_other, is_other_stream}
 use Rattle.link_actions.specs.Laws.{without_tag}
-use Rattle.link_actions.specs.Sees.{AreDistinct, by_stream}
+use Rattle.link_actions.specs.Sees.{NumbersAreDistinct, by_stream}
 use Rattle.link_actions.specs.ResetActions.Ahead.{SeesAhead}
 use Rattle.link_actions.specs.ResetActions.Laws.{IsCut, WaitsAreCut}
 use Rattle.session_actions.specs.AttemptEnds.{attempt_ended}
 use Rattle.session_actions.specs.Writing.{streaming_on}
 use Rattle.session_actions.specs.declared.attempt.Attempt.{Attempt}
 use Rattle.link_actions.proofs.StreamActions.Found.{waits_kept}
-use Rattle.link_actions.proofs.StreamActions.StreamEnds.{ends_heard}
-use Rattle.link_actions.proofs.StreamActions.Unheard.{but_all}
+use Rattle.link_actions.proofs.StreamActions.StreamEnds.{ends_received}
+use Rattle.link_actions.proofs.StreamActions.Unreceived.{but_all}
 use Rattle.link_actions.specs.StreamActions.Sees.{SeesBut, SeesStreams}
 
 -- its number is taken away once
@@ -51,27 +51,27 @@ key_by t n ns false is none rest =
     apart_by t n true e off = absurd (both_ways (is_at (nat_cmp t) n) (at_itself t n (sym (eqb-true n t e))) off)
     apart_by t n false e off = refl
 
-key_is : (t : ℕ) (ns : List ℕ) → AreDistinct ns → remove_key (is_at (nat_cmp t)) ns ≡ filter (is_other t) ns
+key_is : (t : ℕ) (ns : List ℕ) → NumbersAreDistinct ns → remove_key (is_at (nat_cmp t)) ns ≡ filter (is_other t) ns
 key_is t [] all = refl
 key_is t (n ∷ ns) all = key_by t n ns (is_at (nat_cmp t) n) refl all.0 (key_is t ns all.1)
 
-back_distinct : (xs ys : List ℕ) → AreDistinct (xs ++ ys) → AreDistinct ys
+back_distinct : (xs ys : List ℕ) → NumbersAreDistinct (xs ++ ys) → NumbersAreDistinct ys
 back_distinct [] ys all = all
 back_distinct (x ∷ xs) ys all = back_distinct xs ys all.1
 
 -- no stream is of it
-not_in_front : (xs ys : List ℕ) (t : ℕ) → AreDistinct (xs ++ ys) → is_one_of ys t ≡ true → is_one_of xs t ≡ false
-not_in_front [] ys t all there = refl
-not_in_front (x ∷ xs) ys t all there = first_by x xs ys t (x == t) refl all.0 there (not_in_front xs ys t all.1 there)
+not_before : (xs ys : List ℕ) (t : ℕ) → NumbersAreDistinct (xs ++ ys) → is_one_of ys t ≡ true → is_one_of xs t ≡ false
+not_before [] ys t all there = refl
+not_before (x ∷ xs) ys t all there = first_by x xs ys t (x == t) refl all.0 there (not_before xs ys t all.1 there)
   where
-    front_by : (xs ys : List ℕ) (k : ℕ) → is_one_of (xs ++ ys) k ≡ false → is_one_of ys k ≡ false
-    front_by [] ys k none = none
-    front_by (x ∷ xs) ys k none = (let parts = none_of (x == k) (is_one_of (xs ++ ys) k) none in front_by xs ys k parts.1)
+    prefix_by : (xs ys : List ℕ) (k : ℕ) → is_one_of (xs ++ ys) k ≡ false → is_one_of ys k ≡ false
+    prefix_by [] ys k none = none
+    prefix_by (x ∷ xs) ys k none = (let parts = none_of (x == k) (is_one_of (xs ++ ys) k) none in prefix_by xs ys k parts.1)
 
     first_by : (x : ℕ) (xs ys : List ℕ) (t : ℕ) (b : Bool) → (x == t) ≡ b → is_one_of (xs ++ ys) x ≡ false → is_one_of ys t ≡ true → is_one_of xs t ≡ false → (b || is_one_of xs t) ≡ false
     first_by x xs ys t true e none there rest =
         let same : x ≡ t = eqb-true x t e in
-        absurd (both_ways (is_one_of ys x) (ap (is_one_of ys) same ∙ there) (front_by xs ys x none))
+        absurd (both_ways (is_one_of ys x) (ap (is_one_of ys) same ∙ there) (prefix_by xs ys x none))
     first_by x xs ys t false e none there rest = rest
 
 no_tag : (t place : ℕ) (xs : List LiveStream) → is_one_of (map (λ (x : LiveStream). x.tag) xs) t ≡ false → found_from (is_tagged t) place xs ≡ None
@@ -96,11 +96,11 @@ waits_are_cut resets l s w g number a e cut_ there waits_ =
     let waiting : w.waiting ≡ v.waiting = ap (λ (x : Wire). x.waiting) is.same in
     let live : w.live ≡ v.live = ap (λ (x : Wire). x.live) is.same in
     let here : is_one_of v.waiting t ≡ true = ap (λ (ns : List ℕ). is_one_of ns t) (sym waiting) ∙ waits_ in
-    let none : is_one_of tags t ≡ false = not_in_front tags v.waiting t is.sees.sees.tags here in
+    let none : is_one_of tags t ≡ false = not_before tags v.waiting t is.sees.sees.tags here in
     let found : found_from (is_tagged t) 0 w.live ≡ None = ap (found_from (is_tagged t) 0) live ∙ no_tag t 0 v.live none in
     let bs : List Attempt = by_stream (streaming_on l s) in
-    let but : SeesBut t l s v g = record { sees = is.sees.sees; heard = but_all t l s v.live bs is.sees.heard; unheard = is.sees.unheard; begun = is.sees.begun } in
-    let ended : SeesStreams l (attempt_ended t e s) (without_tag t v) g = ends_heard l s v g t a e but there in
+    let but : SeesBut t l s v g = record { sees = is.sees.sees; handled = but_all t l s v.live bs is.sees.handled; unreceived = is.sees.unreceived; begun = is.sees.begun } in
+    let ended : SeesStreams l (attempt_ended t e s) (without_tag t v) g = ends_received l s v g t a e but there in
     let key : remove_key (is_at (nat_cmp t)) v.waiting ≡ filter (is_other t) v.waiting = key_is t v.waiting (back_distinct tags v.waiting is.sees.sees.tags) in
     let left : without_tag t v ≡ record v { waiting = remove_key (is_at (nat_cmp t)) v.waiting }
     = ap (λ (xs : List LiveStream). record v { live = xs; waiting = filter (is_other t) v.waiting }) (all_others t v.live none)

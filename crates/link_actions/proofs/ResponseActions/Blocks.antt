@@ -3,26 +3,26 @@ use Rattle.std.proofs.Common.{◌≡◌, ◌∷◌, ◌||◌, ◌&&◌, not, ap,
 use Rattle.attempt_ledger.specs.declared.row.RowCause.TheVariants as cause
 use Rattle.attempt_ledger.specs.declared.row.RowEnd.{RowEnd}
 use Rattle.grpc_base.specs.ErrorCodes.{cancel}
-use Rattle.grpc_link.specs.Links.{reader_in, told_all}
+use Rattle.grpc_link.specs.Links.{reader_in, reported_all}
 use Rattle.grpc_link.specs.Readers.{ReaderSeen, stepped}
 use Rattle.grpc_link.specs.declared.readers.TagReader.{TagReader}
 use Rattle.grpc_meta.specs.ResponseFields.{shown_of}
 use Rattle.h2_frame.specs.Frames.{FrameSeen}
 use Rattle.h2_link.specs.Status as h2
-use Rattle.h2_link.specs.Steps.{read_after, told}
+use Rattle.h2_link.specs.Steps.{read_after, reported}
 use Rattle.h2_link.specs.Wire.{Wire}
 use Rattle.h2_link.specs.declared.news.LinkNews.{LinkNews}
 use Rattle.h2_link.specs.declared.news.LinkNews.TheVariants as report
 use Rattle.link_actions.proofs.Lists.{if_false, if_true}
-use Rattle.link_actions.specs.Sees.{AreDistinct}
+use Rattle.link_actions.specs.Sees.{NumbersAreDistinct}
 use Rattle.link_actions.proofs.ResponseActions.Codes.{HasCode, code_for, code_is, code_of, http_code_, of_law}
-use Rattle.link_actions.proofs.ResponseActions.Found.{IsTold, tags}
-use Rattle.link_actions.proofs.ResponseActions.Frames.{HasReader, IsOf, has_reader, is_reported, one_told, seen_same, start, two_told}
+use Rattle.link_actions.proofs.ResponseActions.Found.{IsReported, tags}
+use Rattle.link_actions.proofs.ResponseActions.Frames.{HasReader, IsOf, has_reader, is_frame_reported, one_reported, seen_same, start, two_reported}
 use Rattle.link_actions.proofs.ResponseActions.Headless.{headless}
 use Rattle.link_actions.proofs.ResponseActions.Kept.{link_here}
 use Rattle.link_actions.proofs.ResponseActions.OwnFrames.{follows_on, goes_of, in_session, not_done, open_of}
 use Rattle.link_actions.proofs.ResponseActions.Steps.{GoesOn, IsStep, block_reported, the_reader}
-use Rattle.link_actions.proofs.ResponseActions.Told.{IsExtra, Tells, TellsBlock, block_tells, is_end}
+use Rattle.link_actions.proofs.ResponseActions.Report.{IsExtra, ReportsThat, ReportsBlock, block_reports, is_end}
 use Rattle.link_actions.specs.ResponseActions.Gained.{is_done}
 use Rattle.link_actions.specs.ResponseActions.Laws.{BlocksAreReported, seen_at}
 use Rattle.session_actions.specs.AttemptEnds.{end_of}
@@ -119,21 +119,21 @@ block_done l s a n q (Ends number) same law e = ap is_done (sym same) ∙ of_law
 block_done l s a n q stream.GoesOn same law e = absurd (let no : ⊥ = (cc) in no)
 
 -- what is reported of it
-told_extra : (v : Wire) (readers : List TagReader) (tag : ℕ) (x : ReaderSeen) (n : LinkNews) (ns extra : List LinkNews) (ends : Bool) → IsOf tag n → AreDistinct (tags readers)
+reported_extra : (v : Wire) (readers : List TagReader) (tag : ℕ) (x : ReaderSeen) (n : LinkNews) (ns extra : List LinkNews) (ends : Bool) → IsOf tag n → NumbersAreDistinct (tags readers)
     → reader_in tag readers ≡ Some x → IsExtra ends tag extra → (ends ≡ true → (stepped x tag n).reader.over ≡ true) → ns ≡ n ∷ extra
-    → IsTold (start v readers) tag (stepped x tag n) (told_all (start v readers) ns)
-told_extra v readers tag x n ns [] ends of all there is over e = one_told v readers tag x n ns of all there e
-told_extra v readers tag x n ns (report.Fault t c seen ∷ []) ends of all there is over e =
+    → IsReported (start v readers) tag (stepped x tag n) (reported_all (start v readers) ns)
+reported_extra v readers tag x n ns [] ends of all there is over e = one_reported v readers tag x n ns of all there e
+reported_extra v readers tag x n ns (report.Fault t c seen ∷ []) ends of all there is over e =
     let same : ns ≡ n ∷ report.Fault tag c seen ∷ [] = e ∙ ap (λ (k : ℕ). n ∷ report.Fault k c seen ∷ []) is.0 in
-    two_told v readers tag x n (report.Fault tag c seen) ns of (λ g. refl) all there (over is.1) same
-told_extra v readers tag x n ns (report.Fault t c seen ∷ k ∷ ks) ends of all there is over e = absurd is
-told_extra v readers tag x n ns (report.Ready ∷ ks) ends of all there is over e = absurd is
-told_extra v readers tag x n ns (report.Retiring ∷ ks) ends of all there is over e = absurd is
-told_extra v readers tag x n ns (report.Broken c ∷ ks) ends of all there is over e = absurd is
-told_extra v readers tag x n ns (report.Fields t fs c seen ∷ ks) ends of all there is over e = absurd is
-told_extra v readers tag x n ns (report.Data t bs c seen ∷ ks) ends of all there is over e = absurd is
-told_extra v readers tag x n ns (report.Reset t c seen ∷ ks) ends of all there is over e = absurd is
-told_extra v readers tag x n ns (report.Unseen t seen ∷ ks) ends of all there is over e = absurd is
+    two_reported v readers tag x n (report.Fault tag c seen) ns of (λ g. refl) all there (over is.1) same
+reported_extra v readers tag x n ns (report.Fault t c seen ∷ k ∷ ks) ends of all there is over e = absurd is
+reported_extra v readers tag x n ns (report.Ready ∷ ks) ends of all there is over e = absurd is
+reported_extra v readers tag x n ns (report.Retiring ∷ ks) ends of all there is over e = absurd is
+reported_extra v readers tag x n ns (report.Broken c ∷ ks) ends of all there is over e = absurd is
+reported_extra v readers tag x n ns (report.Fields t fs c seen ∷ ks) ends of all there is over e = absurd is
+reported_extra v readers tag x n ns (report.Data t bs c seen ∷ ks) ends of all there is over e = absurd is
+reported_extra v readers tag x n ns (report.Reset t c seen ∷ ks) ends of all there is over e = absurd is
+reported_extra v readers tag x n ns (report.Unseen t seen ∷ ks) ends of all there is over e = absurd is
 
 pub blocks_are_reported : BlocksAreReported
 blocks_are_reported b l s w g readers r a is reads comes on over block =
@@ -152,7 +152,7 @@ blocks_are_reported b l s w g readers r a is reads comes on over block =
     let after : response_of m u n a ≡ q = own_response l s w r a st part ∙ ap (λ (o : Option Block). with_stream_frame limit p f o) block in
     let th : Then = block_then (is_some p.head) (http_status b.fields) b.ends we in
     let o : Option ℕ = h2.http_status b.fields in
-    let known : is_some p.head ≡ st.stream.head = sym (st.heard.head ∙ ap (λ (k : ℕ). is_some (response_of l s k a).head) st.number) in
+    let known : is_some p.head ≡ st.stream.head = sym (st.handled.head ∙ ap (λ (k : ℕ). is_some (response_of l s k a).head) st.number) in
     let interim_is : is_interim (http_status b.fields) ≡ h2.is_interim o = interim_same (http_status b.fields) ∙ ap h2.is_interim (status_same b.fields) in
     let none_is : is_none (http_status b.fields) ≡ is_none o = ap (λ (x : Option ℕ). is_none x) (status_same b.fields) in
     let next_is : then_of st.stream.head (h2.is_interim o) b.ends (is_none o) we ≡ th
@@ -160,15 +160,15 @@ blocks_are_reported b l s w g readers r a is reads comes on over block =
     ∙ ap (λ (c : Bool). then_of (is_some p.head) c b.ends (is_none o) we) (sym interim_is)
     ∙ ap (λ (c : Bool). then_of (is_some p.head) (is_interim (http_status b.fields)) b.ends c we) (sym none_is) in
     let seen : read_after w.read (9 + length f.payload) ≡ seen_at r = seen_same l w r is.sees.sees.reads.read comes.end in
-    let first = block_tells w f st.index st.stream b we comes.fair got.listed st.found in
-    let tells_ : TellsBlock w st.index (told w f) st.stream b.fields b.ends (seen_at r) (is_end th)
-    = subst (λ (k : ℕ). TellsBlock w st.index (told w f) st.stream b.fields b.ends k (is_end th)) seen
-    (subst (λ (k : Then). TellsBlock w st.index (told w f) st.stream b.fields b.ends (read_after w.read (9 + length f.payload)) (is_end k)) next_is first) in
+    let first = block_reports w f st.index st.stream b we comes.fair got.listed st.found in
+    let reports_ : ReportsBlock w st.index (reported w f) st.stream b.fields b.ends (seen_at r) (is_end th)
+    = subst (λ (k : ℕ). ReportsBlock w st.index (reported w f) st.stream b.fields b.ends k (is_end th)) seen
+    (subst (λ (k : Then). ReportsBlock w st.index (reported w f) st.stream b.fields b.ends (read_after w.read (9 + length f.payload)) (is_end k)) next_is first) in
     let tag : st.stream.tag ≡ a.place = st.live.tag in
-    let ns : List LinkNews = report.Fields a.place b.fields b.ends (seen_at r) ∷ tells_.extra in
-    let tells : Tells w st.index (told w f) ns (is_end th)
-    = subst (λ (k : ℕ). Tells w st.index (told w f) (report.Fields k b.fields b.ends (seen_at r) ∷ tells_.extra) (is_end th)) tag tells_.tells in
-    let extra : IsExtra (is_end th) a.place tells_.extra = subst (λ (k : ℕ). IsExtra (is_end th) k tells_.extra) tag tells_.is_extra in
+    let ns : List LinkNews = report.Fields a.place b.fields b.ends (seen_at r) ∷ reports_.extra in
+    let reports_that : ReportsThat w st.index (reported w f) ns (is_end th)
+    = subst (λ (k : ℕ). ReportsThat w st.index (reported w f) (report.Fields k b.fields b.ends (seen_at r) ∷ reports_.extra) (is_end th)) tag reports_.reports_that in
+    let extra : IsExtra (is_end th) a.place reports_.extra = subst (λ (k : ℕ). IsExtra (is_end th) k reports_.extra) tag reports_.is_extra in
     let law : EndsAlike m u a n th = subst (λ (z : Seen). EndsAlike m z a n th) (read_is l s r is.sees.at) (blocks_end_alike l s w g r a b is comes on over block) in
     let has : HasReader l s readers n a = has_reader l s readers n a reads is.sees.at on in
     let x : ReaderSeen = the_reader true limit p in
@@ -177,7 +177,7 @@ blocks_are_reported b l s w g readers r a is reads comes on over block =
     let step : IsStep limit a.place (seen_at r) true (stepped x a.place report_) p q = block_reported limit a.place a.place (seen_at r) opened p b going (headless limit n l.traffic) in
     let ends : is_end th ≡ true → is_done q ≡ true = λ e. block_done m u a n q th after law e in
     in_session l s w g readers r a is
-    (is_reported l s w g readers r a th (stepped x a.place report_) q ns (is_done q) refl (record {
+    (is_frame_reported l s w g readers r a th (stepped x a.place report_) q ns (is_done q) refl (record {
       sees = is;
       reads = reads;
       on = on;
@@ -186,10 +186,10 @@ blocks_are_reported b l s w g readers r a is reads comes on over block =
       open_ = over;
       after = after;
       step = step;
-      told_ = told_extra (told w f).wire readers a.place x report_ (told w f).news tells_.extra (is_end th) (λ g. refl) reads.distinct (has.there ∙ ap (λ (y : ReaderSeen). Some y) has.is) extra
-          (λ e. step.over ∙ ends e) tells.news_are;
+      reported_ = reported_extra (reported w f).wire readers a.place x report_ (reported w f).news reports_.extra (is_end th) (λ g. refl) reads.distinct (has.there ∙ ap (λ (y : ReaderSeen). Some y) has.is) extra
+          (λ e. step.over ∙ ends e) reports_that.news_are;
       follows = follows_on l s w g r a th is (blocks_are_read l s w g r a b is comes on block);
-      tells = tells;
+      reports_that = reports_that;
       ends = ends;
       code = λ done. block_code l s r a n p q b th refl is.sees.at on over going (open_of l s n a going) refl after law done;
     }))

@@ -13,7 +13,7 @@ use Rattle.h2_frame.specs.Frames.{FrameSeen, has_flag}
 use Rattle.h2_frame.specs.Numbers.{end_stream_flag}
 use Rattle.h2_frame.specs.Payloads.{content_of}
 use Rattle.link_actions.proofs.Lists.{if_false, if_true}
-use Rattle.link_actions.proofs.ResponseActions.Told.{is_end}
+use Rattle.link_actions.proofs.ResponseActions.Report.{is_end}
 use Rattle.link_actions.specs.ResponseActions.Gained.{is_done}
 use Rattle.session_actions.specs.AttemptEnds.{code_to_reset, is_framing, is_reset}
 use Rattle.session_actions.specs.Links.{has_written_end}

@@ -4,8 +4,8 @@ use Rattle.std.specs.List.{remove}
 use Rattle.std.proofs.lemmas.Bool.{eqb-true}
 use Rattle.std.proofs.lemmas.Bool.Decides.{nat_tests}
 use Rattle.grpc_base.specs.ErrorCodes.{cancel}
-use Rattle.grpc_link.specs.Links.{GrpcSeen, found, found_from, reader_in, told_by, told_of, with_reader}
-use Rattle.grpc_link.specs.Links.{Told as Reported}
+use Rattle.grpc_link.specs.Links.{GrpcSeen, found, found_from, reader_in, reported_by, reported_of, with_reader}
+use Rattle.grpc_link.specs.Links.{Report as Reported}
 use Rattle.grpc_link.specs.Readers.{ReaderSeen, Stepped, stepped}
 use Rattle.grpc_link.specs.declared.readers.TagReader.{TagReader}
 use Rattle.h2_link.specs.Steps.{cut}
@@ -13,7 +13,7 @@ use Rattle.h2_link.specs.declared.news.LinkNews.{LinkNews}
 use Rattle.lb_policy.specs.Table.{is_one_of}
 use Rattle.link_actions.proofs.Lists.{if_false, if_true, none_of, on_if}
 use Rattle.link_actions.proofs.Without.{distinct_filter, is_other, map_filter}
-use Rattle.link_actions.specs.Sees.{AreDistinct}
+use Rattle.link_actions.specs.Sees.{NumbersAreDistinct}
 
 abbrev pub tags : List TagReader → List ℕ
 tags readers = map (λ (t : TagReader). t.tag) readers
@@ -40,7 +40,7 @@ pub record IsFound (tag from : ℕ) (readers : List TagReader) (x : ReaderSeen) 
   pub place_is : place ≡ from + index
   pub left : remove readers index ≡ filter (is_other_reader tag) readers
 
-first_found : (tag from : ℕ) (t : TagReader) (readers : List TagReader) (x : ReaderSeen) (b : Bool) → (t.tag == tag) ≡ b → AreDistinct (tags (t ∷ readers))
+first_found : (tag from : ℕ) (t : TagReader) (readers : List TagReader) (x : ReaderSeen) (b : Bool) → (t.tag == tag) ≡ b → NumbersAreDistinct (tags (t ∷ readers))
     → (if b then Some t.reader else reader_in tag readers) ≡ Some x → (reader_in tag readers ≡ Some x → IsFound tag (from + 1) readers x) → IsFound tag from (t ∷ readers) x
 first_found tag from t readers x true is all e next =
     let same : t.reader ≡ x = (cc) in
@@ -66,7 +66,7 @@ first_found tag from t readers x false is all e next =
           ∙ sym (if_true (is_other_reader tag t) (t ∷ filter (is_other_reader tag) readers) (filter (is_other_reader tag) readers) (ap not is));
     }
 
-pub find_reader : (tag from : ℕ) (readers : List TagReader) (x : ReaderSeen) → AreDistinct (tags readers) → reader_in tag readers ≡ Some x → IsFound tag from readers x
+pub find_reader : (tag from : ℕ) (readers : List TagReader) (x : ReaderSeen) → NumbersAreDistinct (tags readers) → reader_in tag readers ≡ Some x → IsFound tag from readers x
 find_reader tag from [] x all e = absurd (cc)
 find_reader tag from (t ∷ readers) x all e =
     first_found tag from t readers x (t.tag == tag) refl all e (λ h. find_reader tag (from + 1) readers x all.1 h)
@@ -113,23 +113,23 @@ pub never_left : (tag : ℕ) (readers : List TagReader) → is_one_of (tags (fil
 never_left tag [] = refl
 never_left tag (t ∷ readers) = never_by tag t readers (t.tag == tag) refl (never_left tag readers)
 
-pub distinct_left : (tag : ℕ) (readers : List TagReader) → AreDistinct (tags readers) → AreDistinct (tags (filter (is_other_reader tag) readers))
+pub distinct_left : (tag : ℕ) (readers : List TagReader) → NumbersAreDistinct (tags readers) → NumbersAreDistinct (tags (filter (is_other_reader tag) readers))
 distinct_left tag readers all =
-    subst AreDistinct (sym (map_filter (λ (t : TagReader). t.tag) (is_other tag) readers)) (distinct_filter (is_other tag) (tags readers) all)
+    subst NumbersAreDistinct (sym (map_filter (λ (t : TagReader). t.tag) (is_other tag) readers)) (distinct_filter (is_other tag) (tags readers) all)
 
 -- a reader after the others
-pub behind_by : (tag k : ℕ) (r : ReaderSeen) (readers : List TagReader) → (k == tag) ≡ false → reader_in k (with_reader tag r readers) ≡ reader_in k readers
-behind_by tag k r [] apart = (let none : Option ReaderSeen = None in if_false (tag == k) (Some r) none (turned k tag apart))
-behind_by tag k r (t ∷ readers) apart = ap (λ (o : Option ReaderSeen). if t.tag == k then Some t.reader else o) (behind_by tag k r readers apart)
+pub afterwards_by : (tag k : ℕ) (r : ReaderSeen) (readers : List TagReader) → (k == tag) ≡ false → reader_in k (with_reader tag r readers) ≡ reader_in k readers
+afterwards_by tag k r [] apart = (let none : Option ReaderSeen = None in if_false (tag == k) (Some r) none (turned k tag apart))
+afterwards_by tag k r (t ∷ readers) apart = ap (λ (o : Option ReaderSeen). if t.tag == k then Some t.reader else o) (afterwards_by tag k r readers apart)
 
 own_by : (tag : ℕ) (t : TagReader) (o : Option ReaderSeen) (r : ReaderSeen) (b : Bool) → (if b then Some t.reader else o) ≡ None → (o ≡ None → (if b then Some t.reader else Some r) ≡ Some r)
     → (if b then Some t.reader else Some r) ≡ Some r
 own_by tag t o r true e next = absurd (cc)
 own_by tag t o r false e next = next e
 
-pub own_behind : (tag : ℕ) (r : ReaderSeen) (readers : List TagReader) → reader_in tag readers ≡ None → reader_in tag (with_reader tag r readers) ≡ Some r
-own_behind tag r [] none = (let no : Option ReaderSeen = None in if_true (tag == tag) (Some r) no (let same : (tag == tag) ≡ true = grind (arith, nat_tests) in same))
-own_behind tag r (t ∷ readers) none = own_first tag r t readers (t.tag == tag) none (λ h. own_behind tag r readers h)
+pub own_after : (tag : ℕ) (r : ReaderSeen) (readers : List TagReader) → reader_in tag readers ≡ None → reader_in tag (with_reader tag r readers) ≡ Some r
+own_after tag r [] none = (let no : Option ReaderSeen = None in if_true (tag == tag) (Some r) no (let same : (tag == tag) ≡ true = grind (arith, nat_tests) in same))
+own_after tag r (t ∷ readers) none = own_first tag r t readers (t.tag == tag) none (λ h. own_after tag r readers h)
   where
     own_first : (tag : ℕ) (r : ReaderSeen) (t : TagReader) (readers : List TagReader) (b : Bool) → (if b then Some t.reader else reader_in tag readers) ≡ None
         → (reader_in tag readers ≡ None → reader_in tag (with_reader tag r readers) ≡ Some r) → (if b then Some t.reader else reader_in tag (with_reader tag r readers)) ≡ Some r
@@ -142,7 +142,7 @@ none_snoc k t (n ∷ ns) none off =
     let parts = none_of (n == k) (is_one_of ns k) none in
     ap (λ (b : Bool). b || is_one_of (ns ++ t ∷ []) k) parts.0 ∙ none_snoc k t ns parts.1 off
 
-pub distinct_snoc : (t : ℕ) (ns : List ℕ) → AreDistinct ns → is_one_of ns t ≡ false → AreDistinct (ns ++ t ∷ [])
+pub distinct_snoc : (t : ℕ) (ns : List ℕ) → NumbersAreDistinct ns → is_one_of ns t ≡ false → NumbersAreDistinct (ns ++ t ∷ [])
 distinct_snoc t [] all none = (refl, tt)
 distinct_snoc t (n ∷ ns) all none =
     let parts = none_of (n == t) (is_one_of ns t) none in
@@ -153,20 +153,20 @@ tags_snoc tag r [] = refl
 tags_snoc tag r (t ∷ readers) = ap (λ (ns : List ℕ). t.tag ∷ ns) (tags_snoc tag r readers)
 
 -- a report of a tag that has a reader
-pub record IsTold (g : GrpcSeen) (tag : ℕ) (t : Stepped) (r : Reported) : Type 0 where
+pub record IsReported (g : GrpcSeen) (tag : ℕ) (t : Stepped) (r : Reported) : Type 0 where
   pub news : r.news ≡ t.news
   pub wire : r.link.link.wire ≡ (if t.reader.over then cut g.link.wire tag cancel else g.link.wire)
   pub rest : r.link.link.rest ≡ g.link.rest
   pub own : reader_in tag r.link.readers ≡ (if t.reader.over then None else Some t.reader)
   pub others : (k : ℕ) → (k == tag) ≡ false → reader_in k r.link.readers ≡ reader_in k g.readers
-  pub distinct : AreDistinct (tags r.link.readers)
+  pub distinct : NumbersAreDistinct (tags r.link.readers)
 
-told_left : (g : GrpcSeen) (tag : ℕ) (t : Stepped) → AreDistinct (tags g.readers)
-    → IsTold g tag t (told_by (record g { readers = filter (is_other_reader tag) g.readers }) tag t)
-told_left g tag t all =
+reported_left : (g : GrpcSeen) (tag : ℕ) (t : Stepped) → NumbersAreDistinct (tags g.readers)
+    → IsReported g tag t (reported_by (record g { readers = filter (is_other_reader tag) g.readers }) tag t)
+reported_left g tag t all =
     let kept : List TagReader = filter (is_other_reader tag) g.readers in
     let none : Option ReaderSeen = None in
-    on_if (IsTold g tag t) t.reader.over
+    on_if (IsReported g tag t) t.reader.over
     (record { link = record g { link = record g.link { wire = cut g.link.wire tag cancel }; readers = kept }; news = t.news })
     (record { link = record g { readers = with_reader tag t.reader kept }; news = t.news })
     (λ e. record {
@@ -181,18 +181,18 @@ told_left g tag t all =
       news = refl;
       wire = sym (if_false t.reader.over (cut g.link.wire tag cancel) g.link.wire e);
       rest = refl;
-      own = own_behind tag t.reader kept (none_left tag g.readers) ∙ sym (if_false t.reader.over none (Some t.reader) e);
-      others = λ k apart. behind_by tag k t.reader kept apart ∙ others_left tag k g.readers apart;
-      distinct = subst AreDistinct (sym (tags_snoc tag t.reader kept)) (distinct_snoc tag (tags kept) (distinct_left tag g.readers all) (never_left tag g.readers));
+      own = own_after tag t.reader kept (none_left tag g.readers) ∙ sym (if_false t.reader.over none (Some t.reader) e);
+      others = λ k apart. afterwards_by tag k t.reader kept apart ∙ others_left tag k g.readers apart;
+      distinct = subst NumbersAreDistinct (sym (tags_snoc tag t.reader kept)) (distinct_snoc tag (tags kept) (distinct_left tag g.readers all) (never_left tag g.readers));
     })
 
-pub told_one : (g : GrpcSeen) (tag : ℕ) (n : LinkNews) (x : ReaderSeen) → AreDistinct (tags g.readers) → reader_in tag g.readers ≡ Some x
-    → IsTold g tag (stepped x tag n) (told_of g tag n (found tag g.readers))
-told_one g tag n x all e =
+pub reported_one : (g : GrpcSeen) (tag : ℕ) (n : LinkNews) (x : ReaderSeen) → NumbersAreDistinct (tags g.readers) → reader_in tag g.readers ≡ Some x
+    → IsReported g tag (stepped x tag n) (reported_of g tag n (found tag g.readers))
+reported_one g tag n x all e =
     let f : IsFound tag 0 g.readers x = find_reader tag 0 g.readers x all e in
     let at : f.place ≡ 0 + f.index = f.place_is in
     let here : f.place ≡ f.index = omega (arith, at) in
     let left : remove g.readers f.place ≡ filter (is_other_reader tag) g.readers = ap (remove g.readers) here ∙ f.left in
-    let T : Reported → Type 0 = λ r. IsTold g tag (stepped x tag n) r in
-    let R : List TagReader → Type 0 = λ ts. T (told_by (record g { readers = ts }) tag (stepped x tag n)) in
-    subst (λ (o : Option (ℕ × ReaderSeen)). T (told_of g tag n o)) (sym f.found_) (subst R (sym left) (told_left g tag (stepped x tag n) all))
+    let T : Reported → Type 0 = λ r. IsReported g tag (stepped x tag n) r in
+    let R : List TagReader → Type 0 = λ ts. T (reported_by (record g { readers = ts }) tag (stepped x tag n)) in
+    subst (λ (o : Option (ℕ × ReaderSeen)). T (reported_of g tag n o)) (sym f.found_) (subst R (sym left) (reported_left g tag (stepped x tag n) all))

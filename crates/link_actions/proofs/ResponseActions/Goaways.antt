@@ -7,9 +7,9 @@ use Rattle.attempt_ledger.specs.declared.news.News.{News}
 use Rattle.attempt_ledger.specs.declared.news.News.TheVariants as news
 use Rattle.grpc_base.specs.ErrorCodes.{cancel}
 use Rattle.grpc_link.specs.Ends.{unseen_end}
-use Rattle.grpc_link.specs.Links.{GrpcSeen, found, reader_in, told_all, told_of}
+use Rattle.grpc_link.specs.Links.{GrpcSeen, found, reader_in, reported_all, reported_of}
 use Rattle.grpc_link.specs.Links as grpc
-use Rattle.grpc_link.specs.Links.{Told as Reported}
+use Rattle.grpc_link.specs.Links.{Report as Reported}
 use Rattle.grpc_link.specs.Readers.{ReaderSeen, Stepped, ended, read_on, stepped}
 use Rattle.grpc_link.specs.declared.readers.TagReader.{TagReader}
 use Rattle.h2_frame.specs.Frames.{FrameSeen}
@@ -17,24 +17,24 @@ use Rattle.h2_frame.specs.Numbers.{continuation_type, data_type, goaway_type, he
 use Rattle.h2_frame.specs.Payloads.{last_stream, reset_code}
 use Rattle.h2_link.specs.LinkErrors as link
 use Rattle.h2_link.specs.Queues.{sealed}
-use Rattle.h2_link.specs.Steps.{applied, continuation_told, data_told, found_from, goaway_told, headers_told, is_above, is_numbered, is_tagged, is_within, judged, outcome, ping_told, plain_told, read_after, reset_told, settings_told, told, unseen, unseen_stream}
-use Rattle.h2_link.specs.Wire.{Seen as HalfSeen, Told, Wire}
+use Rattle.h2_link.specs.Steps.{applied, continuation_reported, data_reported, found_from, goaway_reported, headers_reported, is_above, is_numbered, is_tagged, is_within, judged, outcome, ping_reported, plain_reported, read_after, reset_reported, settings_reported, reported, unseen, unseen_stream}
+use Rattle.h2_link.specs.Wire.{Seen as HalfSeen, Report, Wire}
 use Rattle.h2_link.specs.declared.live.LiveStream.{LiveStream}
 use Rattle.h2_link.specs.declared.news.LinkNews.{LinkNews}
 use Rattle.h2_link.specs.declared.news.LinkNews.TheVariants as report
 use Rattle.lb_policy.specs.Table.{is_one_of}
-use Rattle.link_actions.proofs.Hearing.{not_kind}
+use Rattle.link_actions.proofs.Receiving.{not_kind}
 use Rattle.link_actions.proofs.Lists.{both_if, if_false, if_true, none_of, on_if}
 use Rattle.link_actions.proofs.Opened.{put_all}
 use Rattle.link_actions.proofs.Without.{all_filter}
-use Rattle.link_actions.specs.Sees.{AreDistinct, AreLive, ArePlaced, by_stream}
+use Rattle.link_actions.specs.Sees.{NumbersAreDistinct, StreamsAreLive, AttemptsStandInPlace, by_stream}
 use Rattle.link_actions.proofs.LossActions.Losses.{all_there}
 use Rattle.link_actions.specs.LossActions.Sees.{end_news}
-use Rattle.link_actions.proofs.ResponseActions.Found.{IsTold, tags, told_one}
+use Rattle.link_actions.proofs.ResponseActions.Found.{IsReported, tags, reported_one}
 use Rattle.link_actions.proofs.ResponseActions.Frames.{HasReader, has_reader, seen_same, start}
 use Rattle.link_actions.proofs.ResponseActions.Gone.{cut_free}
 use Rattle.link_actions.proofs.ResponseActions.Kept.{on_is}
-use Rattle.link_actions.specs.ResponseActions.Laws.{GoawaysAreReported, ended_as, left_out_end, reported, seen_at}
+use Rattle.link_actions.specs.ResponseActions.Laws.{GoawaysAreReported, ended_as, left_out_end, frame_reported, seen_at}
 use Rattle.link_actions.specs.ResponseActions.Readers.{IsReaderOf, SeesReaders}
 use Rattle.session_actions.specs.AttemptEnds.{unsent_end}
 use Rattle.session_actions.specs.Reading.{is_outstanding_on, outstanding_on}
@@ -47,7 +47,7 @@ use Rattle.session_actions.specs.declared.seen.Seen.{Seen}
 use Rattle.link_actions.specs.StreamActions.Laws.{IsOn, is_left_out, left_out}
 
 -- a reader of a tag that goes on, and whether its stream was opened
-pub record Goes (opened : Bool) (g : GrpcSeen) (t : ℕ) : Type 0 where
+pub record Continues (opened : Bool) (g : GrpcSeen) (t : ℕ) : Type 0 where
   pub reader : ReaderSeen
   pub there : reader_in t g.readers ≡ Some reader
   pub over : reader.over ≡ false
@@ -67,7 +67,7 @@ pub record AreUnseen (g : GrpcSeen) (ts : List ℕ) (ns : List News) (r : Report
   pub same : r.link.link ≡ g.link
   pub gone : (t : ℕ) → is_one_of ts t ≡ true → reader_in t r.link.readers ≡ None
   pub kept : (t : ℕ) → is_one_of ts t ≡ false → reader_in t r.link.readers ≡ reader_in t g.readers
-  pub distinct : AreDistinct (tags r.link.readers)
+  pub distinct : NumbersAreDistinct (tags r.link.readers)
 
 turned : (k t : ℕ) → (k == t) ≡ false → (t == k) ≡ false
 turned k t e = grind (arith, nat_tests, e)
@@ -90,8 +90,8 @@ gone_by a true X e f h = f refl
 gone_by true false X e f h = h refl refl
 gone_by false false X e f h = absurd (let no : ⊥ = (cc) in no)
 
-pub all_unseen : (g : GrpcSeen) (ts : List ℕ) (seen : ℕ) (opened : Bool) → AreDistinct (tags g.readers) → AreDistinct ts → AllByRecursion (Goes opened g) ts → AllByRecursion (IsFree g.link.wire) ts
-    → AreUnseen g ts (map (ended_news opened seen) ts) (told_all g (map (unseen seen) ts))
+pub all_unseen : (g : GrpcSeen) (ts : List ℕ) (seen : ℕ) (opened : Bool) → NumbersAreDistinct (tags g.readers) → NumbersAreDistinct ts → AllByRecursion (Continues opened g) ts → AllByRecursion (IsFree g.link.wire) ts
+    → AreUnseen g ts (map (ended_news opened seen) ts) (reported_all g (map (unseen seen) ts))
 all_unseen g [] seen opened all ones goes free = record {
   news_are = refl;
   same = refl;
@@ -102,36 +102,36 @@ all_unseen g [] seen opened all ones goes free = record {
 all_unseen g (t ∷ ts) seen opened all ones goes free =
     let x : ReaderSeen = goes.0.reader in
     let n : LinkNews = report.Unseen t seen in
-    let r : Reported = grpc.told g n in
+    let r : Reported = grpc.reported g n in
     let none : Option ReaderSeen = None in
     let step : stepped x t n ≡ ended x t (unseen_end opened seen) = one_unseen g t seen opened x goes.0.over goes.0.opened_is in
-    let is : IsTold g t (ended x t (unseen_end opened seen)) r = subst (λ (k : Stepped). IsTold g t k r) step (told_one g t n x all goes.0.there) in
+    let is : IsReported g t (ended x t (unseen_end opened seen)) r = subst (λ (k : Stepped). IsReported g t k r) step (reported_one g t n x all goes.0.there) in
     let wire : r.link.link.wire ≡ g.link.wire = is.wire ∙ cut_free g.link.wire t cancel free.0.streams free.0.waits in
     let same : r.link.link ≡ g.link = same_half r.link.link g.link wire is.rest in
     let off : is_one_of ts t ≡ false = ones.0 in
-    let next : AllByRecursion (Goes opened r.link) ts
-    = others_have (Goes opened g) (Goes opened r.link) t ts off
+    let next : AllByRecursion (Continues opened r.link) ts
+    = others_have (Continues opened g) (Continues opened r.link) t ts off
     (λ k apart y. record { reader = y.reader; there = is.others k apart ∙ y.there; over = y.over; opened_is = y.opened_is }) goes.1 in
     let still : AllByRecursion (IsFree r.link.link.wire) ts = subst (λ (w : Wire). AllByRecursion (IsFree w) ts) (sym wire) free.1 in
-    let rest : AreUnseen r.link ts (map (ended_news opened seen) ts) (told_all r.link (map (unseen seen) ts)) = all_unseen r.link ts seen opened is.distinct ones.1 next still in
+    let rest : AreUnseen r.link ts (map (ended_news opened seen) ts) (reported_all r.link (map (unseen seen) ts)) = all_unseen r.link ts seen opened is.distinct ones.1 next still in
     record {
-      news_are = ap (λ (ns : List News). ns ++ (told_all r.link (map (unseen seen) ts)).news) is.news ∙ ap (λ (ns : List News). ended_news opened seen t ∷ ns) rest.news_are;
+      news_are = ap (λ (ns : List News). ns ++ (reported_all r.link (map (unseen seen) ts)).news) is.news ∙ ap (λ (ns : List News). ended_news opened seen t ∷ ns) rest.news_are;
       same = rest.same ∙ same;
-      gone = λ k e. gone_by (t == k) (is_one_of ts k) (reader_in k (told_all r.link (map (unseen seen) ts)).link.readers ≡ None) e (λ h. rest.gone k h)
+      gone = λ k e. gone_by (t == k) (is_one_of ts k) (reader_in k (reported_all r.link (map (unseen seen) ts)).link.readers ≡ None) e (λ h. rest.gone k h)
           (λ h own. (let at : t ≡ k = eqb-true t k own in rest.kept k h ∙ ap (λ (j : ℕ). reader_in j r.link.readers) (sym at) ∙ is.own));
       kept = λ k e. (let parts = none_of (t == k) (is_one_of ts k) e in rest.kept k parts.1 ∙ is.others k (turned t k parts.0));
       distinct = rest.distinct;
     }
 
 -- reports one after the other
-pub told_more : (g : GrpcSeen) (xs ys : List LinkNews)
-    → told_all g (xs ++ ys) ≡ record { link = (told_all (told_all g xs).link ys).link; news = (told_all g xs).news ++ (told_all (told_all g xs).link ys).news }
-told_more g [] ys = refl
-told_more g (n ∷ xs) ys =
-    let r : Reported = grpc.told g n in
-    ap (λ (t : Reported). let out : Reported = record { link = t.link; news = r.news ++ t.news } in out) (told_more r.link xs ys)
-    ∙ ap (λ (ns : List News). let out : Reported = record { link = (told_all (told_all r.link xs).link ys).link; news = ns } in out)
-    (sym (append_assoc r.news (told_all r.link xs).news (told_all (told_all r.link xs).link ys).news))
+pub reported_more : (g : GrpcSeen) (xs ys : List LinkNews)
+    → reported_all g (xs ++ ys) ≡ record { link = (reported_all (reported_all g xs).link ys).link; news = (reported_all g xs).news ++ (reported_all (reported_all g xs).link ys).news }
+reported_more g [] ys = refl
+reported_more g (n ∷ xs) ys =
+    let r : Reported = grpc.reported g n in
+    ap (λ (t : Reported). let out : Reported = record { link = t.link; news = r.news ++ t.news } in out) (reported_more r.link xs ys)
+    ∙ ap (λ (ns : List News). let out : Reported = record { link = (reported_all (reported_all r.link xs).link ys).link; news = ns } in out)
+    (sym (append_assoc r.news (reported_all r.link xs).news (reported_all (reported_all r.link xs).link ys).news))
 
 -- the streams that it leaves out
 map_unseen : (seen : ℕ) (xs : List LiveStream) → map (unseen_stream seen) xs ≡ map (unseen seen) (map (λ (x : LiveStream). x.tag) xs)
@@ -146,10 +146,10 @@ never_kept p k (x ∷ xs) none =
     on_if (λ (ys : List LiveStream). is_one_of (map (λ (y : LiveStream). y.tag) ys) k ≡ false) (p x) (x ∷ filter p xs) (filter p xs)
     (λ e. ap (λ (b : Bool). b || is_one_of (map (λ (y : LiveStream). y.tag) (filter p xs)) k) parts.0 ∙ rest) (λ e. rest)
 
-distinct_kept : (p : LiveStream → Bool) (xs : List LiveStream) → AreDistinct (map (λ (x : LiveStream). x.tag) xs) → AreDistinct (map (λ (x : LiveStream). x.tag) (filter p xs))
+distinct_kept : (p : LiveStream → Bool) (xs : List LiveStream) → NumbersAreDistinct (map (λ (x : LiveStream). x.tag) xs) → NumbersAreDistinct (map (λ (x : LiveStream). x.tag) (filter p xs))
 distinct_kept p [] all = tt
 distinct_kept p (x ∷ xs) all =
-    on_if (λ (ys : List LiveStream). AreDistinct (map (λ (y : LiveStream). y.tag) ys)) (p x) (x ∷ filter p xs) (filter p xs)
+    on_if (λ (ys : List LiveStream). NumbersAreDistinct (map (λ (y : LiveStream). y.tag) ys)) (p x) (x ∷ filter p xs) (filter p xs)
     (λ e. (never_kept p x.tag xs all.0, distinct_kept p xs all.1)) (λ e. distinct_kept p xs all.1)
 
 no_tag : (t place : ℕ) (xs : List LiveStream) → is_one_of (map (λ (x : LiveStream). x.tag) xs) t ≡ false → found_from (is_tagged t) place xs ≡ None
@@ -171,21 +171,21 @@ apart_by last x xs false e none all =
     (never_kept (is_above last) x.tag xs none)
     (λ k apart h. ap (λ (b : Bool). b || is_one_of (map (λ (y : LiveStream). y.tag) (filter (is_within last) xs)) k) (turned k x.tag apart) ∙ h) all
 
-above_apart : (last : ℕ) (xs : List LiveStream) → AreDistinct (map (λ (x : LiveStream). x.tag) xs)
+above_apart : (last : ℕ) (xs : List LiveStream) → NumbersAreDistinct (map (λ (x : LiveStream). x.tag) xs)
     → AllByRecursion (Apart (filter (is_within last) xs)) (map (λ (x : LiveStream). x.tag) (filter (is_above last) xs))
 above_apart last [] all = tt
 above_apart last (x ∷ xs) all = apart_by last x xs (is_above last x) refl all.0 (above_apart last xs all.1)
 
 -- two lists of which no number is twice
-front_distinct : (xs ys : List ℕ) → AreDistinct (xs ++ ys) → AreDistinct xs
-front_distinct [] ys all = tt
-front_distinct (x ∷ xs) ys all = (front_none x xs ys all.0, front_distinct xs ys all.1)
+prefix_distinct : (xs ys : List ℕ) → NumbersAreDistinct (xs ++ ys) → NumbersAreDistinct xs
+prefix_distinct [] ys all = tt
+prefix_distinct (x ∷ xs) ys all = (prefix_none x xs ys all.0, prefix_distinct xs ys all.1)
   where
-    front_none : (k : ℕ) (us vs : List ℕ) → is_one_of (us ++ vs) k ≡ false → is_one_of us k ≡ false
-    front_none k [] vs none = refl
-    front_none k (u ∷ us) vs none = (let parts = none_of (u == k) (is_one_of (us ++ vs) k) none in ap (λ (b : Bool). b || is_one_of us k) parts.0 ∙ front_none k us vs parts.1)
+    prefix_none : (k : ℕ) (us vs : List ℕ) → is_one_of (us ++ vs) k ≡ false → is_one_of us k ≡ false
+    prefix_none k [] vs none = refl
+    prefix_none k (u ∷ us) vs none = (let parts = none_of (u == k) (is_one_of (us ++ vs) k) none in ap (λ (b : Bool). b || is_one_of us k) parts.0 ∙ prefix_none k us vs parts.1)
 
-back_distinct : (xs ys : List ℕ) → AreDistinct (xs ++ ys) → AreDistinct ys
+back_distinct : (xs ys : List ℕ) → NumbersAreDistinct (xs ++ ys) → NumbersAreDistinct ys
 back_distinct [] ys all = all
 back_distinct (x ∷ xs) ys all = back_distinct xs ys all.1
 
@@ -200,7 +200,7 @@ all_none : (ys : List ℕ) → AllByRecursion (NotIn []) ys
 all_none [] = tt
 all_none (y ∷ ys) = (refl, all_none ys)
 
-back_apart : (xs ys : List ℕ) → AreDistinct (xs ++ ys) → AllByRecursion (NotIn xs) ys
+back_apart : (xs ys : List ℕ) → NumbersAreDistinct (xs ++ ys) → AllByRecursion (NotIn xs) ys
 back_apart [] ys all = all_none ys
 back_apart (x ∷ xs) ys all =
     others_have (NotIn xs) (NotIn (x ∷ xs)) x ys (back_none x xs ys all.0) (λ k apart h. ap (λ (b : Bool). b || is_one_of xs k) (turned k x apart) ∙ h) (back_apart xs ys all.1)
@@ -214,22 +214,22 @@ all_both P Q R [] f all too = tt
 all_both P Q R (t ∷ ts) f all too = (f t all.0 too.0, all_both P Q R ts f all.1 too.1)
 
 -- what the link makes of GOAWAY
-goaway_is_told : (w : Wire) (f : FrameSeen) → link.link_error w f ≡ None → f.kind ≡ goaway_type
-    → told w f ≡ outcome w (read_after w.read (9 + length f.payload)) (Ok (goaway_told (record w { queue = sealed w.queue }) (last_stream f.payload) (read_after w.read (9 + length f.payload))))
-goaway_is_told w f fair kind =
+goaway_is_reported : (w : Wire) (f : FrameSeen) → link.link_error w f ≡ None → f.kind ≡ goaway_type
+    → reported w f ≡ outcome w (read_after w.read (9 + length f.payload)) (Ok (goaway_reported (record w { queue = sealed w.queue }) (last_stream f.payload) (read_after w.read (9 + length f.payload))))
+goaway_is_reported w f fair kind =
     let seen : ℕ = read_after w.read (9 + length f.payload) in
     let v : Wire = record w { queue = sealed w.queue } in
     let at : Option (ℕ × LiveStream) = found_from (is_numbered f.stream) 0 w.live in
-    let applied_is : applied v f seen ≡ Ok (plain_told v f seen)
-    = if_false (f.kind == headers_type) (headers_told v f seen) _ (not_kind f.kind goaway_type headers_type false kind refl)
-    ∙ if_false (f.kind == continuation_type) (continuation_told v f seen w.block) (Ok (plain_told v f seen)) (not_kind f.kind goaway_type continuation_type false kind refl) in
-    let plain_is : plain_told v f seen ≡ goaway_told v (last_stream f.payload) seen
-    = if_false (f.kind == data_type) (data_told v f seen at) _ (not_kind f.kind goaway_type data_type false kind refl)
-    ∙ if_false (f.kind == rst_stream_type) (reset_told v (reset_code f.payload) seen at) _ (not_kind f.kind goaway_type rst_stream_type false kind refl)
-    ∙ if_false (f.kind == settings_type) (settings_told v f) _ (not_kind f.kind goaway_type settings_type false kind refl)
-    ∙ if_false (f.kind == ping_type) (ping_told v f) _ (not_kind f.kind goaway_type ping_type false kind refl)
-    ∙ if_true (f.kind == goaway_type) (goaway_told v (last_stream f.payload) seen) _ (not_kind f.kind goaway_type goaway_type true kind refl) in
-    ap (judged w f) fair ∙ ap (outcome w seen) applied_is ∙ ap (λ (t : Told). outcome w seen (Ok t)) plain_is
+    let applied_is : applied v f seen ≡ Ok (plain_reported v f seen)
+    = if_false (f.kind == headers_type) (headers_reported v f seen) _ (not_kind f.kind goaway_type headers_type false kind refl)
+    ∙ if_false (f.kind == continuation_type) (continuation_reported v f seen w.block) (Ok (plain_reported v f seen)) (not_kind f.kind goaway_type continuation_type false kind refl) in
+    let plain_is : plain_reported v f seen ≡ goaway_reported v (last_stream f.payload) seen
+    = if_false (f.kind == data_type) (data_reported v f seen at) _ (not_kind f.kind goaway_type data_type false kind refl)
+    ∙ if_false (f.kind == rst_stream_type) (reset_reported v (reset_code f.payload) seen at) _ (not_kind f.kind goaway_type rst_stream_type false kind refl)
+    ∙ if_false (f.kind == settings_type) (settings_reported v f) _ (not_kind f.kind goaway_type settings_type false kind refl)
+    ∙ if_false (f.kind == ping_type) (ping_reported v f) _ (not_kind f.kind goaway_type ping_type false kind refl)
+    ∙ if_true (f.kind == goaway_type) (goaway_reported v (last_stream f.payload) seen) _ (not_kind f.kind goaway_type goaway_type true kind refl) in
+    ap (judged w f) fair ∙ ap (outcome w seen) applied_is ∙ ap (λ (t : Report). outcome w seen (Ok t)) plain_is
 
 -- the attempts on the link
 pub record IsHere (l : Link) (s : Seen) (a : Attempt) : Type 0 where
@@ -243,7 +243,7 @@ here_filter l s (x ∷ xs) all =
     on_if (AllByRecursion (IsHere l s)) (is_outstanding_on l x) (x ∷ filter (is_outstanding_on l) xs) (filter (is_outstanding_on l) xs)
     (λ e. (record { there = all.0; out = e }, rest)) (λ e. rest)
 
-pub all_here : (l : Link) (s : Seen) → ArePlaced 1 s.attempts → AllByRecursion (IsHere l s) (outstanding_on l s)
+pub all_here : (l : Link) (s : Seen) → AttemptsStandInPlace 1 s.attempts → AllByRecursion (IsHere l s) (outstanding_on l s)
 all_here l s places = here_filter l s s.attempts (all_there s places)
 
 all_sorted : (P : Attempt → Type 0) (xs : List Attempt) → AllByRecursion P xs → AllByRecursion P (by_stream xs)
@@ -252,7 +252,7 @@ all_sorted P (a ∷ xs) all = put_all P a (by_stream xs) all.0 (all_sorted P xs 
 
 -- a stream's reader goes on
 stream_goes : (l : Link) (s : Seen) (v : Wire) (readers : List TagReader) (n : ℕ) (a : Attempt) → SeesReaders l s readers → numbered s.links l.number ≡ Some l → IsOn l s n a
-    → Goes true (start v readers) a.place
+    → Continues true (start v readers) a.place
 stream_goes l s v readers n a reads here on =
     let has : HasReader l s readers n a = has_reader l s readers n a reads here on in
     record {
@@ -263,11 +263,11 @@ stream_goes l s v readers n a reads here on =
     }
 
 zip_goes : (l : Link) (s : Seen) (v : Wire) (readers : List TagReader) (xs : List LiveStream) (as_ : List Attempt) → SeesReaders l s readers → numbered s.links l.number ≡ Some l
-    → AreLive l xs as_ → AllByRecursion (IsHere l s) as_ → AllByRecursion (Goes true (start v readers)) (map (λ (x : LiveStream). x.tag) xs)
+    → StreamsAreLive l xs as_ → AllByRecursion (IsHere l s) as_ → AllByRecursion (Continues true (start v readers)) (map (λ (x : LiveStream). x.tag) xs)
 zip_goes l s v readers [] [] reads here live all = tt
 zip_goes l s v readers (x ∷ xs) (a ∷ as_) reads here live all =
     let on : IsOn l s x.number a = record { there = all.0.there; out = all.0.out; stream = live.0.stream } in
-    (subst (Goes true (start v readers)) (sym live.0.tag) (stream_goes l s v readers x.number a reads here on), zip_goes l s v readers xs as_ reads here live.1 all.1)
+    (subst (Continues true (start v readers)) (sym live.0.tag) (stream_goes l s v readers x.number a reads here on), zip_goes l s v readers xs as_ reads here live.1 all.1)
 zip_goes l s v readers [] (a ∷ as_) reads here live all = absurd live
 zip_goes l s v readers (x ∷ xs) [] reads here live all = absurd live
 
@@ -278,7 +278,7 @@ tags_filter P p (x ∷ xs) all =
     let rest : AllByRecursion P (map (λ (y : LiveStream). y.tag) (filter p xs)) = tags_filter P p xs all.1 in
     on_if (λ (ys : List LiveStream). AllByRecursion P (map (λ (y : LiveStream). y.tag) ys)) (p x) (x ∷ filter p xs) (filter p xs) (λ e. (all.0, rest)) (λ e. rest)
 
-zip_left : (l : Link) (last : ℕ) (xs : List LiveStream) (as_ : List Attempt) → AreLive l xs as_
+zip_left : (l : Link) (last : ℕ) (xs : List LiveStream) (as_ : List Attempt) → StreamsAreLive l xs as_
     → map (λ (x : LiveStream). x.tag) (filter (is_above last) xs) ≡ map (λ (a : Attempt). a.place) (filter (is_left_out last) as_)
 zip_left l last [] [] live = refl
 zip_left l last (x ∷ xs) (a ∷ as_) live =
@@ -294,7 +294,7 @@ zip_left l last (x ∷ xs) [] live = absurd live
 
 -- and so does that of an attempt that waits
 waits_by : (s : Seen) (v : Wire) (readers : List TagReader) (a : Attempt) (o : Option ReaderSeen) → reader_in a.place readers ≡ o → a.row.stream ≡ None → IsReaderOf s (Some a) o
-    → Goes false (start v readers) a.place
+    → Continues false (start v readers) a.place
 waits_by s v readers a None at none is = absurd is
 waits_by s v readers a (Some x) at none is = record {
   reader = x;
@@ -308,11 +308,11 @@ no_stream None e = refl
 no_stream (Some n) e = absurd (cc)
 
 waits_go : (l : Link) (s : Seen) (v : Wire) (readers : List TagReader) (xs : List Attempt) → SeesReaders l s readers → AllByRecursion (IsHere l s) xs
-    → AllByRecursion (Goes false (start v readers)) (map (λ (a : Attempt). a.place) (filter (λ a. is_none a.row.stream) xs))
+    → AllByRecursion (Continues false (start v readers)) (map (λ (a : Attempt). a.place) (filter (λ a. is_none a.row.stream) xs))
 waits_go l s v readers [] reads all = tt
 waits_go l s v readers (a ∷ xs) reads all =
     let rest = waits_go l s v readers xs reads all.1 in
-    let F : List Attempt → Type 0 = λ bs. AllByRecursion (Goes false (start v readers)) (map (λ (b : Attempt). b.place) bs) in
+    let F : List Attempt → Type 0 = λ bs. AllByRecursion (Continues false (start v readers)) (map (λ (b : Attempt). b.place) bs) in
     on_if F (is_none a.row.stream) (a ∷ filter (λ (b : Attempt). is_none b.row.stream) xs) (filter (λ (b : Attempt). is_none b.row.stream) xs)
     (λ e. (
       waits_by s v readers a (reader_in a.place readers) refl (no_stream a.row.stream e)
@@ -328,21 +328,21 @@ retires b = if b then [] else report.Retiring ∷ []
 abbrev retired_news : Bool → List News
 retired_news b = if b then [] else news.Retiring ∷ []
 
-retire_told : (g : GrpcSeen) (b : Bool) → told_all g (retires b) ≡ record { link = g; news = retired_news b }
-retire_told g true = refl
-retire_told g false = refl
+retire_reported : (g : GrpcSeen) (b : Bool) → reported_all g (retires b) ≡ record { link = g; news = retired_news b }
+retire_reported g true = refl
+retire_reported g false = refl
 
-abbrev last_told : Reported → Bool → Reported
-last_told r b = record { link = (told_all r.link (retires b)).link; news = r.news ++ (told_all r.link (retires b)).news }
+abbrev last_reported : Reported → Bool → Reported
+last_reported r b = record { link = (reported_all r.link (retires b)).link; news = r.news ++ (reported_all r.link (retires b)).news }
 
-all_told : (g : GrpcSeen) (xs ys : List LinkNews) (b : Bool)
-    → told_all g (xs ++ ys ++ retires b)
-    ≡ record { link = (told_all (told_all g xs).link ys).link; news = (told_all g xs).news ++ (told_all (told_all g xs).link ys).news ++ retired_news b }
-all_told g xs ys b =
-    let r : Reported = told_all g xs in
-    let q : Reported = told_all r.link ys in
-    told_more g (xs ++ ys) (retires b) ∙ ap (λ (t : Reported). last_told t b) (told_more g xs ys)
-    ∙ ap (λ (t : Reported). let out : Reported = record { link = t.link; news = (r.news ++ q.news) ++ t.news } in out) (retire_told q.link b)
+all_reported : (g : GrpcSeen) (xs ys : List LinkNews) (b : Bool)
+    → reported_all g (xs ++ ys ++ retires b)
+    ≡ record { link = (reported_all (reported_all g xs).link ys).link; news = (reported_all g xs).news ++ (reported_all (reported_all g xs).link ys).news ++ retired_news b }
+all_reported g xs ys b =
+    let r : Reported = reported_all g xs in
+    let q : Reported = reported_all r.link ys in
+    reported_more g (xs ++ ys) (retires b) ∙ ap (λ (t : Reported). last_reported t b) (reported_more g xs ys)
+    ∙ ap (λ (t : Reported). let out : Reported = record { link = t.link; news = (r.news ++ q.news) ++ t.news } in out) (retire_reported q.link b)
 
 in_either : (xs ys : List ℕ) (t : ℕ) → is_one_of (xs ++ ys) t ≡ (is_one_of xs t || is_one_of ys t)
 in_either [] ys t = refl
@@ -364,45 +364,45 @@ goaways_are_reported l s w g readers r is reads comes kind_ =
     let at : ℕ = read_after w.read (9 + length f.payload) in
     let seen : at ≡ seen_at r = seen_same l w r is.sees.sees.reads.read comes.end in
     let v0 : Wire = record w { queue = sealed w.queue } in
-    let t : Told = goaway_told v0 last at in
-    let told_is : told w f ≡ outcome w at (Ok t) = goaway_is_told w f comes.fair kind in
-    let v : Wire = (told w f).wire in
+    let t : Report = goaway_reported v0 last at in
+    let reported_is : reported w f ≡ outcome w at (Ok t) = goaway_is_reported w f comes.fair kind in
+    let v : Wire = (reported w f).wire in
     let g0 : GrpcSeen = start v readers in
-    let live : v.live ≡ filter (is_within last) w.live = ap (λ (x : Told). x.wire.live) told_is in
-    let waits_none : v.waiting ≡ [] = ap (λ (x : Told). x.wire.waiting) told_is in
+    let live : v.live ≡ filter (is_within last) w.live = ap (λ (x : Report). x.wire.live) reported_is in
+    let waits_none : v.waiting ≡ [] = ap (λ (x : Report). x.wire.waiting) reported_is in
     let one : List ℕ = map (λ (x : LiveStream). x.tag) (filter (is_above last) w.live) in
     let all : List ℕ = map (λ (x : LiveStream). x.tag) w.live in
     let bs : List Attempt = by_stream (streaming_on l s) in
     let here : AllByRecursion (IsHere l s) (outstanding_on l s) = all_here l s is.sees.places in
-    let tags_ : AreDistinct (all ++ w.waiting) = is.sees.tags in
-    let front : AreDistinct all = front_distinct all w.waiting tags_ in
-    let goes1 : AllByRecursion (Goes true g0) one
-    = tags_filter (Goes true g0) (is_above last) w.live
+    let tags_ : NumbersAreDistinct (all ++ w.waiting) = is.sees.tags in
+    let prefix : NumbersAreDistinct all = prefix_distinct all w.waiting tags_ in
+    let goes1 : AllByRecursion (Continues true g0) one
+    = tags_filter (Continues true g0) (is_above last) w.live
     (zip_goes l s v readers w.live bs reads is.sees.at is.sees.sees.live (all_sorted (IsHere l s) (streaming_on l s) (all_filter (IsHere l s) (λ a. is_some a.row.stream) (outstanding_on l s) here))) in
-    let goes2 : AllByRecursion (Goes false g0) w.waiting
-    = subst (AllByRecursion (Goes false g0)) (sym is.sees.waits) (waits_go l s v readers (outstanding_on l s) reads here) in
-    let apart1 : AllByRecursion (Apart v.live) one = subst (λ (xs : List LiveStream). AllByRecursion (Apart xs) one) (sym live) (above_apart last w.live front) in
+    let goes2 : AllByRecursion (Continues false g0) w.waiting
+    = subst (AllByRecursion (Continues false g0)) (sym is.sees.waits) (waits_go l s v readers (outstanding_on l s) reads here) in
+    let apart1 : AllByRecursion (Apart v.live) one = subst (λ (xs : List LiveStream). AllByRecursion (Apart xs) one) (sym live) (above_apart last w.live prefix) in
     let off : (k : ℕ) → is_one_of v.waiting k ≡ false = λ k. ap (λ (ns : List ℕ). is_one_of ns k) waits_none in
     let free1 : AllByRecursion (IsFree v) one = all_map (Apart v.live) (IsFree v) one (λ k h. record { streams = no_tag k 0 v.live h; waits = off k }) apart1 in
     let apart2 : AllByRecursion (NotIn all) w.waiting = back_apart all w.waiting tags_ in
     let free2 : AllByRecursion (IsFree v) w.waiting
     = all_map (NotIn all) (IsFree v) w.waiting
     (λ k h. record { streams = no_tag k 0 v.live (ap (λ (xs : List LiveStream). is_one_of (map (λ (x : LiveStream). x.tag) xs) k) live ∙ never_kept (is_within last) k w.live h); waits = off k }) apart2 in
-    let r1 : Reported = told_all g0 (map (unseen at) one) in
-    let first : AreUnseen g0 one (map (ended_news true at) one) r1 = all_unseen g0 one at true reads.distinct (distinct_kept (is_above last) w.live front) goes1 free1 in
+    let r1 : Reported = reported_all g0 (map (unseen at) one) in
+    let first : AreUnseen g0 one (map (ended_news true at) one) r1 = all_unseen g0 one at true reads.distinct (distinct_kept (is_above last) w.live prefix) goes1 free1 in
     let not_one : AllByRecursion (NotIn one) w.waiting = all_map (NotIn all) (NotIn one) w.waiting (λ k h. never_kept (is_above last) k w.live h) apart2 in
-    let goes3 : AllByRecursion (Goes false r1.link) w.waiting
-    = all_both (Goes false g0) (NotIn one) (Goes false r1.link) w.waiting
+    let goes3 : AllByRecursion (Continues false r1.link) w.waiting
+    = all_both (Continues false g0) (NotIn one) (Continues false r1.link) w.waiting
     (λ k y h. record { reader = y.reader; there = first.kept k h ∙ y.there; over = y.over; opened_is = y.opened_is }) goes2 not_one in
     let free3 : AllByRecursion (IsFree r1.link.link.wire) w.waiting = subst (λ (x : HalfSeen). AllByRecursion (IsFree x.wire) w.waiting) (sym first.same) free2 in
-    let r2 : Reported = told_all r1.link (map (unseen at) w.waiting) in
+    let r2 : Reported = reported_all r1.link (map (unseen at) w.waiting) in
     let next : AreUnseen r1.link w.waiting (map (ended_news false at) w.waiting) r2
     = all_unseen r1.link w.waiting at false first.distinct (back_distinct all w.waiting tags_) goes3 free3 in
-    let list : (told w f).news ≡ map (unseen at) one ++ map (unseen at) w.waiting ++ retires w.retiring
-    = ap (λ (x : Told). x.news) told_is
+    let list : (reported w f).news ≡ map (unseen at) one ++ map (unseen at) w.waiting ++ retires w.retiring
+    = ap (λ (x : Report). x.news) reported_is
     ∙ ap (λ (ns : List LinkNews). ns ++ map (unseen at) w.waiting ++ retires w.retiring) (map_unseen at (filter (is_above last) w.live)) in
-    let whole : reported w readers f ≡ record { link = r2.link; news = r1.news ++ r2.news ++ retired_news w.retiring }
-    = ap (told_all g0) list ∙ all_told g0 (map (unseen at) one) (map (unseen at) w.waiting) w.retiring in
+    let whole : frame_reported w readers f ≡ record { link = r2.link; news = r1.news ++ r2.news ++ retired_news w.retiring }
+    = ap (reported_all g0) list ∙ all_reported g0 (map (unseen at) one) (map (unseen at) w.waiting) w.retiring in
     let left : one ≡ map (λ (a : Attempt). a.place) (left_out l s last) = zip_left l last w.live bs is.sees.sees.live in
     let news1 : map (ended_news true at) one ≡ map (ended_as left_out_end (seen_at r)) (left_out l s last)
     = ap (map (ended_news true at)) left ∙ ap (λ (k : ℕ). map (ended_news true k) (map (λ (a : Attempt). a.place) (left_out l s last))) seen ∙ ended_map left_out_end (seen_at r) (left_out l s last) in
@@ -410,7 +410,7 @@ goaways_are_reported l s w g readers r is reads comes kind_ =
     = ap (map (ended_news false at)) is.sees.waits ∙ ap (λ (k : ℕ). map (ended_news false k) (map (λ (a : Attempt). a.place) (waiting_on l s))) seen ∙ ended_map unsent_end (seen_at r) (waiting_on l s) in
     let both : one ++ w.waiting ≡ map (λ (a : Attempt). a.place) (left_out l s last) ++ map (λ (a : Attempt). a.place) (waiting_on l s)
     = ap (λ (ns : List ℕ). ns ++ w.waiting) left ∙ ap (λ (ns : List ℕ). map (λ (a : Attempt). a.place) (left_out l s last) ++ ns) is.sees.waits in
-    let readers_are : (reported w readers f).link.readers ≡ r2.link.readers = ap (λ (x : Reported). x.link.readers) whole in
+    let readers_are : (frame_reported w readers f).link.readers ≡ r2.link.readers = ap (λ (x : Reported). x.link.readers) whole in
     record {
       news = ap (λ (x : Reported). x.news) whole
           ∙ ap (λ (ns : List News). ns ++ r2.news ++ retired_news w.retiring) (first.news_are ∙ news1)
@@ -422,5 +422,5 @@ goaways_are_reported l s w g readers r is reads comes kind_ =
           (λ h. next.gone k h) (λ h own. next.kept k h ∙ first.gone k own);
       kept = λ k e. (let parts = none_of (is_one_of one k) (is_one_of w.waiting k) (sym (in_either one w.waiting k) ∙ ap (λ (ns : List ℕ). is_one_of ns k) both ∙ e) in
           ap (reader_in k) readers_are ∙ next.kept k parts.1 ∙ first.kept k parts.0);
-      distinct = subst (λ (ts : List TagReader). AreDistinct (tags ts)) (sym readers_are) next.distinct;
+      distinct = subst (λ (ts : List TagReader). NumbersAreDistinct (tags ts)) (sym readers_are) next.distinct;
     }

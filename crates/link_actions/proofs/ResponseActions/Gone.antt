@@ -12,7 +12,7 @@ use Rattle.lb_policy.specs.Table.{is_one_of}
 use Rattle.link_actions.proofs.DataSent.{tag_apart}
 use Rattle.link_actions.proofs.Lists.{if_false, none_of}
 use Rattle.link_actions.proofs.Without.{is_other_stream}
-use Rattle.link_actions.specs.Sees.{AreDistinct}
+use Rattle.link_actions.specs.Sees.{NumbersAreDistinct}
 use Rattle.link_actions.proofs.StreamActions.Found.{removed}
 
 -- no stream is of it
@@ -44,7 +44,7 @@ no_key t (n ∷ ns) none =
     let parts = none_of (n == t) (is_one_of ns t) none in
     key_by t n ns (remove_key (is_at (nat_cmp t)) ns) (is_at (nat_cmp t) n) refl parts.0 (no_key t ns parts.1)
 
-pub cut_gone : (w v : Wire) (i number : ℕ) (y : LiveStream) → slice_get w.live i ≡ Some y → AreDistinct (map (λ (x : LiveStream). x.tag) w.live ++ w.waiting) → v.live ≡ remove w.live i
+pub cut_gone : (w v : Wire) (i number : ℕ) (y : LiveStream) → slice_get w.live i ≡ Some y → NumbersAreDistinct (map (λ (x : LiveStream). x.tag) w.live ++ w.waiting) → v.live ≡ remove w.live i
     → v.waiting ≡ w.waiting → cut v y.tag number ≡ v
 cut_gone w v i number y there tags live waiting =
     let gone : v.live ≡ filter (is_other_stream y.tag) w.live = live ∙ sym (removed i w.live y w.waiting there tags) in

@@ -22,8 +22,8 @@ use Rattle.session_actions.specs.declared.link.Traffic.TheVariants as traffic
 use Rattle.session_actions.specs.declared.response.Outcome.{Outcome}
 use Rattle.session_actions.specs.declared.response.Response.{Response}
 
-abbrev IsBare : Response → Type 0
-IsBare p = is_some p.head ≡ false → p.rest ≡ []
+abbrev IsHeadless : Response → Type 0
+IsHeadless p = is_some p.head ≡ false → p.rest ≡ []
 
 both_ways : (b : Bool) → b ≡ true → b ≡ false → ⊥
 both_ways true e h = (cc)
@@ -34,71 +34,71 @@ some_of None e = absurd (cc)
 some_of (Some x) e = refl
 
 -- DATA
-fault_bare : (o : Option MessageFault) (q : Response) → is_some q.head ≡ true → IsBare (with_fault o q)
-fault_bare (Some (flaw.TooLarge len)) q some = λ e. absurd (both_ways (is_some q.head) some e)
-fault_bare (Some flaw.BadFlag) q some = λ e. absurd (both_ways (is_some q.head) some e)
-fault_bare None q some =
-    on_if IsBare q.closes (ended (plain_end code.Unknown cause.Http false (Some cancel)) q) q
+fault_headless : (o : Option MessageFault) (q : Response) → is_some q.head ≡ true → IsHeadless (with_fault o q)
+fault_headless (Some (flaw.TooLarge len)) q some = λ e. absurd (both_ways (is_some q.head) some e)
+fault_headless (Some flaw.BadFlag) q some = λ e. absurd (both_ways (is_some q.head) some e)
+fault_headless None q some =
+    on_if IsHeadless q.closes (ended (plain_end code.Unknown cause.Http false (Some cancel)) q) q
     (λ h e. absurd (both_ways (is_some q.head) some e)) (λ h e. absurd (both_ways (is_some q.head) some e))
 
-data_bare : (limit : ℕ) (p : Response) (f : FrameSeen) → IsBare p → IsBare (with_data limit p f)
-data_bare limit p f h =
+data_headless : (limit : ℕ) (p : Response) (f : FrameSeen) → IsHeadless p → IsHeadless (with_data limit p f)
+data_headless limit p f h =
     let m : Messages = messages_of limit (p.rest ++ content_of f) in
     let o : Outcome = plain_end code.Internal cause.Framing false (Some protocol_error) in
-    on_if IsBare (is_none p.head) (ended o p) (with_fault m.fault (with_messages p m (has_flag f.flags end_stream_flag)))
-    (λ e. h) (λ e. fault_bare m.fault (with_messages p m (has_flag f.flags end_stream_flag)) (some_of p.head e))
+    on_if IsHeadless (is_none p.head) (ended o p) (with_fault m.fault (with_messages p m (has_flag f.flags end_stream_flag)))
+    (λ e. h) (λ e. fault_headless m.fault (with_messages p m (has_flag f.flags end_stream_flag)) (some_of p.head e))
 
 -- header blocks
-head_bare : (p : Response) (b : Block) → IsBare p → IsBare (with_head p b)
-head_bare p b h =
+head_headless : (p : Response) (b : Block) → IsHeadless p → IsHeadless (with_head p b)
+head_headless p b h =
     let o : Outcome = block_end (http_code b.fields) cause.Http cancel b in
-    on_if IsBare (is_head b.fields) (record p { head = Some (shown_of b.fields) }) (ended o p) (λ e never. absurd (let no : ⊥ = (cc) in no)) (λ e. h)
+    on_if IsHeadless (is_head b.fields) (record p { head = Some (shown_of b.fields) }) (ended o p) (λ e never. absurd (let no : ⊥ = (cc) in no)) (λ e. h)
 
-block_bare : (p : Response) (b : Block) → IsBare p → IsBare (with_block p b)
-block_bare p b h =
-    let behind : Response = if is_some p.head || is_none (http_status b.fields) then ended_by_block b p else with_head p b in
-    on_if IsBare (is_none p.head && is_interim (http_status b.fields)) (if b.ends then ended_by_block b p else p) (if b.ends then with_trailers p b else behind)
-    (λ e. on_if IsBare b.ends (ended_by_block b p) p (λ i. h) (λ i. h))
-    (λ e. on_if IsBare b.ends (with_trailers p b) behind (λ i. h)
-    (λ i. on_if IsBare (is_some p.head || is_none (http_status b.fields)) (ended_by_block b p) (with_head p b) (λ j. h) (λ j. head_bare p b h)))
+block_headless : (p : Response) (b : Block) → IsHeadless p → IsHeadless (with_block p b)
+block_headless p b h =
+    let afterwards : Response = if is_some p.head || is_none (http_status b.fields) then ended_by_block b p else with_head p b in
+    on_if IsHeadless (is_none p.head && is_interim (http_status b.fields)) (if b.ends then ended_by_block b p else p) (if b.ends then with_trailers p b else afterwards)
+    (λ e. on_if IsHeadless b.ends (ended_by_block b p) p (λ i. h) (λ i. h))
+    (λ e. on_if IsHeadless b.ends (with_trailers p b) afterwards (λ i. h)
+    (λ i. on_if IsHeadless (is_some p.head || is_none (http_status b.fields)) (ended_by_block b p) (with_head p b) (λ j. h) (λ j. head_headless p b h)))
 
 -- other frames
-update_bare : (p : Response) (by : ℕ) → IsBare p → IsBare (with_update p by)
-update_bare p by h =
+update_headless : (p : Response) (by : ℕ) → IsHeadless p → IsHeadless (with_update p by)
+update_headless p by h =
     let none : Outcome = plain_end code.Internal cause.Framing false (Some protocol_error) in
     let wide : Outcome = plain_end code.Internal cause.Framing false (Some flow_control_error) in
-    on_if IsBare (by == 0) (ended none p) _ (λ e. h)
-    (λ e. on_if IsBare (nat_lt (largest_window + p.used) (p.initial + p.raised + by)) (ended wide p) (record p { raised = p.raised + by }) (λ i. h) (λ i. h))
+    on_if IsHeadless (by == 0) (ended none p) _ (λ e. h)
+    (λ e. on_if IsHeadless (nat_lt (largest_window + p.used) (p.initial + p.raised + by)) (ended wide p) (record p { raised = p.raised + by }) (λ i. h) (λ i. h))
 
-own_bare : (limit : ℕ) (p : Response) (f : FrameSeen) → IsBare p → IsBare (with_own_frame limit p f)
-own_bare limit p f h =
-    on_if IsBare (f.kind == data_type) (with_data limit p f) _ (λ e. data_bare limit p f h)
-    (λ e. on_if IsBare (f.kind == rst_stream_type) (with_reset p (reset_code f.payload)) _ (λ i. h)
-    (λ i. on_if IsBare (f.kind == window_update_type) (with_update p (increment f.payload)) p (λ j. update_bare p (increment f.payload) h) (λ j. h)))
+own_headless : (limit : ℕ) (p : Response) (f : FrameSeen) → IsHeadless p → IsHeadless (with_own_frame limit p f)
+own_headless limit p f h =
+    on_if IsHeadless (f.kind == data_type) (with_data limit p f) _ (λ e. data_headless limit p f h)
+    (λ e. on_if IsHeadless (f.kind == rst_stream_type) (with_reset p (reset_code f.payload)) _ (λ i. h)
+    (λ i. on_if IsHeadless (f.kind == window_update_type) (with_update p (increment f.payload)) p (λ j. update_headless p (increment f.payload) h) (λ j. h)))
 
-stream_bare : (limit : ℕ) (p : Response) (f : FrameSeen) (o : Option Block) → IsBare p → IsBare (with_stream_frame limit p f o)
-stream_bare limit p f (Some b) h = block_bare p b h
-stream_bare limit p f None h = own_bare limit p f h
+stream_headless : (limit : ℕ) (p : Response) (f : FrameSeen) (o : Option Block) → IsHeadless p → IsHeadless (with_stream_frame limit p f o)
+stream_headless limit p f (Some b) h = block_headless p b h
+stream_headless limit p f None h = own_headless limit p f h
 
-read_bare : (limit k : ℕ) (p : Response) (r : ReadFrame) → IsBare p → IsBare (with_read limit k p r)
-read_bare limit k p r h =
+read_headless : (limit k : ℕ) (p : Response) (r : ReadFrame) → IsHeadless p → IsHeadless (with_read limit k p r)
+read_headless limit k p r h =
     let f : FrameSeen = r.frame in
     let o : Outcome = plain_end code.Unavailable cause.Goaway true (Some cancel) in
-    on_if IsBare (is_settings f) (record p { initial = initial_after p.initial f }) _ (λ e. h)
-    (λ e. on_if IsBare ((f.kind == goaway_type) && nat_lt (last_stream f.payload) k) (ended o p) _ (λ i. h)
-    (λ i. on_if IsBare (f.stream == k) (with_stream_frame limit p f r.block) p (λ j. stream_bare limit p f r.block h) (λ j. h)))
+    on_if IsHeadless (is_settings f) (record p { initial = initial_after p.initial f }) _ (λ e. h)
+    (λ e. on_if IsHeadless ((f.kind == goaway_type) && nat_lt (last_stream f.payload) k) (ended o p) _ (λ i. h)
+    (λ i. on_if IsHeadless (f.stream == k) (with_stream_frame limit p f r.block) p (λ j. stream_headless limit p f r.block h) (λ j. h)))
 
-traffic_bare : (limit k : ℕ) (p : Response) (t : Traffic) → IsBare p → IsBare (with_traffic limit k p t)
-traffic_bare limit k p (traffic.Read r) h = read_bare limit k p r h
-traffic_bare limit k p (traffic.Written sent.Preface) h = h
-traffic_bare limit k p (traffic.Written (sent.Frame f)) h =
-    on_if IsBare ((f.kind == data_type) && (f.stream == k)) (record p { used = p.used + length f.payload }) p (λ e. h) (λ e. h)
+traffic_headless : (limit k : ℕ) (p : Response) (t : Traffic) → IsHeadless p → IsHeadless (with_traffic limit k p t)
+traffic_headless limit k p (traffic.Read r) h = read_headless limit k p r h
+traffic_headless limit k p (traffic.Written sent.Preface) h = h
+traffic_headless limit k p (traffic.Written (sent.Frame f)) h =
+    on_if IsHeadless ((f.kind == data_type) && (f.stream == k)) (record p { used = p.used + length f.payload }) p (λ e. h) (λ e. h)
 
-all_bare : (limit k : ℕ) (p : Response) (ts : List Traffic) → IsBare p → IsBare (fold (response_after limit k) p ts)
-all_bare limit k p [] h = h
-all_bare limit k p (t ∷ ts) h =
-    all_bare limit k (response_after limit k p t) ts
-    (on_if IsBare (is_some p.end || p.large) p (with_traffic limit k p t) (λ e. h) (λ e. traffic_bare limit k p t h))
+all_headless : (limit k : ℕ) (p : Response) (ts : List Traffic) → IsHeadless p → IsHeadless (fold (response_after limit k) p ts)
+all_headless limit k p [] h = h
+all_headless limit k p (t ∷ ts) h =
+    all_headless limit k (response_after limit k p t) ts
+    (on_if IsHeadless (is_some p.end || p.large) p (with_traffic limit k p t) (λ e. h) (λ e. traffic_headless limit k p t h))
 
 pub headless : (limit k : ℕ) (ts : List Traffic) → is_some (response_in limit k ts).head ≡ false → (response_in limit k ts).rest ≡ []
-headless limit k ts = all_bare limit k no_response ts (λ e. refl)
+headless limit k ts = all_headless limit k no_response ts (λ e. refl)

@@ -17,7 +17,7 @@ use Rattle.grpc_base.specs.declared.fields.Field.{Field}
 use Rattle.grpc_base.specs.declared.plan.Pushback.{Pushback}
 use Rattle.grpc_base.specs.declared.plan.Pushback.TheVariants as pushback
 use Rattle.grpc_frame.specs.Messages.{Messages, messages_of}
-use Rattle.grpc_frame.specs.Reader.{reader_behind}
+use Rattle.grpc_frame.specs.Reader.{reader_after}
 use Rattle.grpc_frame.specs.declared.next.MessageFault.{MessageFault}
 use Rattle.grpc_frame.specs.declared.next.MessageFault.TheVariants as flaw
 use Rattle.grpc_link.specs.Ends as link
@@ -118,7 +118,7 @@ data_step : (limit tag seen : ℕ) (opened : Bool) (p : Response) (whole : List 
     (record {
       reader = record (the_reader opened limit p) {
         over = is_some (data_end fault ends seen) || is_some (data_large fault seen);
-        messages = reader_behind limit (record { whole = whole; rest = rest; fault = fault });
+        messages = reader_after limit (record { whole = whole; rest = rest; fault = fault });
       };
       news = map (message_news tag seen) whole ++ reader.large_gained tag (data_large fault seen) ++ end_gained tag (data_end fault ends seen);
     })
@@ -178,7 +178,7 @@ pub fault_reported : (limit tag t seen number : ℕ) (opened : Bool) (p : Respon
     → IsStep limit tag seen opened (stepped (the_reader opened limit p) tag (report.Fault t number seen)) p (ended (plain_end code.Internal cause.Framing false reset) p)
 fault_reported limit tag t seen number opened p reset is =
     ends_step limit tag seen opened (the_reader opened limit p) p p (plain_end code.Internal cause.Framing false reset)
-    (link.bare_end code.Internal cause.Framing false seen) is.small refl refl refl refl
+    (link.end_without_block code.Internal cause.Framing false seen) is.small refl refl refl refl
 
 none_is : {X : Type 0} (o : Option X) → (if is_some o then false else true) ≡ is_none o
 none_is None = refl
@@ -189,7 +189,7 @@ pub reset_reported : (limit tag t seen number : ℕ) (opened : Bool) (p : Respon
 reset_reported limit tag t seen number opened p is =
     ends_step limit tag seen opened (the_reader opened limit p) p p
     (plain_end (looked_up reset_codes number) cause.Reset ((number == refused_stream) && is_none p.head) None) (link.reset_end (is_some p.head) number seen) is.small refl refl refl
-    (ap (λ (b : Bool). link.bare_end (looked_up reset_codes number) cause.Reset ((number == refused_stream) && b) seen) (none_is p.head))
+    (ap (λ (b : Bool). link.end_without_block (looked_up reset_codes number) cause.Reset ((number == refused_stream) && b) seen) (none_is p.head))
 
 abbrev pub unseen_outcome : Outcome
 unseen_outcome = plain_end code.Unavailable cause.Goaway true (Some cancel)

@@ -6,26 +6,26 @@ use Rattle.std.proofs.lemmas.Int.{ints}
 use Rattle.attempt_ledger.specs.declared.row.RowCause.TheVariants as cause
 use Rattle.grpc_base.specs.ErrorCodes.{flow_control_error, protocol_error}
 use Rattle.grpc_base.specs.declared.code.Code.TheVariants as code
-use Rattle.grpc_link.specs.Links.{reader_in, told_all}
+use Rattle.grpc_link.specs.Links.{reader_in, reported_all}
 use Rattle.grpc_link.specs.Readers.{ReaderSeen, Stepped, stepped}
 use Rattle.grpc_link.specs.declared.readers.TagReader.{TagReader}
 use Rattle.h2_frame.specs.Frames.{FrameSeen}
 use Rattle.h2_frame.specs.Numbers.{data_type, rst_stream_type, window_update_type}
 use Rattle.h2_frame.specs.Payloads.{increment, reset_code}
 use Rattle.h2_link.specs.LinkErrors.{send_window}
-use Rattle.h2_link.specs.Steps.{read_after, told}
+use Rattle.h2_link.specs.Steps.{read_after, reported}
 use Rattle.h2_link.specs.Wire.{Wire}
 use Rattle.h2_link.specs.declared.news.LinkNews.{LinkNews}
 use Rattle.h2_link.specs.declared.news.LinkNews.TheVariants as report
-use Rattle.link_actions.proofs.Hearing.{not_kind}
+use Rattle.link_actions.proofs.Receiving.{not_kind}
 use Rattle.link_actions.proofs.Lists.{if_false, if_true}
-use Rattle.link_actions.specs.Sees.{AreDistinct}
+use Rattle.link_actions.specs.Sees.{NumbersAreDistinct}
 use Rattle.link_actions.proofs.ResponseActions.Codes.{HasCode, code_of, framing_code}
-use Rattle.link_actions.proofs.ResponseActions.Found.{IsTold, tags}
-use Rattle.link_actions.proofs.ResponseActions.Frames.{HasReader, has_reader, is_reported, none_told, one_told, seen_same, start}
+use Rattle.link_actions.proofs.ResponseActions.Found.{IsReported, tags}
+use Rattle.link_actions.proofs.ResponseActions.Frames.{HasReader, has_reader, is_frame_reported, none_reported, one_reported, seen_same, start}
 use Rattle.link_actions.proofs.ResponseActions.OwnFrames.{follows_on, goes_of, in_session, not_done, open_of}
 use Rattle.link_actions.proofs.ResponseActions.Steps.{GoesOn, IsStep, fault_reported, nothing_gained, the_reader}
-use Rattle.link_actions.proofs.ResponseActions.Told.{Tells, is_end, update_list, update_tells}
+use Rattle.link_actions.proofs.ResponseActions.Report.{ReportsThat, is_end, update_list, update_reports}
 use Rattle.link_actions.proofs.ResponseActions.Windows.{AreWindows, windows_are}
 use Rattle.link_actions.specs.ResponseActions.Gained.{is_done}
 use Rattle.link_actions.specs.ResponseActions.Laws.{UpdatesAreReported, seen_at}
@@ -39,7 +39,7 @@ use Rattle.session_actions.specs.declared.response.Response.{Response}
 use Rattle.session_actions.specs.declared.seen.Seen.{Seen}
 use Rattle.link_actions.proofs.StreamActions.PlainRead.{IsStill, of_kind, still_response, updates_are_read}
 use Rattle.link_actions.proofs.StreamActions.StreamGoes.{Stands, stands}
-use Rattle.link_actions.specs.StreamActions.Laws.{Ends, GoesOn as Goes, Then, is_too_wide, update_then}
+use Rattle.link_actions.specs.StreamActions.Laws.{Ends, GoesOn as Continues, Then, is_too_wide, update_then}
 use Rattle.link_actions.specs.StreamActions.Sees.{response_of}
 
 -- whether it is too wide
@@ -67,42 +67,42 @@ updated p by z b =
     else if b then ended (plain_end code.Internal cause.Framing false (Some flow_control_error)) p
     else record p { raised = p.raised + by }
 
-update_done : (p : Response) (by : ℕ) (z b : Bool) → is_end (if z then Ends (Some protocol_error) else if b then Ends (Some flow_control_error) else Goes) ≡ true → is_done (updated p by z b) ≡ true
+update_done : (p : Response) (by : ℕ) (z b : Bool) → is_end (if z then Ends (Some protocol_error) else if b then Ends (Some flow_control_error) else Continues) ≡ true → is_done (updated p by z b) ≡ true
 update_done p by true b e = refl
 update_done p by false true e = refl
 update_done p by false false e = absurd (let no : ⊥ = (cc) in no)
 
 update_code : (we : Bool) (p : Response) (by : ℕ) (z b : Bool) → GoesOn p → p.closes ≡ false → is_done (updated p by z b) ≡ true
-    → HasCode we (updated p by z b) (code_of (if z then Ends (Some protocol_error) else if b then Ends (Some flow_control_error) else Goes))
+    → HasCode we (updated p by z b) (code_of (if z then Ends (Some protocol_error) else if b then Ends (Some flow_control_error) else Continues))
 update_code we p by true b going open_ done = framing_code we (plain_end code.Internal cause.Framing false (Some protocol_error)) p refl open_
 update_code we p by false true going open_ done = framing_code we (plain_end code.Internal cause.Framing false (Some flow_control_error)) p refl open_
 update_code we p by false false going open_ done = absurd (not_done p going done)
 
 -- what is reported
-pub record UpdateTold (v : Wire) (readers : List TagReader) (tag limit seen : ℕ) (p q : Response) (ns : List LinkNews) : Type 0 where
+pub record UpdateReported (v : Wire) (readers : List TagReader) (tag limit seen : ℕ) (p q : Response) (ns : List LinkNews) : Type 0 where
   pub step_ : Stepped
   pub is_step : IsStep limit tag seen true step_ p q
-  pub is_told : IsTold (start v readers) tag step_ (told_all (start v readers) ns)
+  pub is_reported : IsReported (start v readers) tag step_ (reported_all (start v readers) ns)
 
-told_by : (v : Wire) (readers : List TagReader) (tag limit seen by : ℕ) (p : Response) (ns : List LinkNews) (z b : Bool) → GoesOn p → AreDistinct (tags readers)
-    → reader_in tag readers ≡ Some (the_reader true limit p) → ns ≡ update_list z b tag seen → UpdateTold v readers tag limit seen p (updated p by z b) ns
-told_by v readers tag limit seen by p ns true b is all there e =
+reported_by : (v : Wire) (readers : List TagReader) (tag limit seen by : ℕ) (p : Response) (ns : List LinkNews) (z b : Bool) → GoesOn p → NumbersAreDistinct (tags readers)
+    → reader_in tag readers ≡ Some (the_reader true limit p) → ns ≡ update_list z b tag seen → UpdateReported v readers tag limit seen p (updated p by z b) ns
+reported_by v readers tag limit seen by p ns true b is all there e =
     let n : LinkNews = report.Fault tag protocol_error seen in
     let opened : Bool = true in
     record {
       step_ = stepped (the_reader true limit p) tag n;
       is_step = fault_reported limit tag tag seen protocol_error opened p (Some protocol_error) is;
-      is_told = one_told v readers tag (the_reader true limit p) n ns (λ g. refl) all there e;
+      is_reported = one_reported v readers tag (the_reader true limit p) n ns (λ g. refl) all there e;
     }
-told_by v readers tag limit seen by p ns false true is all there e =
+reported_by v readers tag limit seen by p ns false true is all there e =
     let n : LinkNews = report.Fault tag flow_control_error seen in
     let opened : Bool = true in
     record {
       step_ = stepped (the_reader true limit p) tag n;
       is_step = fault_reported limit tag tag seen flow_control_error opened p (Some flow_control_error) is;
-      is_told = one_told v readers tag (the_reader true limit p) n ns (λ g. refl) all there e;
+      is_reported = one_reported v readers tag (the_reader true limit p) n ns (λ g. refl) all there e;
     }
-told_by v readers tag limit seen by p ns false false is all there e =
+reported_by v readers tag limit seen by p ns false false is all there e =
     let q : Response = record p { raised = p.raised + by } in
     record {
       step_ = record { reader = the_reader true limit p; news = [] };
@@ -112,7 +112,7 @@ told_by v readers tag limit seen by p ns false false is all there e =
         opened_is = refl;
         reads = λ goes. record { head = refl; over = refl; limit_is = refl; rest = refl; whole = refl };
       };
-      is_told = none_told v readers tag (the_reader true limit p) ns refl all there e;
+      is_reported = none_reported v readers tag (the_reader true limit p) ns refl all there e;
     }
 
 pub updates_are_reported : UpdatesAreReported
@@ -141,15 +141,15 @@ updates_are_reported l s w g readers r a is reads comes on over case =
     ∙ ap (λ (b : Bool). updated p by (by == 0) b) (wide_is n l p by windows) in
     let seen : read_after w.read (9 + length f.payload) ≡ seen_at r = seen_same l w r is.sees.sees.reads.read comes.end in
     let ns : List LinkNews = update_list (by == 0) wide a.place (seen_at r) in
-    let tells : Tells w st.index (told w f) ns (is_end th)
-    = subst (λ (k : ℕ). Tells w st.index (told w f) (update_list (by == 0) wide a.place k) (is_end th)) seen
-    (subst (λ (k : ℕ). Tells w st.index (told w f) (update_list (by == 0) wide k (read_after w.read (9 + length f.payload))) (is_end th)) st.live.tag
-    (update_tells w f st.index st.stream wide comes.fair kind some st.found (wide_same l s w n by a st is.sees.sees.reads.initial))) in
+    let reports_that : ReportsThat w st.index (reported w f) ns (is_end th)
+    = subst (λ (k : ℕ). ReportsThat w st.index (reported w f) (update_list (by == 0) wide a.place k) (is_end th)) seen
+    (subst (λ (k : ℕ). ReportsThat w st.index (reported w f) (update_list (by == 0) wide k (read_after w.read (9 + length f.payload))) (is_end th)) st.live.tag
+    (update_reports w f st.index st.stream wide comes.fair kind some st.found (wide_same l s w n by a st is.sees.sees.reads.initial))) in
     let has : HasReader l s readers n a = has_reader l s readers n a reads is.sees.at on in
-    let t : UpdateTold (told w f).wire readers a.place limit (seen_at r) p q (told w f).news
-    = told_by (told w f).wire readers a.place limit (seen_at r) by p (told w f).news (by == 0) wide going reads.distinct (has.there ∙ ap (λ (y : ReaderSeen). Some y) has.is) tells.news_are in
+    let t : UpdateReported (reported w f).wire readers a.place limit (seen_at r) p q (reported w f).news
+    = reported_by (reported w f).wire readers a.place limit (seen_at r) by p (reported w f).news (by == 0) wide going reads.distinct (has.there ∙ ap (λ (y : ReaderSeen). Some y) has.is) reports_that.news_are in
     in_session l s w g readers r a is
-    (is_reported l s w g readers r a th t.step_ q ns (is_done q) refl (record {
+    (is_frame_reported l s w g readers r a th t.step_ q ns (is_done q) refl (record {
       sees = is;
       reads = reads;
       on = on;
@@ -158,9 +158,9 @@ updates_are_reported l s w g readers r a is reads comes on over case =
       open_ = over;
       after = still_response l s w r a comes st still ∙ own;
       step = t.is_step;
-      told_ = t.is_told;
+      reported_ = t.is_reported;
       follows = follows_on l s w g r a th is (updates_are_read l s w g r a is comes on kind_);
-      tells = tells;
+      reports_that = reports_that;
       ends = λ e. update_done p by (by == 0) wide e;
       code = λ done. update_code we p by (by == 0) wide going (open_of l s n a going) done;
     }))

@@ -14,7 +14,7 @@ use Rattle.h2_frame.specs.Frames.{FrameSeen, has_flag}
 use Rattle.h2_frame.specs.Numbers.{ack_flag, continuation_type, data_type, end_stream_flag, goaway_type, headers_type, rst_stream_type, settings_type, window_update_type}
 use Rattle.h2_frame.specs.Payloads.{content_of, increment, last_stream, reset_code}
 use Rattle.h2_frame.specs.declared.payload.Setting.{Setting}
-use Rattle.link_actions.proofs.Hearing.{no_settings, not_kind}
+use Rattle.link_actions.proofs.Receiving.{no_settings, not_kind}
 use Rattle.link_actions.proofs.History.{given, raised_more, setting_more, used_same}
 use Rattle.link_actions.proofs.Lists.{if_false, if_true, none_of, on_if}
 use Rattle.link_actions.proofs.QuietKept.{joined, raise_none}
@@ -69,11 +69,11 @@ head_same p b =
 
 block_same : (p : Response) (b : Block) → SameWindows p (with_block p b)
 block_same p b =
-    let behind : Response = if is_some p.head || is_none (http_status b.fields) then ended_by_block b p else with_head p b in
+    let afterwards : Response = if is_some p.head || is_none (http_status b.fields) then ended_by_block b p else with_head p b in
     let broken : SameWindows p (ended_by_block b p) = ended_same (block_end code.Internal cause.Framing protocol_error b) p in
-    on_if (SameWindows p) (is_none p.head && is_interim (http_status b.fields)) (if b.ends then ended_by_block b p else p) (if b.ends then with_trailers p b else behind)
+    on_if (SameWindows p) (is_none p.head && is_interim (http_status b.fields)) (if b.ends then ended_by_block b p else p) (if b.ends then with_trailers p b else afterwards)
     (λ e. on_if (SameWindows p) b.ends (ended_by_block b p) p (λ i. broken) (λ i. itself p))
-    (λ e. on_if (SameWindows p) b.ends (with_trailers p b) behind (λ i. record { initial = refl; raised_ = refl; used_ = refl })
+    (λ e. on_if (SameWindows p) b.ends (with_trailers p b) afterwards (λ i. record { initial = refl; raised_ = refl; used_ = refl })
     (λ i. on_if (SameWindows p) (is_some p.head || is_none (http_status b.fields)) (ended_by_block b p) (with_head p b) (λ j. broken) (λ j. head_same p b)))
 
 -- what is written gives no setting

@@ -11,7 +11,7 @@ use Rattle.link_actions.proofs.Lists.{on_if}
 use Rattle.link_actions.proofs.Opened.{streams, unsorted, waits}
 use Rattle.link_actions.proofs.Without.{at_place, changed_at, places_at}
 use Rattle.link_actions.proofs.Written.{changed_here}
-use Rattle.link_actions.specs.Sees.{AreFed, AreLive, ArePlaced, IsFed, SeesLink, by_stream}
+use Rattle.link_actions.specs.Sees.{StreamsAreFed, StreamsAreLive, AttemptsStandInPlace, IsFed, SeesLink, by_stream}
 use Rattle.link_actions.proofs.LossActions.Calls.{changed_any, limit_in, limit_kept}
 use Rattle.session_actions.specs.Attempts.{call_of, with_attempt}
 use Rattle.session_actions.specs.CallEnds.{call_ended}
@@ -35,7 +35,7 @@ use Rattle.session_actions.specs.declared.link.Link.{Link}
 use Rattle.session_actions.specs.declared.seen.Seen.{Seen}
 use Rattle.link_actions.proofs.SteadyLinks.Left.{links_are_left, links_are_left_but}
 use Rattle.link_actions.specs.SteadyLinks.Laws.{AttemptsLeaveLinks, CallEndsLeaveLinks, CommitmentsLeaveLinks, IsLeft}
-use Rattle.link_actions.specs.SteadyLinks.Same.{AreSameOn, IsSameOn}
+use Rattle.link_actions.specs.SteadyLinks.Same.{LinesAreSameOn, IsSameOn}
 
 -- what the attempts of a link are fed with, one by one
 unfilter : {X : Type 0} (P : X → Type 0) (p : X → Bool) (xs : List X) → AllByRecursion P (filter p xs) → AllByRecursion (λ x. p x ≡ true → P x) xs
@@ -55,7 +55,7 @@ either P (a ∷ xs) with_ without_ = (by_stream_ P a a.row.stream refl with_.0 w
     by_stream_ P a None e with_ without_ = without_ (ap (λ (o : Option ℕ). is_none o) e)
     by_stream_ P a (Some n) e with_ without_ = with_ (ap (λ (o : Option ℕ). is_some o) e)
 
-zip_fed : (l : Link) (s : Seen) (g : ℕ → Line) (xs : List LiveStream) (as_ : List Attempt) → AreLive l xs as_ → AreFed l s g xs as_ → AllByRecursion (λ a. IsFed l s a (g a.place)) as_
+zip_fed : (l : Link) (s : Seen) (g : ℕ → Line) (xs : List LiveStream) (as_ : List Attempt) → StreamsAreLive l xs as_ → StreamsAreFed l s g xs as_ → AllByRecursion (λ a. IsFed l s a (g a.place)) as_
 zip_fed l s g [] [] live fed_ = tt
 zip_fed l s g (x ∷ xs) (a ∷ as_) live fed_ = (subst (λ (n : ℕ). IsFed l s a (g n)) live.0.tag fed_.0, zip_fed l s g xs as_ live.1 fed_.1)
 zip_fed l s g [] (a ∷ as_) live fed_ = absurd live
@@ -72,8 +72,8 @@ all_are_fed l s w g is =
     (either F (outstanding_on l s) (unfilter F streams (outstanding_on l s) some) (unfilter F waits (outstanding_on l s) is.wait_fed))
 
 -- a change that leaves links
-pub left_by : (s t : Seen) → t.links ≡ s.links → ((l : Link) (g : ℕ → Line) → AreAllFed l s g s.attempts → AreSameOn l l s t g s.attempts t.attempts)
-    → (ArePlaced 1 s.attempts → ArePlaced 1 t.attempts) → IsLeft s t
+pub left_by : (s t : Seen) → t.links ≡ s.links → ((l : Link) (g : ℕ → Line) → AreAllFed l s g s.attempts → LinesAreSameOn l l s t g s.attempts t.attempts)
+    → (AttemptsStandInPlace 1 s.attempts → AttemptsStandInPlace 1 t.attempts) → IsLeft s t
 left_by s t links same places = record {
   streams = λ l w g is. links_are_left l l s t w g g is (record { number = refl; traffic_ = refl; owed = refl }) (ap (λ (ls : List Link). numbered ls l.number) links ∙ is.sees.at)
       (same l g (all_are_fed l s w g is.sees)) (places is.sees.places);
@@ -117,7 +117,7 @@ noted_limit s k number a notes =
     ap (limit_in s) (changed_any k number a.row.call s.calls)
     ∙ limit_kept s k (a.row.call == number) (call_of a s) (λ c. ap (λ (d : Call). (chosen_of d s).response) (notes c))
 
-noted_same : (l : Link) (s : Seen) (g : ℕ → Line) (k : Call → Call) (number : ℕ) (xs : List Attempt) → IsNoting k → AreAllFed l s g xs → AreSameOn l l s (with_call k number s) g xs xs
+noted_same : (l : Link) (s : Seen) (g : ℕ → Line) (k : Call → Call) (number : ℕ) (xs : List Attempt) → IsNoting k → AreAllFed l s g xs → LinesAreSameOn l l s (with_call k number s) g xs xs
 noted_same l s g k number [] notes fed_ = tt
 noted_same l s g k number (a ∷ xs) notes fed_ = (
   record {
@@ -177,7 +177,7 @@ committed_one l s g e k as_ a fed_ =
     }
 
 committed_same : (l : Link) (s : Seen) (g : ℕ → Line) (e k : ℕ) (as_ xs : List Attempt) → AreAllFed l s g xs
-    → AreSameOn l l s (record s { attempts = as_ }) g xs (map (at_place (with_commitment e) k) xs)
+    → LinesAreSameOn l l s (record s { attempts = as_ }) g xs (map (at_place (with_commitment e) k) xs)
 committed_same l s g e k as_ [] fed_ = tt
 committed_same l s g e k as_ (a ∷ xs) fed_ = (committed_one l s g e k as_ a fed_.0, committed_same l s g e k as_ xs fed_.1)
 
@@ -187,7 +187,7 @@ placed_left s place a e there = record {
   but = λ k l w g is. (left_when is.sees.places).but k l w g is;
 }
   where
-    left_when : ArePlaced 1 s.attempts → IsLeft s (with_attempt (with_commitment e) place s)
+    left_when : AttemptsStandInPlace 1 s.attempts → IsLeft s (with_attempt (with_commitment e) place s)
     left_when places =
         let same : changed (with_commitment e) place s.attempts ≡ map (at_place (with_commitment e) place) s.attempts = changed_at (with_commitment e) place s.attempts a places there in
         let all : List Attempt = map (at_place (with_commitment e) place) s.attempts in
@@ -207,14 +207,14 @@ commitments_leave_links s place a there =
 made_fed : (l : Link) (s : Seen) (as_ : List Attempt) (a : Attempt) (line : Line) → IsFed l s a line → IsFed l (record s { attempts = as_ }) a line
 made_fed l s as_ a line is = record { call = is.call; call_is = is.call_is; fields = is.fields; written = is.written; left = is.left; finished = is.finished }
 
-made_same : (l : Link) (s : Seen) (g : ℕ → Line) (as_ xs : List Attempt) (b : Attempt) → b.row.placed ≡ None → AreAllFed l s g xs → AreSameOn l l s (record s { attempts = as_ }) g xs (xs ++ b ∷ [])
+made_same : (l : Link) (s : Seen) (g : ℕ → Line) (as_ xs : List Attempt) (b : Attempt) → b.row.placed ≡ None → AreAllFed l s g xs → LinesAreSameOn l l s (record s { attempts = as_ }) g xs (xs ++ b ∷ [])
 made_same l s g as_ [] b none fed_ = (none, tt)
 made_same l s g as_ (a ∷ xs) b none fed_ = (
   record { place = refl; placed = refl; stream = refl; ended = refl; limit = λ h. refl; fed = λ h. made_fed l s as_ a (g a.place) (fed_.0 h) },
   made_same l s g as_ xs b none fed_.1,
 )
 
-places_snoc : (n : ℕ) (xs : List Attempt) (b : Attempt) → b.place ≡ n + length xs → ArePlaced n xs → ArePlaced n (xs ++ b ∷ [])
+places_snoc : (n : ℕ) (xs : List Attempt) (b : Attempt) → b.place ≡ n + length xs → AttemptsStandInPlace n xs → AttemptsStandInPlace n (xs ++ b ∷ [])
 places_snoc n [] b e places = ((let at : b.place ≡ n + 0 = e in omega (arith, at)), tt)
 places_snoc n (x ∷ xs) b e places = (places.0, places_snoc (n + 1) xs b (let at : b.place ≡ n + length (x ∷ xs) = e in made_at n (length xs) b.place at) places.1)
   where
@@ -244,7 +244,7 @@ turned_fed l s t a line is = record {
   finished = is.finished;
 }
 
-turned_same : (l : Link) (s : Seen) (g : ℕ → Line) (t : Option Turn) (xs : List Attempt) → AreAllFed l s g xs → AreSameOn l l s (with_turn t s) g xs xs
+turned_same : (l : Link) (s : Seen) (g : ℕ → Line) (t : Option Turn) (xs : List Attempt) → AreAllFed l s g xs → LinesAreSameOn l l s (with_turn t s) g xs xs
 turned_same l s g t [] fed_ = tt
 turned_same l s g t (a ∷ xs) fed_ = (
   record { place = refl; placed = refl; stream = refl; ended = refl; limit = λ h. refl; fed = λ h. turned_fed l s t a (g a.place) (fed_.0 h) },

@@ -30,7 +30,7 @@ use Rattle.link_actions.proofs.SteadyLinks.Calls.{AreAllFed, all_are_fed, left_b
 use Rattle.link_actions.proofs.SteadyLinks.Left.{links_are_left}
 use Rattle.link_actions.specs.SteadyLinks.Fed.{with_end, with_message_left}
 use Rattle.link_actions.specs.SteadyLinks.Laws.{EntriesLeaveLinks, FinishesFeed, MessagesFeed, MomentsFeed}
-use Rattle.link_actions.specs.SteadyLinks.Same.{AreSameOn}
+use Rattle.link_actions.specs.SteadyLinks.Same.{LinesAreSameOn}
 use Rattle.link_actions.specs.StreamActions.Sees.{SeesStreams}
 
 -- of another list of calls and another entry
@@ -42,7 +42,7 @@ FeedsAgain l s t g h a = numbered s.attempts a.place ≡ Some a → IsFed l s a 
 
 again_same : (l : Link) (s : Seen) (cs : List Call) (o : Option OpenEntry) (g h : ℕ → Line) (xs : List Attempt) → ((a : Attempt) → limit_of_attempt a (other cs o s) ≡ limit_of_attempt a s)
     → ((a : Attempt) → FeedsAgain l s (other cs o s) g h a) → AllByRecursion (λ a. numbered s.attempts a.place ≡ Some a) xs → AreAllFed l s g xs
-    → AreSameOn l l s (other cs o s) h xs xs
+    → LinesAreSameOn l l s (other cs o s) h xs xs
 again_same l s cs o g h [] limits feeds there fed_ = tt
 again_same l s cs o g h (a ∷ xs) limits feeds there fed_ = (
   record { place = refl; placed = refl; stream = refl; ended = refl; limit = λ e. limits a; fed = λ e. feeds a there.0 (fed_.0 e) },
@@ -74,7 +74,7 @@ noted_entry l s f a line keeps is = record {
 }
 
 entry_same : (l : Link) (s : Seen) (f : OpenEntry → OpenEntry) (g : ℕ → Line) (xs : List Attempt) → ((x : OpenEntry) → (f x).moment ≡ x.moment) → AreAllFed l s g xs
-    → AreSameOn l l s (with_entry f s) g xs xs
+    → LinesAreSameOn l l s (with_entry f s) g xs xs
 entry_same l s f g [] keeps fed_ = tt
 entry_same l s f g (a ∷ xs) keeps fed_ = (
   record { place = refl; placed = refl; stream = refl; ended = refl; limit = λ e. refl; fed = λ e. noted_entry l s f a (g a.place) keeps (fed_.0 e) },

@@ -1,10 +1,10 @@
--- A link agrees with a session that it cannot tell from one with which it agrees.
+-- A link agrees with a session that it cannot distinguish from one with which it agrees.
 use Rattle.std.proofs.Common.{◌≡◌, ◌∷◌, ap, refl, subst, sym, ◌∙◌, List, [], Some, ℕ, is_none, is_some}
 use Rattle.h2_frame.specs.Frames.{FrameSeen}
 use Rattle.h2_link.specs.Feeds.{Line}
 use Rattle.h2_link.specs.Wire.{Wire}
 use Rattle.h2_link.specs.declared.live.LiveStream.{LiveStream}
-use Rattle.link_actions.specs.Sees.{AreFed, AreLive, ArePlaced, IsFed, SeesLink, SeesOwed, SeesRead, by_stream}
+use Rattle.link_actions.specs.Sees.{StreamsAreFed, StreamsAreLive, AttemptsStandInPlace, IsFed, SeesLink, SeesOwed, SeesRead, by_stream}
 use Rattle.session_actions.specs.Reading.{outstanding_on}
 use Rattle.session_actions.specs.Responses.{response_in}
 use Rattle.session_actions.specs.Words.{numbered}
@@ -16,8 +16,8 @@ use Rattle.session_actions.specs.declared.response.Response.{Response}
 use Rattle.session_actions.specs.declared.seen.Seen.{Seen}
 use Rattle.link_actions.proofs.SteadyLinks.Steps.{InStep, all_fed, chosen_step, out_step, same_places, sorted_step}
 use Rattle.link_actions.specs.SteadyLinks.Laws.{LinksAreLeft, LinksAreLeftBut}
-use Rattle.link_actions.specs.SteadyLinks.Same.{AreSameOn, IsSameLink}
-use Rattle.link_actions.specs.StreamActions.Sees.{AreHeard, AreHeardBut, IsHeard, SeesBut, SeesStreams, response_of}
+use Rattle.link_actions.specs.SteadyLinks.Same.{LinesAreSameOn, IsSameLink}
+use Rattle.link_actions.specs.StreamActions.Sees.{ResponsesAreReceived, ResponsesAreReceivedBut, IsReceived, SeesBut, SeesStreams, response_of}
 
 -- the link with what may differ from the other
 abbrev like : Link → Link → Link
@@ -48,7 +48,7 @@ owes_left : (l m : Link) (w : Wire) → SeesOwed l w → SeesOwed (like l m) w
 owes_left l m w is = record { queue = is.queue; names = is.names; resizes = is.resizes; written = is.written; answered = is.answered }
 
 -- streams
-live_left : (l m : Link) (s t : Seen) (h : ℕ → Line) (xs : List LiveStream) (as_ bs : List Attempt) → InStep l (like l m) s t h as_ bs → AreLive l xs as_ → AreLive (like l m) xs bs
+live_left : (l m : Link) (s t : Seen) (h : ℕ → Line) (xs : List LiveStream) (as_ bs : List Attempt) → InStep l (like l m) s t h as_ bs → StreamsAreLive l xs as_ → StreamsAreLive (like l m) xs bs
 live_left l m s t h [] [] [] step are = tt
 live_left l m s t h (x ∷ xs) (a ∷ as_) (b ∷ bs) step are = (
   record {
@@ -65,7 +65,7 @@ live_left l m s t h [] (a ∷ as_) bs step are = absurd are
 live_left l m s t h (x ∷ xs) [] bs step are = absurd are
 live_left l m s t h (x ∷ xs) (a ∷ as_) [] step are = absurd step
 
-fed_left : (l m : Link) (s t : Seen) (h : ℕ → Line) (xs : List LiveStream) (as_ bs : List Attempt) → InStep l (like l m) s t h as_ bs → AreLive l xs as_ → AreFed (like l m) t h xs bs
+fed_left : (l m : Link) (s t : Seen) (h : ℕ → Line) (xs : List LiveStream) (as_ bs : List Attempt) → InStep l (like l m) s t h as_ bs → StreamsAreLive l xs as_ → StreamsAreFed (like l m) t h xs bs
 fed_left l m s t h [] [] [] step are = tt
 fed_left l m s t h (x ∷ xs) (a ∷ as_) (b ∷ bs) step are = (
   subst (λ (n : ℕ). IsFed (like l m) t b (h n)) (step.0.place ∙ sym are.0.tag) step.0.fed,
@@ -76,26 +76,26 @@ fed_left l m s t h [] (a ∷ as_) bs step are = absurd are
 fed_left l m s t h (x ∷ xs) [] bs step are = absurd are
 fed_left l m s t h (x ∷ xs) (a ∷ as_) [] step are = absurd step
 
-one_left : (l m : Link) (s t : Seen) (x : LiveStream) (a b : Attempt) → response_of (like l m) t x.number b ≡ response_of l s x.number a → IsHeard l s x a → IsHeard (like l m) t x b
+one_left : (l m : Link) (s t : Seen) (x : LiveStream) (a b : Attempt) → response_of (like l m) t x.number b ≡ response_of l s x.number a → IsReceived l s x a → IsReceived (like l m) t x b
 one_left l m s t x a b same is = record {
   head = is.head ∙ ap (λ (p : Response). is_some p.head) (sym same);
   goes = ap (λ (p : Response). p.end) same ∙ is.goes;
   small = ap (λ (p : Response). p.large) same ∙ is.small;
 }
 
-heard_left : (l m : Link) (s t : Seen) (h : ℕ → Line) (xs : List LiveStream) (as_ bs : List Attempt) → InStep l (like l m) s t h as_ bs → AreHeard l s xs as_ → AreHeard (like l m) t xs bs
-heard_left l m s t h [] [] [] step are = tt
-heard_left l m s t h (x ∷ xs) (a ∷ as_) (b ∷ bs) step are = (
+received_left : (l m : Link) (s t : Seen) (h : ℕ → Line) (xs : List LiveStream) (as_ bs : List Attempt) → InStep l (like l m) s t h as_ bs → ResponsesAreReceived l s xs as_ → ResponsesAreReceived (like l m) t xs bs
+received_left l m s t h [] [] [] step are = tt
+received_left l m s t h (x ∷ xs) (a ∷ as_) (b ∷ bs) step are = (
   one_left l m s t x a b (ap (λ (n : ℕ). response_in n x.number l.traffic) step.0.limit) are.0,
-  heard_left l m s t h xs as_ bs step.1 are.1,
+  received_left l m s t h xs as_ bs step.1 are.1,
 )
-heard_left l m s t h [] [] (b ∷ bs) step are = absurd step
-heard_left l m s t h [] (a ∷ as_) bs step are = absurd are
-heard_left l m s t h (x ∷ xs) [] bs step are = absurd are
-heard_left l m s t h (x ∷ xs) (a ∷ as_) [] step are = absurd step
+received_left l m s t h [] [] (b ∷ bs) step are = absurd step
+received_left l m s t h [] (a ∷ as_) bs step are = absurd are
+received_left l m s t h (x ∷ xs) [] bs step are = absurd are
+received_left l m s t h (x ∷ xs) (a ∷ as_) [] step are = absurd step
 
-but_left : (k : ℕ) (l m : Link) (s t : Seen) (h : ℕ → Line) (xs : List LiveStream) (as_ bs : List Attempt) → InStep l (like l m) s t h as_ bs → AreHeardBut k l s xs as_
-    → AreHeardBut k (like l m) t xs bs
+but_left : (k : ℕ) (l m : Link) (s t : Seen) (h : ℕ → Line) (xs : List LiveStream) (as_ bs : List Attempt) → InStep l (like l m) s t h as_ bs → ResponsesAreReceivedBut k l s xs as_
+    → ResponsesAreReceivedBut k (like l m) t xs bs
 but_left k l m s t h [] [] [] step are = tt
 but_left k l m s t h (x ∷ xs) (a ∷ as_) (b ∷ bs) step are = (
   λ off. one_left l m s t x a b (ap (λ (n : ℕ). response_in n x.number l.traffic) step.0.limit) (are.0 off),
@@ -107,8 +107,8 @@ but_left k l m s t h (x ∷ xs) [] bs step are = absurd are
 but_left k l m s t h (x ∷ xs) (a ∷ as_) [] step are = absurd step
 
 -- the link
-link_left : (l m : Link) (s t : Seen) (w : Wire) (g h : ℕ → Line) → SeesLink l s w g → numbered t.links l.number ≡ Some (like l m) → AreSameOn l (like l m) s t h s.attempts t.attempts
-    → ArePlaced 1 t.attempts → SeesLink (like l m) t w h
+link_left : (l m : Link) (s t : Seen) (w : Wire) (g h : ℕ → Line) → SeesLink l s w g → numbered t.links l.number ≡ Some (like l m) → LinesAreSameOn l (like l m) s t h s.attempts t.attempts
+    → AttemptsStandInPlace 1 t.attempts → SeesLink (like l m) t w h
 link_left l m s t w g h is at same places =
     let n : Link = like l m in
     let out : InStep l n s t h (outstanding_on l s) (outstanding_on n t) = out_step l n s t h s.attempts t.attempts refl same in
@@ -131,28 +131,28 @@ link_left l m s t w g h is at same places =
       places = places;
     }
 
-sorted_of : (l m : Link) (s t : Seen) (h : ℕ → Line) → AreSameOn l (like l m) s t h s.attempts t.attempts
+sorted_of : (l m : Link) (s t : Seen) (h : ℕ → Line) → LinesAreSameOn l (like l m) s t h s.attempts t.attempts
     → InStep l (like l m) s t h (by_stream (streaming_on l s)) (by_stream (streaming_on (like l m) t))
 sorted_of l m s t h same =
     let n : Link = like l m in
     let out : InStep l n s t h (outstanding_on l s) (outstanding_on n t) = out_step l n s t h s.attempts t.attempts refl same in
     sorted_step l n s t h (streaming_on l s) (streaming_on n t) (chosen_step l n s t h (λ o. is_some o) (outstanding_on l s) (outstanding_on n t) out)
 
-streams_left : (l m : Link) (s t : Seen) (w : Wire) (g h : ℕ → Line) → SeesStreams l s w g → numbered t.links l.number ≡ Some (like l m) → AreSameOn l (like l m) s t h s.attempts t.attempts
-    → ArePlaced 1 t.attempts → SeesStreams (like l m) t w h
+streams_left : (l m : Link) (s t : Seen) (w : Wire) (g h : ℕ → Line) → SeesStreams l s w g → numbered t.links l.number ≡ Some (like l m) → LinesAreSameOn l (like l m) s t h s.attempts t.attempts
+    → AttemptsStandInPlace 1 t.attempts → SeesStreams (like l m) t w h
 streams_left l m s t w g h is at same places = record {
   sees = link_left l m s t w g h is.sees at same places;
-  heard = heard_left l m s t h w.live (by_stream (streaming_on l s)) (by_stream (streaming_on (like l m) t)) (sorted_of l m s t h same) is.heard;
-  unheard = is.unheard;
+  handled = received_left l m s t h w.live (by_stream (streaming_on l s)) (by_stream (streaming_on (like l m) t)) (sorted_of l m s t h same) is.handled;
+  unreceived = is.unreceived;
   begun = is.begun;
 }
 
-buts_left : (k : ℕ) (l m : Link) (s t : Seen) (w : Wire) (g h : ℕ → Line) → SeesBut k l s w g → numbered t.links l.number ≡ Some (like l m) → AreSameOn l (like l m) s t h s.attempts t.attempts
-    → ArePlaced 1 t.attempts → SeesBut k (like l m) t w h
+buts_left : (k : ℕ) (l m : Link) (s t : Seen) (w : Wire) (g h : ℕ → Line) → SeesBut k l s w g → numbered t.links l.number ≡ Some (like l m) → LinesAreSameOn l (like l m) s t h s.attempts t.attempts
+    → AttemptsStandInPlace 1 t.attempts → SeesBut k (like l m) t w h
 buts_left k l m s t w g h is at same places = record {
   sees = link_left l m s t w g h is.sees at same places;
-  heard = but_left k l m s t h w.live (by_stream (streaming_on l s)) (by_stream (streaming_on (like l m) t)) (sorted_of l m s t h same) is.heard;
-  unheard = is.unheard;
+  handled = but_left k l m s t h w.live (by_stream (streaming_on l s)) (by_stream (streaming_on (like l m) t)) (sorted_of l m s t h same) is.handled;
+  unreceived = is.unreceived;
   begun = is.begun;
 }
 
@@ -161,11 +161,11 @@ links_are_left l m s t w g h is link at same places =
     let e : m ≡ like l m = is_like l m link in
     let at_ : numbered t.links l.number ≡ Some (like l m) = ap (numbered t.links) (sym link.number) ∙ at ∙ ap (λ (x : Link). Some x) e in
     subst (λ (x : Link). SeesStreams x t w h) (sym e)
-    (streams_left l m s t w g h is at_ (subst (λ (x : Link). AreSameOn l x s t h s.attempts t.attempts) e same) places)
+    (streams_left l m s t w g h is at_ (subst (λ (x : Link). LinesAreSameOn l x s t h s.attempts t.attempts) e same) places)
 
 pub links_are_left_but : LinksAreLeftBut
 links_are_left_but k l m s t w g h is link at same places =
     let e : m ≡ like l m = is_like l m link in
     let at_ : numbered t.links l.number ≡ Some (like l m) = ap (numbered t.links) (sym link.number) ∙ at ∙ ap (λ (x : Link). Some x) e in
     subst (λ (x : Link). SeesBut k x t w h) (sym e)
-    (buts_left k l m s t w g h is at_ (subst (λ (x : Link). AreSameOn l x s t h s.attempts t.attempts) e same) places)
+    (buts_left k l m s t w g h is at_ (subst (λ (x : Link). LinesAreSameOn l x s t h s.attempts t.attempts) e same) places)

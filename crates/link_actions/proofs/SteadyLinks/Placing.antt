@@ -20,7 +20,7 @@ use Rattle.link_actions.proofs.Lists.{if_false, if_true, none_of, on_if}
 use Rattle.link_actions.proofs.Opened.{put_all, streams, waits}
 use Rattle.link_actions.proofs.Without.{all_filter, at_place, changed_at, places_at}
 use Rattle.link_actions.proofs.Written.{changed_here}
-use Rattle.link_actions.specs.Sees.{AreDistinct, AreFed, AreLive, ArePlaced, IsFed, by_stream}
+use Rattle.link_actions.specs.Sees.{NumbersAreDistinct, StreamsAreFed, StreamsAreLive, AttemptsStandInPlace, IsFed, by_stream}
 use Rattle.link_actions.proofs.LossActions.Losses.{all_there}
 use Rattle.session_actions.specs.Attempts.{with_attempt}
 use Rattle.session_actions.specs.Calls.{marked}
@@ -34,7 +34,7 @@ use Rattle.session_actions.specs.declared.link.Link.{Link}
 use Rattle.session_actions.specs.declared.seen.Seen.{Seen}
 use Rattle.link_actions.proofs.SteadyLinks.Calls.{AreAllFed, all_are_fed, marked_left}
 use Rattle.link_actions.specs.SteadyLinks.Laws.{CanPlace, PlacingsKeep}
-use Rattle.link_actions.specs.StreamActions.Sees.{AreHeard, SeesStreams}
+use Rattle.link_actions.specs.StreamActions.Sees.{ResponsesAreReceived, SeesStreams}
 
 -- the attempt of a place is this one
 abbrev IsOnly : ℕ → Attempt → Attempt → Type 0
@@ -109,7 +109,7 @@ insert_first k (n ∷ ns) above = ap (λ (o : Ordering). match_ordering o (k ∷
 insert_later : (k n : ℕ) (ns : List ℕ) → n < k → insert_key nat_cmp (n ∷ ns) k ≡ n ∷ insert_key nat_cmp ns k
 insert_later k n ns h = ap (λ (o : Ordering). match_ordering o (k ∷ n ∷ ns) (n ∷ ns) (n ∷ insert_key nat_cmp ns k)) (more_cmp k n h)
 
-above_by : (l : Link) (k j : ℕ) (xs : List Attempt) → ArePlaced j xs → k < j → AreAbove k (places (wait_in l xs))
+above_by : (l : Link) (k j : ℕ) (xs : List Attempt) → AttemptsStandInPlace j xs → k < j → AreAbove k (places (wait_in l xs))
 above_by l k j [] placed_ low = tt
 above_by l k j (x ∷ xs) placed_ low =
     let at : x.place ≡ j = placed_.0 in
@@ -120,7 +120,7 @@ above_by l k j (x ∷ xs) placed_ low =
     (λ e. on_if (λ (us : List Attempt). AreAbove k (places us)) (waits x) (x ∷ wait_in l xs) (wait_in l xs) (λ h. (here, rest)) (λ h. rest))
     (λ e. rest)
 
-none_changed : (f : Attempt → Attempt) (t j : ℕ) (xs : List Attempt) → ArePlaced j xs → t < j → map (at_place f t) xs ≡ xs
+none_changed : (f : Attempt → Attempt) (t j : ℕ) (xs : List Attempt) → AttemptsStandInPlace j xs → t < j → map (at_place f t) xs ≡ xs
 none_changed f t j [] placed_ low = refl
 none_changed f t j (x ∷ xs) placed_ low =
     let at : x.place ≡ j = placed_.0 in
@@ -129,7 +129,7 @@ none_changed f t j (x ∷ xs) placed_ low =
     let apart : (x.place == t) ≡ false = grind (arith, nat_tests, high) in
     ap (λ (y : Attempt). y ∷ map (at_place f t) xs) (if_false (x.place == t) (f x) x apart) ∙ ap (λ (ys : List Attempt). x ∷ ys) (none_changed f t (j + 1) xs placed_.1 next)
 
-waits_more : (l : Link) (k j i : ℕ) (a : Attempt) (at : Placed) (xs : List Attempt) → ArePlaced j xs → slice_get xs i ≡ Some a → k ≡ j + i → CanPlace l a at
+waits_more : (l : Link) (k j i : ℕ) (a : Attempt) (at : Placed) (xs : List Attempt) → AttemptsStandInPlace j xs → slice_get xs i ≡ Some a → k ≡ j + i → CanPlace l a at
     → places (wait_in l (map (at_place (with_placing at) k) xs)) ≡ insert_key nat_cmp (places (wait_in l xs)) k
 waits_more l k j i a at [] placed_ there here can = absurd (let no : ⊥ = (cc) in no)
 waits_more l k j zero a at (x ∷ xs) placed_ there here can =
@@ -169,7 +169,7 @@ waits_more l k j (suc i) a at (x ∷ xs) placed_ there here can =
     (λ h. ap places (if_false (waits x) (x ∷ filter waits fy) (filter waits fy) h) ∙ rest))
     (λ e. ap (λ (us : List Attempt). places (filter waits us)) (if_false (is_outstanding_on l x) (x ∷ fy) fy e) ∙ rest)
 
-index_of : (l : Link) (k : ℕ) (a : Attempt) (at : Placed) (xs : List Attempt) → ArePlaced 1 xs → numbered xs k ≡ Some a → CanPlace l a at
+index_of : (l : Link) (k : ℕ) (a : Attempt) (at : Placed) (xs : List Attempt) → AttemptsStandInPlace 1 xs → numbered xs k ≡ Some a → CanPlace l a at
     → places (wait_in l (map (at_place (with_placing at) k) xs)) ≡ insert_key nat_cmp (places (wait_in l xs)) k
 index_of l zero a at xs placed_ there can = absurd (let no : ⊥ = (cc) in no)
 index_of l (suc i) a at xs placed_ there can = waits_more l (suc i) 1 i a at xs placed_ there (omega arith) can
@@ -190,14 +190,14 @@ absent k n (m ∷ ns) none apart =
 turned : (k t : ℕ) → (k == t) ≡ false → (t == k) ≡ false
 turned k t e = grind (arith, nat_tests, e)
 
-distinct_by : (k m : ℕ) (ns : List ℕ) (o : Ordering) → AreDistinct (m ∷ ns) → is_one_of (m ∷ ns) k ≡ false → AreDistinct (insert_key nat_cmp ns k)
-    → AreDistinct (match_ordering o (k ∷ m ∷ ns) (m ∷ ns) (m ∷ insert_key nat_cmp ns k))
+distinct_by : (k m : ℕ) (ns : List ℕ) (o : Ordering) → NumbersAreDistinct (m ∷ ns) → is_one_of (m ∷ ns) k ≡ false → NumbersAreDistinct (insert_key nat_cmp ns k)
+    → NumbersAreDistinct (match_ordering o (k ∷ m ∷ ns) (m ∷ ns) (m ∷ insert_key nat_cmp ns k))
 distinct_by k m ns ordering.Less all none rest = (none, all)
 distinct_by k m ns ordering.Equal all none rest = all
 distinct_by k m ns ordering.Greater all none rest =
     (let parts = none_of (m == k) (is_one_of ns k) none in (absent k m ns all.0 (turned m k parts.0), rest))
 
-distinct_more : (k : ℕ) (ns : List ℕ) → AreDistinct ns → is_one_of ns k ≡ false → AreDistinct (insert_key nat_cmp ns k)
+distinct_more : (k : ℕ) (ns : List ℕ) → NumbersAreDistinct ns → is_one_of ns k ≡ false → NumbersAreDistinct (insert_key nat_cmp ns k)
 distinct_more k [] all none = (refl, tt)
 distinct_more k (m ∷ ns) all none =
     let parts = none_of (m == k) (is_one_of ns k) none in distinct_by k m ns (nat_cmp k m) all none (distinct_more k ns all.1 parts.1)
@@ -208,24 +208,24 @@ either_none k (u ∷ us) vs none =
     let parts = none_of (u == k) (is_one_of (us ++ vs) k) none in
     let rest = either_none k us vs parts.1 in (ap (λ (b : Bool). b || is_one_of us k) parts.0 ∙ rest.0, rest.1)
 
-absent_behind : (k n : ℕ) (us vs : List ℕ) → is_one_of (us ++ vs) n ≡ false → (k == n) ≡ false → is_one_of (us ++ insert_key nat_cmp vs k) n ≡ false
-absent_behind k n [] vs none apart = absent k n vs none apart
-absent_behind k n (u ∷ us) vs none apart =
+absent_after : (k n : ℕ) (us vs : List ℕ) → is_one_of (us ++ vs) n ≡ false → (k == n) ≡ false → is_one_of (us ++ insert_key nat_cmp vs k) n ≡ false
+absent_after k n [] vs none apart = absent k n vs none apart
+absent_after k n (u ∷ us) vs none apart =
     let parts = none_of (u == n) (is_one_of (us ++ vs) n) none in
-    ap (λ (b : Bool). b || is_one_of (us ++ insert_key nat_cmp vs k) n) parts.0 ∙ absent_behind k n us vs parts.1 apart
+    ap (λ (b : Bool). b || is_one_of (us ++ insert_key nat_cmp vs k) n) parts.0 ∙ absent_after k n us vs parts.1 apart
 
-distinct_behind : (k : ℕ) (us vs : List ℕ) → AreDistinct (us ++ vs) → is_one_of (us ++ vs) k ≡ false → AreDistinct (us ++ insert_key nat_cmp vs k)
-distinct_behind k [] vs all none = distinct_more k vs all none
-distinct_behind k (u ∷ us) vs all none =
+distinct_after : (k : ℕ) (us vs : List ℕ) → NumbersAreDistinct (us ++ vs) → is_one_of (us ++ vs) k ≡ false → NumbersAreDistinct (us ++ insert_key nat_cmp vs k)
+distinct_after k [] vs all none = distinct_more k vs all none
+distinct_after k (u ∷ us) vs all none =
     let parts = none_of (u == k) (is_one_of (us ++ vs) k) none in
-    (absent_behind k u us vs all.0 (turned u k parts.0), distinct_behind k us vs all.1 parts.1)
+    (absent_after k u us vs all.0 (turned u k parts.0), distinct_after k us vs all.1 parts.1)
 
 -- none of them is that of the place
 never_here : (k : ℕ) (as_ : List Attempt) → AllByRecursion (λ (a : Attempt). (a.place == k) ≡ false) as_ → is_one_of (places as_) k ≡ false
 never_here k [] all = refl
 never_here k (a ∷ as_) all = ap (λ (b : Bool). b || is_one_of (places as_) k) all.0 ∙ never_here k as_ all.1
 
-never_live : (l : Link) (k : ℕ) (xs : List LiveStream) (as_ : List Attempt) → AreLive l xs as_ → AllByRecursion (λ (a : Attempt). (a.place == k) ≡ false) as_ → is_one_of (map (λ (x : LiveStream). x.tag) xs) k ≡ false
+never_live : (l : Link) (k : ℕ) (xs : List LiveStream) (as_ : List Attempt) → StreamsAreLive l xs as_ → AllByRecursion (λ (a : Attempt). (a.place == k) ≡ false) as_ → is_one_of (map (λ (x : LiveStream). x.tag) xs) k ≡ false
 never_live l k [] [] live all = refl
 never_live l k (x ∷ xs) (a ∷ as_) live all =
     ap (λ (n : ℕ). (n == k) || is_one_of (map (λ (y : LiveStream). y.tag) xs) k) live.0.tag ∙ ap (λ (b : Bool). b || is_one_of (map (λ (y : LiveStream). y.tag) xs) k) all.0 ∙ never_live l k xs as_ live.1 all.1
@@ -264,8 +264,8 @@ again l s as_ b line is = record { call = is.call; call_is = is.call_is; fields 
 again_placed : (l : Link) (s : Seen) (as_ : List Attempt) (b : Attempt) (at : Placed) (line : Line) → IsFed l s b line → IsFed l (record s { attempts = as_ }) (with_placing at b) line
 again_placed l s as_ b at line is = record { call = is.call; call_is = is.call_is; fields = is.fields; written = is.written; left = is.left; finished = is.finished }
 
-fed_again : (l : Link) (s : Seen) (g h : ℕ → Line) (k : ℕ) (ns : List Attempt) (xs : List LiveStream) (as_ : List Attempt) → ((j : ℕ) → (j == k) ≡ false → h j ≡ g j) → AreLive l xs as_
-    → AllByRecursion (λ (a : Attempt). (a.place == k) ≡ false) as_ → AreFed l s g xs as_ → AreFed l (record s { attempts = ns }) h xs as_
+fed_again : (l : Link) (s : Seen) (g h : ℕ → Line) (k : ℕ) (ns : List Attempt) (xs : List LiveStream) (as_ : List Attempt) → ((j : ℕ) → (j == k) ≡ false → h j ≡ g j) → StreamsAreLive l xs as_
+    → AllByRecursion (λ (a : Attempt). (a.place == k) ≡ false) as_ → StreamsAreFed l s g xs as_ → StreamsAreFed l (record s { attempts = ns }) h xs as_
 fed_again l s g h k ns [] [] same live others fed_ = tt
 fed_again l s g h k ns (x ∷ xs) (a ∷ as_) same live others fed_ =
     let apart : (x.tag == k) ≡ false = ap (λ (n : ℕ). n == k) live.0.tag ∙ others.0 in (
@@ -275,11 +275,11 @@ fed_again l s g h k ns (x ∷ xs) (a ∷ as_) same live others fed_ =
 fed_again l s g h k ns [] (a ∷ as_) same live others fed_ = absurd live
 fed_again l s g h k ns (x ∷ xs) [] same live others fed_ = absurd live
 
-heard_again : (l : Link) (s : Seen) (ns : List Attempt) (xs : List LiveStream) (as_ : List Attempt) → AreHeard l s xs as_ → AreHeard l (record s { attempts = ns }) xs as_
-heard_again l s ns [] [] are = tt
-heard_again l s ns (x ∷ xs) (a ∷ as_) are = (record { head = are.0.head; goes = are.0.goes; small = are.0.small }, heard_again l s ns xs as_ are.1)
-heard_again l s ns [] (a ∷ as_) are = absurd are
-heard_again l s ns (x ∷ xs) [] are = absurd are
+received_again : (l : Link) (s : Seen) (ns : List Attempt) (xs : List LiveStream) (as_ : List Attempt) → ResponsesAreReceived l s xs as_ → ResponsesAreReceived l (record s { attempts = ns }) xs as_
+received_again l s ns [] [] are = tt
+received_again l s ns (x ∷ xs) (a ∷ as_) are = (record { head = are.0.head; goes = are.0.goes; small = are.0.small }, received_again l s ns xs as_ are.1)
+received_again l s ns [] (a ∷ as_) are = absurd are
+received_again l s ns (x ∷ xs) [] are = absurd are
 
 one_fed : (l : Link) (s : Seen) (g h : ℕ → Line) (k : ℕ) (a x : Attempt) (at : Placed) (ns : List Attempt) (b : Bool) → (x.place == k) ≡ b → IsOnly k a x → ((j : ℕ) → (j == k) ≡ false → h j ≡ g j)
     → IsFed l s a (h k) → (is_outstanding_on l x ≡ true → IsFed l s x (g x.place))
@@ -338,7 +338,7 @@ placed_here l s w g h k a at is there can same own =
             block = is.sees.sees.reads.block;
             table = is.sees.sees.reads.table;
           };
-          live = subst (AreLive l w.live) (sym stay) is.sees.sees.live;
+          live = subst (StreamsAreLive l w.live) (sym stay) is.sees.sees.live;
         };
         owes = record {
           queue = is.sees.owes.queue;
@@ -348,15 +348,15 @@ placed_here l s w g h k a at is there can same own =
           answered = is.sees.owes.answered;
         };
         waits = waiting;
-        fed = subst (AreFed l u h w.live) (sym stay) (fed_again l s g h k ns w.live bs same is.sees.sees.live apart is.sees.fed);
+        fed = subst (StreamsAreFed l u h w.live) (sym stay) (fed_again l s g h k ns w.live bs same is.sees.sees.live apart is.sees.fed);
         wait_fed = all_filter (λ (b : Attempt). IsFed l u b (h b.place)) waits (outstanding_on l u) fed_;
         opened = is.sees.opened;
         fresh = is.sees.fresh;
-        tags = distinct_behind k (map (λ (x : LiveStream). x.tag) w.live) w.waiting is.sees.tags none;
+        tags = distinct_after k (map (λ (x : LiveStream). x.tag) w.live) w.waiting is.sees.tags none;
         places = places_at (with_placing at) (λ b. refl) k 1 s.attempts is.sees.places;
       };
-      heard = subst (AreHeard l u w.live) (sym stay) (heard_again l s ns w.live bs is.heard);
-      unheard = is.unheard;
+      handled = subst (ResponsesAreReceived l u w.live) (sym stay) (received_again l s ns w.live bs is.handled);
+      unreceived = is.unreceived;
       begun = is.begun;
     }
 

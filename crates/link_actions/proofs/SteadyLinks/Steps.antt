@@ -1,4 +1,4 @@
--- Lists of attempts that a link cannot tell apart stay in step, however they are chosen and sorted.
+-- Lists of attempts that a link cannot distinguish stay in step, however they are chosen and sorted.
 use Rattle.std.proofs.Common.{◌≡◌, ◌∷◌, ◌&&◌, ◌==◌, ap, refl, subst, sym, ◌∙◌, Bool, false, List, [], Option, None, ℕ, cond, filter, if◌then◌else◌, is_none, is_some, map, nat_lt, unwrap_or}
 use Rattle.std.specs.List.{AllByRecursion}
 use Rattle.attempt_ledger.specs.declared.row.Placed.{Placed}
@@ -13,7 +13,7 @@ use Rattle.session_actions.specs.Words.{holds}
 use Rattle.session_actions.specs.declared.attempt.Attempt.{Attempt}
 use Rattle.session_actions.specs.declared.link.Link.{Link}
 use Rattle.session_actions.specs.declared.seen.Seen.{Seen}
-use Rattle.link_actions.specs.SteadyLinks.Same.{AreSameOn, IsSameOn}
+use Rattle.link_actions.specs.SteadyLinks.Same.{LinesAreSameOn, IsSameOn}
 
 -- an attempt of a link
 pub record IsPair (l m : Link) (s t : Seen) (h : ℕ → Line) (a b : Attempt) : Type 0 where
@@ -42,7 +42,7 @@ on_alike l m s t h a b number is =
     ∙ ap (λ (o : Option Placed). (is_some o && is_none b.row.ended) && holds (λ (at : Placed). at.link == l.number) o) is.placed
     ∙ ap (λ (o : Option RowEnd). (is_some a.row.placed && is_none o) && holds (λ (at : Placed). at.link == l.number) a.row.placed) is.ended
 
-pub out_step : (l m : Link) (s t : Seen) (h : ℕ → Line) (xs ys : List Attempt) → m.number ≡ l.number → AreSameOn l m s t h xs ys
+pub out_step : (l m : Link) (s t : Seen) (h : ℕ → Line) (xs ys : List Attempt) → m.number ≡ l.number → LinesAreSameOn l m s t h xs ys
     → InStep l m s t h (filter (is_outstanding_on l) xs) (filter (is_outstanding_on m) ys)
 out_step l m s t h [] bs number are = subst (InStep l m s t h []) (sym (none_on m bs are)) tt
 out_step l m s t h (a ∷ as_) (b ∷ bs) number are =

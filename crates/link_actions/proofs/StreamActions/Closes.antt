@@ -62,10 +62,10 @@ broken_open p b = over_end (block_end code.Internal cause.Framing protocol_error
 
 block_open_ : (p : Response) (b : Block) → p.closes ≡ false → IsOpen (with_block p b)
 block_open_ p b h =
-    let behind : Response = if is_some p.head || is_none (http_status b.fields) then ended_by_block b p else with_head p b in
-    on_if IsOpen (is_none p.head && is_interim (http_status b.fields)) (if b.ends then ended_by_block b p else p) (if b.ends then with_trailers p b else behind)
+    let afterwards : Response = if is_some p.head || is_none (http_status b.fields) then ended_by_block b p else with_head p b in
+    on_if IsOpen (is_none p.head && is_interim (http_status b.fields)) (if b.ends then ended_by_block b p else p) (if b.ends then with_trailers p b else afterwards)
     (λ e. on_if IsOpen b.ends (ended_by_block b p) p (λ i. broken_open p b) (λ i. still p h))
-    (λ e. on_if IsOpen b.ends (with_trailers p b) behind (λ i. trailers_open p b)
+    (λ e. on_if IsOpen b.ends (with_trailers p b) afterwards (λ i. trailers_open p b)
     (λ i. on_if IsOpen (is_some p.head || is_none (http_status b.fields)) (ended_by_block b p) (with_head p b) (λ j. broken_open p b) (λ j. head_open p b h)))
 
 -- other frames

@@ -15,21 +15,21 @@ use Rattle.h2_link.specs.Drains.{AFrame, outgoing}
 use Rattle.h2_link.specs.Feeds.{Line}
 use Rattle.h2_link.specs.LinkErrors as link
 use Rattle.h2_link.specs.Queues.{Queue, queued, sealed}
-use Rattle.h2_link.specs.Steps.{applied, continuation_told, data_effect, data_told, found_from, headers_told, is_numbered, judged, link_updated, live_after, outcome, plain_told, queue_after, read_after, reset_after, reset_owed, stream_updated, told}
-use Rattle.h2_link.specs.Wire.{Told, Wire}
+use Rattle.h2_link.specs.Steps.{applied, continuation_reported, data_effect, data_reported, found_from, headers_reported, is_numbered, judged, link_updated, live_after, outcome, plain_reported, queue_after, read_after, reset_after, reset_owed, stream_updated, reported}
+use Rattle.h2_link.specs.Wire.{Report, Wire}
 use Rattle.h2_link.specs.declared.control.Control.{Control}
 use Rattle.h2_link.specs.declared.control.Control.TheVariants as control
 use Rattle.h2_link.specs.declared.live.LiveStream.{LiveStream}
 use Rattle.link_actions.proofs.StreamActions.Found.{set_itself}
 use Rattle.link_actions.proofs.StreamActions.Going.{going}
-use Rattle.link_actions.proofs.Hearing.{block_kept, heard_quiet, not_kind, of_settings, quiet_kind}
+use Rattle.link_actions.proofs.Receiving.{block_kept, received_quiet, not_kind, of_settings, quiet_kind}
 use Rattle.link_actions.proofs.Lists.{if_false, if_true, on_if}
 use Rattle.link_actions.proofs.QuietKept.{joined, owed_read}
 use Rattle.link_actions.proofs.StreamActions.Responses.{response_own}
 use Rattle.link_actions.proofs.StreamActions.StreamEnds.{ends_follow}
 use Rattle.link_actions.proofs.StreamActions.StreamGoes.{Stands, fair_opened, read_but, read_on, stands}
 use Rattle.link_actions.proofs.StreamActions.StreamRead.{live_read, read_is, read_keeps}
-use Rattle.link_actions.proofs.StreamActions.Unheard.{no_list}
+use Rattle.link_actions.proofs.StreamActions.Unreceived.{no_list}
 use Rattle.link_actions.specs.StreamActions.Laws.{Comes, DataIsRead, Ends, Follows, IsOn, closed_code, data_then, read_link}
 use Rattle.link_actions.specs.Sees.{IsBlock, SeesLink, by_stream, named_in}
 use Rattle.link_actions.specs.StreamActions.Sees.{SeesBut, SeesStreams, response_of}
@@ -108,20 +108,20 @@ data_owed l s w g r a is st kind =
     ∙ ap (λ (b : Bool). map (λ k. AFrame k) (if z then [] else window_update_frame 0 by ∷ (if b && not e then window_update_frame f.stream by ∷ [] else []))) (sym h)
     ∙ ap (map (λ k. AFrame k)) (sym (owed_data f l s kind))
 
--- what the link is told
-data_is_told : (w : Wire) (f : FrameSeen) (i : ℕ) (y : LiveStream) → link.link_error w f ≡ None → f.kind ≡ data_type → found_from (is_numbered f.stream) 0 w.live ≡ Some (i, y)
-    → told w f ≡ outcome w (read_after w.read (9 + length f.payload)) (Ok (data_told (record w { queue = sealed w.queue }) f (read_after w.read (9 + length f.payload)) (Some (i, y))))
-data_is_told w f i y fair kind found =
+-- what is reported to the link
+data_is_reported : (w : Wire) (f : FrameSeen) (i : ℕ) (y : LiveStream) → link.link_error w f ≡ None → f.kind ≡ data_type → found_from (is_numbered f.stream) 0 w.live ≡ Some (i, y)
+    → reported w f ≡ outcome w (read_after w.read (9 + length f.payload)) (Ok (data_reported (record w { queue = sealed w.queue }) f (read_after w.read (9 + length f.payload)) (Some (i, y))))
+data_is_reported w f i y fair kind found =
     let seen : ℕ = read_after w.read (9 + length f.payload) in
     let v : Wire = record w { queue = sealed w.queue } in
     let at : Option (ℕ × LiveStream) = found_from (is_numbered f.stream) 0 w.live in
-    let applied_is : applied v f seen ≡ Ok (plain_told v f seen)
-    = if_false (f.kind == headers_type) (headers_told v f seen) _ (not_kind f.kind data_type headers_type false kind refl)
-    ∙ if_false (f.kind == continuation_type) (continuation_told v f seen w.block) (Ok (plain_told v f seen)) (not_kind f.kind data_type continuation_type false kind refl) in
-    let plain_is : plain_told v f seen ≡ data_told v f seen at
-    = if_true (f.kind == data_type) (data_told v f seen at) _ (not_kind f.kind data_type data_type true kind refl) in
-    ap (judged w f) fair ∙ ap (outcome w seen) applied_is ∙ ap (λ (t : Told). outcome w seen (Ok t)) plain_is
-    ∙ ap (λ (o : Option (ℕ × LiveStream)). outcome w seen (Ok (data_told v f seen o))) found
+    let applied_is : applied v f seen ≡ Ok (plain_reported v f seen)
+    = if_false (f.kind == headers_type) (headers_reported v f seen) _ (not_kind f.kind data_type headers_type false kind refl)
+    ∙ if_false (f.kind == continuation_type) (continuation_reported v f seen w.block) (Ok (plain_reported v f seen)) (not_kind f.kind data_type continuation_type false kind refl) in
+    let plain_is : plain_reported v f seen ≡ data_reported v f seen at
+    = if_true (f.kind == data_type) (data_reported v f seen at) _ (not_kind f.kind data_type data_type true kind refl) in
+    ap (judged w f) fair ∙ ap (outcome w seen) applied_is ∙ ap (λ (t : Report). outcome w seen (Ok t)) plain_is
+    ∙ ap (λ (o : Option (ℕ × LiveStream)). outcome w seen (Ok (data_reported v f seen o))) found
 
 -- a head stays
 fault_head : (o : Option MessageFault) (p : Response) → (with_fault o p).head ≡ p.head
@@ -151,7 +151,7 @@ data_base l s w g r a q is comes st kind items =
     let data_ : (f.kind == data_type) ≡ true = not_kind f.kind data_type data_type true kind refl in
     let no_settings_ : is_settings f ≡ false = of_settings f.kind f.flags (not_kind f.kind data_type settings_type false kind refl) in
     read_keeps l s w v g r is.sees
-    (heard_quiet f (open_block l) w v (quiet_kind f data_type data_ refl refl refl refl refl) is.sees.sees.reads.block
+    (received_quiet f (open_block l) w v (quiet_kind f data_type data_ refl refl refl refl refl) is.sees.sees.reads.block
     (record { whole = refl; ready = refl; retiring = refl; limit = refl; initial = refl; window = refl; opened = refl; block = refl; table = refl }))
     comes.end (fair_opened w f comes.fair) refl refl is.sees.opened refl
     (live_read l r (owed_for f l s) w.live (by_stream (streaming_on l s)) (not_kind f.kind data_type window_update_type false kind refl) is.sees.sees.live)
@@ -204,8 +204,8 @@ data_by l s w g r a q true false is comes on st kind known none base =
     let off : is_of_block f ≡ false
     = ap (λ (c : Bool). c || (f.kind == continuation_type)) (not_kind f.kind data_type headers_type false kind refl) ∙ not_kind f.kind data_type continuation_type false kind refl in
     let p : Response = response_in limit n l.traffic in
-    let goes : p.end ≡ None = ap (λ (k : ℕ). (response_of l s k a).end) (sym st.number) ∙ st.heard.goes in
-    let small : p.large ≡ false = ap (λ (k : ℕ). (response_of l s k a).large) (sym st.number) ∙ st.heard.small in
+    let goes : p.end ≡ None = ap (λ (k : ℕ). (response_of l s k a).end) (sym st.number) ∙ st.handled.goes in
+    let small : p.large ≡ false = ap (λ (k : ℕ). (response_of l s k a).large) (sym st.number) ∙ st.handled.small in
     let own : (n == n) ≡ true = grind (arith, nat_tests) in
     let after : response_of m u n a ≡ with_data limit p f
     = response_own limit n l r (owed_for f l s) goes small (of_settings f.kind f.flags (not_kind f.kind data_type settings_type false kind refl)) no_goaway own
@@ -216,7 +216,7 @@ data_by l s w g r a q true false is comes on st kind known none base =
     read_on l s w v g r a x is comes st no_goaway st.live.tag st.number refl refl
     (subst B (sym (block_kept (open_block l) f off)) is.sees.sees.reads.block)
     (subst (λ (xs : List LiveStream). SeesLink m u (record w { queue = q; live = xs; read = read_after w.read (9 + length f.payload) }) g) (sym set) base)
-    (λ ends. sym known ∙ st.heard.head ∙ ap (λ (k : ℕ). is_some (response_of l s k a).head) st.number ∙ ap (λ o. is_some o) (sym (data_head limit p f)) ∙ ap (λ (z : Response). is_some z.head) (sym after))
+    (λ ends. sym known ∙ st.handled.head ∙ ap (λ (k : ℕ). is_some (response_of l s k a).head) st.number ∙ ap (λ o. is_some o) (sym (data_head limit p f)) ∙ ap (λ (z : Response). is_some z.head) (sym after))
 
 pub data_is_read : DataIsRead
 data_is_read l s w g r a is comes on data_ =
@@ -233,9 +233,9 @@ data_is_read l s w g r a is comes on data_ =
     = update_items (sealed w.queue) (control.LinkUpdate by) (control.StreamUpdate y.number by) e y.head (by == 0) in
     let none : q.fresh ≡ 0 = update_fresh (sealed w.queue) (control.LinkUpdate by) (control.StreamUpdate y.number by) e y.head (by == 0) refl in
     let base = data_base l s w g r a q is comes st kind items in
-    let head : y.head ≡ is_some (response_of l s n a).head = st.heard.head ∙ ap (λ (k : ℕ). is_some (response_of l s k a).head) st.number in
+    let head : y.head ≡ is_some (response_of l s n a).head = st.handled.head ∙ ap (λ (k : ℕ). is_some (response_of l s k a).head) st.number in
     let T : Wire → Type 0 = λ x. Follows (read_link r l s) (frame_read l.number r s) a n (data_then (is_some (response_of l s n a).head) (has_written_end n l) e) x g in
-    let W : Seen → Type 0 = λ z. Follows (read_link r l s) z a n (data_then (is_some (response_of l s n a).head) (has_written_end n l) e) (outcome w seen (Ok (data_told (record w { queue = sealed w.queue }) f seen (Some (st.index, y))))).wire g in
+    let W : Seen → Type 0 = λ z. Follows (read_link r l s) z a n (data_then (is_some (response_of l s n a).head) (has_written_end n l) e) (outcome w seen (Ok (data_reported (record w { queue = sealed w.queue }) f seen (Some (st.index, y))))).wire g in
     let H : Bool → Type 0 = λ h. Follows (read_link r l s) (frame_read_on r s l) a n (data_then h (has_written_end n l) e)
     (record w {
       live = live_after st.index (data_effect y e) w.live;
@@ -248,7 +248,7 @@ data_is_read l s w g r a is comes on data_ =
       queue = queue_after k (data_effect y e) q;
       read = seen;
     }) g in
-    subst T (sym (ap (λ (t : Told). t.wire) (data_is_told w f st.index y comes.fair kind st.found)))
+    subst T (sym (ap (λ (t : Report). t.wire) (data_is_reported w f st.index y comes.fair kind st.found)))
     (subst W (sym (read_is l s r is.sees.at))
     (subst H head
     (subst N (sym st.number) (data_by l s w g r a q y.head e is comes on st kind refl none base))))

@@ -19,7 +19,7 @@ use Rattle.h2_frame.specs.Numbers.{continuation_type, data_type, end_stream_flag
 use Rattle.h2_frame.specs.Payloads.{content_of, last_stream, reset_code}
 use Rattle.h2_link.specs.Feeds.{Line}
 use Rattle.h2_link.specs.Wire.{Wire}
-use Rattle.link_actions.proofs.Hearing.{not_kind, of_settings}
+use Rattle.link_actions.proofs.Receiving.{not_kind, of_settings}
 use Rattle.link_actions.proofs.Lists.{if_false, if_true, on_if}
 use Rattle.link_actions.proofs.QuietKept.{ends_still}
 use Rattle.link_actions.proofs.Written.{changed_here}
@@ -45,7 +45,7 @@ use Rattle.link_actions.proofs.StreamActions.PlainRead.{on_after, still_response
 use Rattle.link_actions.proofs.StreamActions.Responses.{goes_on, response_own, response_read}
 use Rattle.link_actions.proofs.StreamActions.StreamGoes.{Stands, stands}
 use Rattle.link_actions.proofs.StreamActions.StreamRead.{read_is}
-use Rattle.link_actions.proofs.StreamActions.Unheard.{no_list}
+use Rattle.link_actions.proofs.StreamActions.Unreceived.{no_list}
 use Rattle.link_actions.specs.StreamActions.Laws.{BlocksEndAlike, DataEndsAlike, EndsAlike, EndsAs, GoawaysEndAlike, IsOn, ResetsEndAlike, block_then, closed_code, data_then, read_link}
 use Rattle.session_actions.specs.declared.link.Traffic.TheVariants as traffic
 use Rattle.link_actions.specs.StreamActions.Sees.{SeesStreams, response_of}
@@ -84,10 +84,10 @@ ends_as l s w g r a n p o number is on over same end number_is =
     }
 
 goes_of : (l : Link) (s : Seen) (w : Wire) (a : Attempt) (n : ℕ) → (st : Stands l s w n a) → (response_of l s n a).end ≡ None
-goes_of l s w a n st = ap (λ (k : ℕ). (response_of l s k a).end) (sym st.number) ∙ st.heard.goes
+goes_of l s w a n st = ap (λ (k : ℕ). (response_of l s k a).end) (sym st.number) ∙ st.handled.goes
 
 small_of : (l : Link) (s : Seen) (w : Wire) (a : Attempt) (n : ℕ) → (st : Stands l s w n a) → (response_of l s n a).large ≡ false
-small_of l s w a n st = ap (λ (k : ℕ). (response_of l s k a).large) (sym st.number) ∙ st.heard.small
+small_of l s w a n st = ap (λ (k : ℕ). (response_of l s k a).large) (sym st.number) ∙ st.handled.small
 
 -- where its stream is not closed, and where it is
 never_both : (a b : Bool) → b ≡ false → (a && b) ≡ false
@@ -162,8 +162,8 @@ data_ends l s w g r a true true is on over st head flag same small =
     let o : Outcome = plain_end code.Internal cause.Framing false (Some protocol_error) in
     let m : Messages = messages_of (limit_of_attempt a s) (p.rest ++ content_of r.frame) in
     let q : Response = with_messages p m (has_flag r.frame.flags end_stream_flag) in
-    let behind : with_data (limit_of_attempt a s) p r.frame ≡ with_fault m.fault q = if_false (is_none p.head) (ended o p) (with_fault m.fault q) (none_of_some p.head true head) in
-    fault_ends l s w g r a q m.fault is on over (same ∙ behind) flag (sym (ap (λ (z : Response). z.large) behind) ∙ small)
+    let afterwards : with_data (limit_of_attempt a s) p r.frame ≡ with_fault m.fault q = if_false (is_none p.head) (ended o p) (with_fault m.fault q) (none_of_some p.head true head) in
+    fault_ends l s w g r a q m.fault is on over (same ∙ afterwards) flag (sym (ap (λ (z : Response). z.large) afterwards) ∙ small)
 data_ends l s w g r a true false is on over st head flag same small = tt
 
 pub data_ends_alike : DataEndsAlike

@@ -10,8 +10,8 @@ use Rattle.link_actions.proofs.Lists.{if_false, if_true, none_of, on_if}
 use Rattle.link_actions.proofs.Opened.{streams}
 use Rattle.link_actions.proofs.Without.{is_other, is_other_stream}
 use Rattle.link_actions.specs.StreamActions.Laws.{IsOn}
-use Rattle.link_actions.specs.Sees.{AreDistinct, AreLive, AreOpened, IsLive, by_stream, put_by_stream}
-use Rattle.link_actions.specs.StreamActions.Sees.{AreHeard, IsHeard}
+use Rattle.link_actions.specs.Sees.{NumbersAreDistinct, StreamsAreLive, StreamsAreOpened, IsLive, by_stream, put_by_stream}
+use Rattle.link_actions.specs.StreamActions.Sees.{ResponsesAreReceived, IsReceived}
 use Rattle.session_actions.specs.Links.{stream_number}
 use Rattle.session_actions.specs.Reading.{is_outstanding_on, outstanding_on}
 use Rattle.session_actions.specs.Words.{numbered}
@@ -78,7 +78,7 @@ pub record IsZipped (l : Link) (xs : List LiveStream) (i : ℕ) (a : Attempt) : 
   pub there : slice_get xs i ≡ Some stream
   pub live : IsLive l stream a
 
-pub zipped : (l : Link) (i : ℕ) (xs : List LiveStream) (others : List Attempt) (a : Attempt) → AreLive l xs others → slice_get others i ≡ Some a → IsZipped l xs i a
+pub zipped : (l : Link) (i : ℕ) (xs : List LiveStream) (others : List Attempt) (a : Attempt) → StreamsAreLive l xs others → slice_get others i ≡ Some a → IsZipped l xs i a
 zipped l i [] [] a are e = absurd (cc)
 zipped l zero (x ∷ xs) (b ∷ others) a are e =
     let same : b ≡ a = (cc) in
@@ -89,16 +89,16 @@ zipped l (suc i) (x ∷ xs) (b ∷ others) a are e =
 zipped l i [] (b ∷ others) a are e = absurd are
 zipped l i (x ∷ xs) [] a are e = absurd are
 
-pub heard_at : (l : Link) (s : Seen) (i : ℕ) (xs : List LiveStream) (others : List Attempt) (y : LiveStream) (a : Attempt) → AreHeard l s xs others
-    → slice_get xs i ≡ Some y → slice_get others i ≡ Some a → IsHeard l s y a
-heard_at l s i [] [] y a are e h = absurd (cc)
-heard_at l s zero (x ∷ xs) (b ∷ others) y a are e h =
+pub received_at : (l : Link) (s : Seen) (i : ℕ) (xs : List LiveStream) (others : List Attempt) (y : LiveStream) (a : Attempt) → ResponsesAreReceived l s xs others
+    → slice_get xs i ≡ Some y → slice_get others i ≡ Some a → IsReceived l s y a
+received_at l s i [] [] y a are e h = absurd (cc)
+received_at l s zero (x ∷ xs) (b ∷ others) y a are e h =
     let same : b ≡ a = (cc) in
     let is : x ≡ y = (cc) in
-    subst (λ (z : LiveStream). IsHeard l s z a) is (subst (IsHeard l s x) same are.0)
-heard_at l s (suc i) (x ∷ xs) (b ∷ others) y a are e h = heard_at l s i xs others y a are.1 e h
-heard_at l s i [] (b ∷ others) y a are e h = absurd are
-heard_at l s i (x ∷ xs) [] y a are e h = absurd are
+    subst (λ (z : LiveStream). IsReceived l s z a) is (subst (IsReceived l s x) same are.0)
+received_at l s (suc i) (x ∷ xs) (b ∷ others) y a are e h = received_at l s i xs others y a are.1 e h
+received_at l s i [] (b ∷ others) y a are e h = absurd are
+received_at l s i (x ∷ xs) [] y a are e h = absurd are
 
 -- it is found by its number
 low_apart : (m n : ℕ) → m < n → (m == n) ≡ false
@@ -110,14 +110,14 @@ high_apart m n h = grind (arith, nat_tests, h)
 same_number : (m n : ℕ) → m ≡ n → (m == n) ≡ true
 same_number m n e = grind (arith, nat_tests, e)
 
-pub number_from : (first bound i : ℕ) (xs : List LiveStream) (y : LiveStream) → AreOpened first bound xs → slice_get xs i ≡ Some y → first ≤ y.number
+pub number_from : (first bound i : ℕ) (xs : List LiveStream) (y : LiveStream) → StreamsAreOpened first bound xs → slice_get xs i ≡ Some y → first ≤ y.number
 number_from first bound i [] y opened e = absurd (cc)
 number_from first bound zero (x ∷ xs) y opened e = subst (λ (z : LiveStream). first ≤ z.number) (let same : x ≡ y = (cc) in same) opened.0
 number_from first bound (suc i) (x ∷ xs) y opened e =
     let from_ : first ≤ x.number = opened.0 in
     let next : x.number + 1 ≤ y.number = number_from (x.number + 1) bound i xs y opened.2 e in omega (arith, from_, next)
 
-pub found_at : (n place at first bound i : ℕ) (xs : List LiveStream) (y : LiveStream) → AreOpened first bound xs → slice_get xs i ≡ Some y → y.number ≡ n → at ≡ place + i
+pub found_at : (n place at first bound i : ℕ) (xs : List LiveStream) (y : LiveStream) → StreamsAreOpened first bound xs → slice_get xs i ≡ Some y → y.number ≡ n → at ≡ place + i
     → found_from (is_numbered n) place xs ≡ Some (at, y)
 found_at n place at first bound i [] y opened e is here = absurd (cc)
 found_at n place at first bound zero (x ∷ xs) y opened e is here =
@@ -134,7 +134,7 @@ found_at n place at first bound (suc i) (x ∷ xs) y opened e is here =
     ∙ found_at n (place + 1) at (x.number + 1) bound i xs y opened.2 e is at_
 
 -- a test of the stream of a number alone
-none_above : (n first bound : ℕ) (xs : List LiveStream) → AreOpened first bound xs → n < first → list_any (λ (x : LiveStream). (x.number == n) && x.head) xs ≡ false
+none_above : (n first bound : ℕ) (xs : List LiveStream) → StreamsAreOpened first bound xs → n < first → list_any (λ (x : LiveStream). (x.number == n) && x.head) xs ≡ false
 none_above n first bound [] opened low = refl
 none_above n first bound (x ∷ xs) opened low =
     let from_ : first ≤ x.number = opened.0 in
@@ -147,7 +147,7 @@ head_or : (b c : Bool) → c ≡ false → (b || c) ≡ b
 head_or true c e = refl
 head_or false c e = e
 
-pub only_head : (n first bound i : ℕ) (xs : List LiveStream) (y : LiveStream) → AreOpened first bound xs → slice_get xs i ≡ Some y → y.number ≡ n
+pub only_head : (n first bound i : ℕ) (xs : List LiveStream) (y : LiveStream) → StreamsAreOpened first bound xs → slice_get xs i ≡ Some y → y.number ≡ n
     → list_any (λ (x : LiveStream). (x.number == n) && x.head) xs ≡ y.head
 only_head n first bound i [] y opened e is = absurd (cc)
 only_head n first bound zero (x ∷ xs) y opened e is =
@@ -180,7 +180,7 @@ others_kept t (x ∷ xs) ns e =
     if_true (is_other_stream t x) (x ∷ filter (is_other_stream t) xs) (filter (is_other_stream t) xs) (ap not parts.0)
     ∙ ap (λ (ys : List LiveStream). x ∷ ys) (others_kept t xs ns parts.1)
 
-pub removed : (i : ℕ) (xs : List LiveStream) (y : LiveStream) (ns : List ℕ) → slice_get xs i ≡ Some y → AreDistinct (map (λ (z : LiveStream). z.tag) xs ++ ns)
+pub removed : (i : ℕ) (xs : List LiveStream) (y : LiveStream) (ns : List ℕ) → slice_get xs i ≡ Some y → NumbersAreDistinct (map (λ (z : LiveStream). z.tag) xs ++ ns)
     → filter (is_other_stream y.tag) xs ≡ remove xs i
 removed i [] y ns e tags = absurd (cc)
 removed zero (x ∷ xs) y ns e tags =

@@ -13,7 +13,7 @@ use Rattle.link_actions.proofs.Ended.{AreLeft, are_left, changed_one, ended_seen
 use Rattle.link_actions.proofs.Lists.{both_if, if_false, if_true}
 use Rattle.link_actions.proofs.Without.{is_other, is_other_attempt, is_other_stream}
 use Rattle.link_actions.specs.Laws.{without_tag}
-use Rattle.link_actions.specs.Sees.{AreFed, AreLive, ArePlaced, SeesLink, by_stream}
+use Rattle.link_actions.specs.Sees.{StreamsAreFed, StreamsAreLive, AttemptsStandInPlace, SeesLink, by_stream}
 use Rattle.session_actions.specs.AttemptEnds.{attempt_ended, with_end, with_end_in_run}
 use Rattle.session_actions.specs.Attempts.{call_of}
 use Rattle.session_actions.specs.Links.{link_number}
@@ -23,35 +23,35 @@ use Rattle.session_actions.specs.declared.attempt.Attempt.{Attempt}
 use Rattle.session_actions.specs.declared.config.ThrottleRun.{ThrottleRun}
 use Rattle.session_actions.specs.declared.link.Link.{Link}
 use Rattle.session_actions.specs.declared.seen.Seen.{Seen}
-use Rattle.link_actions.proofs.StreamActions.StreamEnds.{heard_ended}
+use Rattle.link_actions.proofs.StreamActions.StreamEnds.{received_ended}
 use Rattle.link_actions.specs.StreamActions.Laws.{IsSomewhere, ended_all}
-use Rattle.link_actions.specs.StreamActions.Sees.{IsHeard}
+use Rattle.link_actions.specs.StreamActions.Sees.{IsReceived}
 
--- the streams that are not left out are heard
-abbrev pub AreHeardTo : ℕ → Link → Seen → List LiveStream → List Attempt → Type 0
-AreHeardTo last l s [] [] = Unit {0}
-AreHeardTo last l s (x ∷ xs) (a ∷ others) = (is_above last x ≡ false → IsHeard l s x a) × AreHeardTo last l s xs others
-AreHeardTo last l s _ _ = ⊥
+-- the streams that are not left out are handled
+abbrev pub AreReceivedTo : ℕ → Link → Seen → List LiveStream → List Attempt → Type 0
+AreReceivedTo last l s [] [] = Unit {0}
+AreReceivedTo last l s (x ∷ xs) (a ∷ others) = (is_above last x ≡ false → IsReceived l s x a) × AreReceivedTo last l s xs others
+AreReceivedTo last l s _ _ = ⊥
 
 pub record SeesTo (last : ℕ) (l : Link) (s : Seen) (w : Wire) (g : ℕ → Line) : Type 0 where
   pub sees : SeesLink l s w g
-  pub heard : AreHeardTo last l s w.live (by_stream (streaming_on l s))
+  pub handled : AreReceivedTo last l s w.live (by_stream (streaming_on l s))
 
 -- one attempt ends
-heard_without : (last : ℕ) (l : Link) (s : Seen) (g : ℕ → Line) (draws : Bool) (call t : ℕ) (e : RowEnd) (runs : List ThrottleRun) (xs : List LiveStream) (others : List Attempt)
-    → AreLive l xs others → AreFed l s g xs others → AreHeardTo last l s xs others
-    → AreHeardTo last l (ended_seen draws call t e runs s) (filter (is_other_stream t) xs) (filter (is_other_attempt t) others)
-heard_without last l s g draws call t e runs [] [] are fed_ heard = tt
-heard_without last l s g draws call t e runs (x ∷ xs) (a ∷ others) are fed_ heard =
+received_without : (last : ℕ) (l : Link) (s : Seen) (g : ℕ → Line) (draws : Bool) (call t : ℕ) (e : RowEnd) (runs : List ThrottleRun) (xs : List LiveStream) (others : List Attempt)
+    → StreamsAreLive l xs others → StreamsAreFed l s g xs others → AreReceivedTo last l s xs others
+    → AreReceivedTo last l (ended_seen draws call t e runs s) (filter (is_other_stream t) xs) (filter (is_other_attempt t) others)
+received_without last l s g draws call t e runs [] [] are fed_ handled = tt
+received_without last l s g draws call t e runs (x ∷ xs) (a ∷ others) are fed_ handled =
     let u : Seen = ended_seen draws call t e runs s in
     let fx : List LiveStream = filter (is_other_stream t) xs in
     let fa : List Attempt = filter (is_other_attempt t) others in
-    let rest : AreHeardTo last l u fx fa = heard_without last l s g draws call t e runs xs others are.1 fed_.1 heard.1 in
-    subst (λ (c : Bool). AreHeardTo last l u (cond (is_other_stream t x) (x ∷ fx) fx) (cond c (a ∷ fa) fa)) (ap (is_other t) are.0.tag)
-    (both_if (AreHeardTo last l u) (is_other_stream t x) (x ∷ fx) fx (a ∷ fa) fa
-    (λ h. (λ below. heard_ended l s draws call t e runs x a (g x.tag) fed_.0 (heard.0 below), rest)) (λ h. rest))
-heard_without last l s g draws call t e runs [] (a ∷ others) are fed_ heard = absurd are
-heard_without last l s g draws call t e runs (x ∷ xs) [] are fed_ heard = absurd are
+    let rest : AreReceivedTo last l u fx fa = received_without last l s g draws call t e runs xs others are.1 fed_.1 handled.1 in
+    subst (λ (c : Bool). AreReceivedTo last l u (cond (is_other_stream t x) (x ∷ fx) fx) (cond c (a ∷ fa) fa)) (ap (is_other t) are.0.tag)
+    (both_if (AreReceivedTo last l u) (is_other_stream t x) (x ∷ fx) fx (a ∷ fa) fa
+    (λ h. (λ below. received_ended l s draws call t e runs x a (g x.tag) fed_.0 (handled.0 below), rest)) (λ h. rest))
+received_without last l s g draws call t e runs [] (a ∷ others) are fed_ handled = absurd are
+received_without last l s g draws call t e runs (x ∷ xs) [] are fed_ handled = absurd are
 
 one_ends : (last : ℕ) (l : Link) (s : Seen) (w : Wire) (g : ℕ → Line) (t : ℕ) (a : Attempt) (e : RowEnd) → SeesTo last l s w g → numbered s.attempts t ≡ Some a
     → SeesTo last l (attempt_ended t e s) (without_tag t w) g
@@ -63,22 +63,22 @@ one_ends last l s w g t a e is there =
     let bs : List Attempt = by_stream (streaming_on l s) in
     let xs : List LiveStream = filter (is_other_stream t) w.live in
     let left : AreLeft l s u t = are_left l s draws call t e runs a is.sees.places there in
-    let heard : AreHeardTo last l u xs (filter (is_other_attempt t) bs) = heard_without last l s g draws call t e runs w.live bs is.sees.sees.live is.sees.fed is.heard in
+    let handled : AreReceivedTo last l u xs (filter (is_other_attempt t) bs) = received_without last l s g draws call t e runs w.live bs is.sees.sees.live is.sees.fed is.handled in
     record {
       sees = ends_keep l s w g t a e is.sees there;
-      heard = subst (λ (v : Seen). AreHeardTo last l v xs (by_stream (streaming_on l v))) (sym (is_ended s t e a is.sees.places there)) (subst (AreHeardTo last l u xs) (sym left.streaming) heard);
+      handled = subst (λ (v : Seen). AreReceivedTo last l v xs (by_stream (streaming_on l v))) (sym (is_ended s t e a is.sees.places there)) (subst (AreReceivedTo last l u xs) (sym left.streaming) handled);
     }
 
-attempts_after : (s : Seen) (t k : ℕ) (e : RowEnd) (a b : Attempt) → ArePlaced 1 s.attempts → numbered s.attempts t ≡ Some a → numbered s.attempts k ≡ Some b
+attempts_after : (s : Seen) (t k : ℕ) (e : RowEnd) (a b : Attempt) → AttemptsStandInPlace 1 s.attempts → numbered s.attempts t ≡ Some a → numbered s.attempts k ≡ Some b
     → numbered (attempt_ended t e s).attempts k ≡ Some (if k == t then with_end e b else b)
 attempts_after s t k e a b places there here =
     ap (λ (u : Seen). numbered u.attempts k) (is_ended s t e a places there) ∙ changed_one (with_end e) t k s.attempts b (k == t) refl here
 
-somewhere_after : (s : Seen) (t k : ℕ) (e : RowEnd) (a : Attempt) → ArePlaced 1 s.attempts → numbered s.attempts t ≡ Some a → IsSomewhere s k → IsSomewhere (attempt_ended t e s) k
+somewhere_after : (s : Seen) (t k : ℕ) (e : RowEnd) (a : Attempt) → AttemptsStandInPlace 1 s.attempts → numbered s.attempts t ≡ Some a → IsSomewhere s k → IsSomewhere (attempt_ended t e s) k
 somewhere_after s t k e a places there is =
     record { attempt = if k == t then with_end e is.attempt else is.attempt; there = attempts_after s t k e a is.attempt places there is.there }
 
-all_somewhere : (s : Seen) (t : ℕ) (e : RowEnd) (a : Attempt) (ends : List (ℕ × RowEnd)) → ArePlaced 1 s.attempts → numbered s.attempts t ≡ Some a
+all_somewhere : (s : Seen) (t : ℕ) (e : RowEnd) (a : Attempt) (ends : List (ℕ × RowEnd)) → AttemptsStandInPlace 1 s.attempts → numbered s.attempts t ≡ Some a
     → AllByRecursion (λ (x : ℕ × RowEnd). IsSomewhere s x.0) ends → AllByRecursion (λ (x : ℕ × RowEnd). IsSomewhere (attempt_ended t e s) x.0) ends
 all_somewhere s t e a [] places there all = tt
 all_somewhere s t e a (x ∷ ends) places there all = (somewhere_after s t x.0 e a places there all.0, all_somewhere s t e a ends places there all.1)
@@ -156,7 +156,7 @@ pub record HasEnded (s : Seen) (t n link : ℕ) : Type 0 where
   pub stream : attempt.row.stream ≡ Some n
   pub on : link_number attempt ≡ link
 
-ended_by : (s : Seen) (t k n link : ℕ) (e : RowEnd) (a b : Attempt) (x : Bool) → (k == t) ≡ x → ArePlaced 1 s.attempts → numbered s.attempts t ≡ Some a → numbered s.attempts k ≡ Some b
+ended_by : (s : Seen) (t k n link : ℕ) (e : RowEnd) (a b : Attempt) (x : Bool) → (k == t) ≡ x → AttemptsStandInPlace 1 s.attempts → numbered s.attempts t ≡ Some a → numbered s.attempts k ≡ Some b
     → ((x ≡ false) → (d : RowEnd) × (b.row.ended ≡ Some d)) → b.row.stream ≡ Some n → link_number b ≡ link → HasEnded (attempt_ended t e s) k n link
 ended_by s t k n link e a b true is places there here was stream on = record {
   attempt = with_end e b;

@@ -14,14 +14,14 @@ use Rattle.h2_link.specs.Drains.{AFrame, outgoing}
 use Rattle.h2_link.specs.Feeds.{Line}
 use Rattle.h2_link.specs.LinkErrors as link
 use Rattle.h2_link.specs.Queues.{Queue, sealed}
-use Rattle.h2_link.specs.Steps.{all_reset, applied, continuation_told, data_told, found_from, goaway_told, headers_told, is_above, is_numbered, is_within, judged, outcome, ping_told, plain_told, read_after, reset_told, settings_told, told}
-use Rattle.h2_link.specs.Wire.{Told, Wire}
+use Rattle.h2_link.specs.Steps.{all_reset, applied, continuation_reported, data_reported, found_from, goaway_reported, headers_reported, is_above, is_numbered, is_within, judged, outcome, ping_reported, plain_reported, read_after, reset_reported, settings_reported, reported}
+use Rattle.h2_link.specs.Wire.{Report, Wire}
 use Rattle.h2_link.specs.declared.control.Control.{Control}
 use Rattle.h2_link.specs.declared.control.Control.TheVariants as control
 use Rattle.h2_link.specs.declared.live.LiveStream.{LiveStream}
 use Rattle.lb_policy.specs.Table.{is_one_of}
 use Rattle.link_actions.proofs.Ended.{changed_one}
-use Rattle.link_actions.proofs.Hearing.{Heard, goaway_heard, not_kind, of_settings}
+use Rattle.link_actions.proofs.Receiving.{Received, goaway_received, not_kind, of_settings}
 use Rattle.link_actions.proofs.History.{retiring_more}
 use Rattle.link_actions.proofs.Lists.{both_if, if_false, if_true}
 use Rattle.link_actions.proofs.Opened.{put_all}
@@ -29,7 +29,7 @@ use Rattle.link_actions.proofs.QuietKept.{joined, owed_read}
 use Rattle.link_actions.proofs.Queued.{is_reset_seen}
 use Rattle.link_actions.proofs.Without.{all_filter, opened_without}
 use Rattle.link_actions.specs.Laws.{with_owed}
-use Rattle.link_actions.specs.Sees.{AreLive, ArePlaced, SeesLink, SeesRead, by_stream, named_in}
+use Rattle.link_actions.specs.Sees.{StreamsAreLive, AttemptsStandInPlace, SeesLink, SeesRead, by_stream, named_in}
 use Rattle.session_actions.specs.AttemptEnds.{stream_reset, with_reset_queued}
 use Rattle.session_actions.specs.Links.{is_retiring, is_settings, link_number, settings_of, stream_number, with_link}
 use Rattle.session_actions.specs.Reading.{is_outstanding_on, is_setting, open_block, outstanding_on}
@@ -42,15 +42,15 @@ use Rattle.session_actions.specs.declared.link.ReadFrame.{ReadFrame}
 use Rattle.session_actions.specs.declared.link.Traffic.TheVariants as traffic
 use Rattle.session_actions.specs.declared.response.Response.{Response}
 use Rattle.session_actions.specs.declared.seen.Seen.{Seen}
-use Rattle.link_actions.proofs.StreamActions.Goaway.{AreHeardTo, HasEnded, SeesTo, all_end, all_have_ended, is_none_of, places_of, without_all}
+use Rattle.link_actions.proofs.StreamActions.Goaway.{AreReceivedTo, HasEnded, SeesTo, all_end, all_have_ended, is_none_of, places_of, without_all}
 use Rattle.link_actions.proofs.StreamActions.PlainRead.{none_owed}
 use Rattle.link_actions.proofs.StreamActions.Resets.{all_are_queued, resets_of}
-use Rattle.link_actions.proofs.StreamActions.Responses.{IsLike, goes_on, heard_like, like_itself, response_read}
-use Rattle.link_actions.proofs.StreamActions.StreamEnds.{not_so, on_link, reset_heard}
+use Rattle.link_actions.proofs.StreamActions.Responses.{IsLike, goes_on, received_like, like_itself, response_read}
+use Rattle.link_actions.proofs.StreamActions.StreamEnds.{not_so, on_link, reset_received}
 use Rattle.link_actions.proofs.StreamActions.StreamGoes.{fair_opened}
 use Rattle.link_actions.proofs.StreamActions.StreamRead.{live_read, read_is, read_keeps}
 use Rattle.link_actions.specs.StreamActions.Laws.{AreAllOf, Comes, GoawaysAreRead, IsSomewhere, ended_all, is_left_out, left_out, left_resets, read_link, reset_all}
-use Rattle.link_actions.specs.StreamActions.Sees.{AreHeard, SeesStreams, response_of}
+use Rattle.link_actions.specs.StreamActions.Sees.{ResponsesAreReceived, SeesStreams, response_of}
 
 -- of a stream that it does not leave out it says nothing
 first_of_all : (a b c d : Bool) → ((a && b && c) && d) ≡ true → a ≡ true
@@ -86,24 +86,24 @@ goaway_passes limit k p r no_settings_ low other =
     ∙ if_false ((f.kind == goaway_type) && nat_lt (last_stream f.payload) k) _ _ (last_false (f.kind == goaway_type) (nat_lt (last_stream f.payload) k) low)
     ∙ if_false (f.stream == k) (with_stream_frame limit p f r.block) p other
 
-heard_to : (l : Link) (s : Seen) (r : ReadFrame) (frames : List FrameSeen) (h : Link → Link) (xs : List LiveStream) (others : List Attempt) → is_settings r.frame ≡ false → r.frame.stream ≡ 0
-    → AreLive l xs others → AreHeard l s xs others → AreHeardTo (last_stream r.frame.payload) (with_frame_read r frames l) (with_link h l.number s) xs others
-heard_to l s r frames h [] [] no_settings_ at are heard = tt
-heard_to l s r frames h (x ∷ xs) (a ∷ others) no_settings_ at are heard = (
+received_to : (l : Link) (s : Seen) (r : ReadFrame) (frames : List FrameSeen) (h : Link → Link) (xs : List LiveStream) (others : List Attempt) → is_settings r.frame ≡ false → r.frame.stream ≡ 0
+    → StreamsAreLive l xs others → ResponsesAreReceived l s xs others → AreReceivedTo (last_stream r.frame.payload) (with_frame_read r frames l) (with_link h l.number s) xs others
+received_to l s r frames h [] [] no_settings_ at are handled = tt
+received_to l s r frames h (x ∷ xs) (a ∷ others) no_settings_ at are handled = (
   λ low.
       let limit : ℕ = limit_of_attempt a s in
       let p : Response = response_of l s x.number a in
       let apart : (r.frame.stream == x.number) ≡ false = ap (λ (n : ℕ). n == x.number) at ∙ zero_apart x.number are.0.some in
       let same : response_in limit x.number (with_frame_read r frames l).traffic ≡ p
-      = response_read limit x.number l r frames ∙ goes_on limit x.number p (traffic.Read r) heard.0.goes heard.0.small ∙ goaway_passes limit x.number p r no_settings_ low apart in
-      heard_like l (with_frame_read r frames l) s (with_link h l.number s) x x a refl (subst (IsLike p) (sym same) (like_itself p)) heard.0,
-  heard_to l s r frames h xs others no_settings_ at are.1 heard.1,
+      = response_read limit x.number l r frames ∙ goes_on limit x.number p (traffic.Read r) handled.0.goes handled.0.small ∙ goaway_passes limit x.number p r no_settings_ low apart in
+      received_like l (with_frame_read r frames l) s (with_link h l.number s) x x a refl (subst (IsLike p) (sym same) (like_itself p)) handled.0,
+  received_to l s r frames h xs others no_settings_ at are.1 handled.1,
 )
-heard_to l s r frames h [] (a ∷ others) no_settings_ at are heard = absurd are
-heard_to l s r frames h (x ∷ xs) [] no_settings_ at are heard = absurd are
+received_to l s r frames h [] (a ∷ others) no_settings_ at are handled = absurd are
+received_to l s r frames h (x ∷ xs) [] no_settings_ at are handled = absurd are
 
 -- what is left
-live_agree : (l : Link) (ts : List ℕ) (last : ℕ) (xs : List LiveStream) (others : List Attempt) → AreLive l xs others
+live_agree : (l : Link) (ts : List ℕ) (last : ℕ) (xs : List LiveStream) (others : List Attempt) → StreamsAreLive l xs others
     → AllByRecursion (λ a. is_one_of ts a.place ≡ is_left_out last a) others → filter (λ x. is_none_of ts x.tag) xs ≡ filter (is_within last) xs
 live_agree l ts last [] [] are all = refl
 live_agree l ts last (x ∷ xs) (a ∷ others) are all =
@@ -129,18 +129,18 @@ kept_pass : {X : Type 0} (p : X → Bool) (xs : List X) → AllByRecursion (λ x
 kept_pass p [] = tt
 kept_pass p (x ∷ xs) = pass_by p x (filter p xs) (p x) refl (kept_pass p xs)
 
-within_heard : (last : ℕ) (l : Link) (s : Seen) (xs : List LiveStream) (others : List Attempt) → AllByRecursion (λ x. is_within last x ≡ true) xs → AreHeardTo last l s xs others → AreHeard l s xs others
-within_heard last l s [] [] all heard = tt
-within_heard last l s (x ∷ xs) (a ∷ others) all heard = (heard.0 (not_so (is_above last x) all.0), within_heard last l s xs others all.1 heard.1)
-within_heard last l s [] (a ∷ others) all heard = absurd heard
-within_heard last l s (x ∷ xs) [] all heard = absurd heard
+within_received : (last : ℕ) (l : Link) (s : Seen) (xs : List LiveStream) (others : List Attempt) → AllByRecursion (λ x. is_within last x ≡ true) xs → AreReceivedTo last l s xs others → ResponsesAreReceived l s xs others
+within_received last l s [] [] all handled = tt
+within_received last l s (x ∷ xs) (a ∷ others) all handled = (handled.0 (not_so (is_above last x) all.0), within_received last l s xs others all.1 handled.1)
+within_received last l s [] (a ∷ others) all handled = absurd handled
+within_received last l s (x ∷ xs) [] all handled = absurd handled
 
 -- the attempts on the link, each at its place
 sorted_all : (P : Attempt → Type 0) (xs : List Attempt) → AllByRecursion P xs → AllByRecursion P (by_stream xs)
 sorted_all P [] all = tt
 sorted_all P (a ∷ xs) all = put_all P a (by_stream xs) all.0 (sorted_all P xs all.1)
 
-there_from : (whole : List Attempt) (i : ℕ) (xs : List Attempt) → ((j : ℕ) → slice_get whole (i + j) ≡ slice_get xs j) → ArePlaced (i + 1) xs
+there_from : (whole : List Attempt) (i : ℕ) (xs : List Attempt) → ((j : ℕ) → slice_get whole (i + j) ≡ slice_get xs j) → AttemptsStandInPlace (i + 1) xs
     → AllByRecursion (λ a. numbered whole a.place ≡ Some a) xs
 there_from whole i [] same places = tt
 there_from whole i (x ∷ xs) same places =
@@ -150,11 +150,11 @@ there_from whole i (x ∷ xs) same places =
       there_from whole (i + 1) xs (λ j. ap (slice_get whole) (let next : i + 1 + j ≡ i + suc j = omega arith in next) ∙ same (suc j)) places.1,
     )
 
-all_there : (xs : List Attempt) → ArePlaced 1 xs → AllByRecursion (λ a. numbered xs a.place ≡ Some a) xs
+all_there : (xs : List Attempt) → AttemptsStandInPlace 1 xs → AllByRecursion (λ a. numbered xs a.place ≡ Some a) xs
 all_there xs places =
     let o : ℕ = 0 in
     let one : o + 1 ≡ 1 = refl in
-    there_from xs o xs (λ j. ap (slice_get xs) (let none : o + j ≡ j = omega arith in none)) (subst (λ (n : ℕ). ArePlaced n xs) (sym one) places)
+    there_from xs o xs (λ j. ap (slice_get xs) (let none : o + j ≡ j = omega arith in none)) (subst (λ (n : ℕ). AttemptsStandInPlace n xs) (sym one) places)
 
 -- the resets
 abbrev AreReset : Seen → ℕ → List Attempt → List LiveStream → Type 0
@@ -167,14 +167,14 @@ row_by : (s : Seen) (t k n code link : ℕ) (a b : Attempt) (e : RowEnd) (x : Bo
 row_by s t k n code link a b e true there ended stream on = record { attempt = with_reset_queued b; there = there; end = e; ended = ended; stream = stream; on = on }
 row_by s t k n code link a b e false there ended stream on = record { attempt = b; there = there; end = e; ended = ended; stream = stream; on = on }
 
-ended_after : (s : Seen) (t m k n code link : ℕ) → ArePlaced 1 s.attempts → HasEnded s t m link → HasEnded s k n link → HasEnded (stream_reset t code s) k n link
+ended_after : (s : Seen) (t m k n code link : ℕ) → AttemptsStandInPlace 1 s.attempts → HasEnded s t m link → HasEnded s k n link → HasEnded (stream_reset t code s) k n link
 ended_after s t m k n code link places first h =
     row_by s t k n code link first.attempt h.attempt h.end (k == t)
     (ap (λ (u : Seen). numbered u.attempts k) (is_reset_seen s t m code link first.attempt places first.there first.stream first.on)
     ∙ changed_one with_reset_queued t k s.attempts h.attempt (k == t) refl h.there)
     h.ended h.stream h.on
 
-all_after : (s : Seen) (t m code link : ℕ) (xs : List Attempt) (ys : List LiveStream) → ArePlaced 1 s.attempts → HasEnded s t m link → AreReset s link xs ys → AreReset (stream_reset t code s) link xs ys
+all_after : (s : Seen) (t m code link : ℕ) (xs : List Attempt) (ys : List LiveStream) → AttemptsStandInPlace 1 s.attempts → HasEnded s t m link → AreReset s link xs ys → AreReset (stream_reset t code s) link xs ys
 all_after s t m code link [] [] places first are = tt
 all_after s t m code link (a ∷ xs) (y ∷ ys) places first are =
     (are.0, ended_after s t m a.place y.number code link places first are.1, all_after s t m code link xs ys places first are.2)
@@ -218,8 +218,8 @@ requeued l s w g q q2 e is =
         tags = k.tags;
         places = k.places;
       };
-      heard = is.heard;
-      unheard = is.unheard;
+      handled = is.handled;
+      unreceived = is.unreceived;
       begun = is.begun;
     }
 
@@ -235,7 +235,7 @@ resets_fold l s w g q q2 (a ∷ xs) (y ∷ ys) is are items =
     let m : Link = with_owed (f ∷ []) l in
     let u : Seen = stream_reset a.place cancel s in
     let one : SeesStreams m u (record w { queue = q1 }) g
-    = reset_heard l s (record w { queue = q }) g a.place y.number cancel h.attempt h.end q1 is h.there h.ended h.stream h.on refl in
+    = reset_received l s (record w { queue = q }) g a.place y.number cancel h.attempt h.end q1 is h.there h.ended h.stream h.on refl in
     let rest : SeesStreams (with_owed (left_resets xs) m) (reset_all xs u) (record w { queue = q2 }) g
     = resets_fold m u w g q1 q2 xs ys one (all_after s a.place y.number cancel l.number xs ys is.sees.places h are.2) (items ∙ sym (joined q.items (c ∷ []) (resets_of ys))) in
     subst (λ (n : ℕ). SeesStreams (record l { owed = l.owed ++ rst_stream_frame n cancel ∷ left_resets xs }) (reset_all xs u) (record w { queue = q2 }) g) (sym are.0)
@@ -244,7 +244,7 @@ resets_fold l s w g q q2 [] (y ∷ ys) is are items = absurd are
 resets_fold l s w g q q2 (a ∷ xs) [] is are items = absurd are
 
 -- those that it leaves out are those that have ended
-gone_zip : (l : Link) (z : Seen) (s : Seen) (ts : List ℕ) (last : ℕ) (xs : List LiveStream) (others : List Attempt) → AreLive l xs others
+gone_zip : (l : Link) (z : Seen) (s : Seen) (ts : List ℕ) (last : ℕ) (xs : List LiveStream) (others : List Attempt) → StreamsAreLive l xs others
     → AllByRecursion (λ a. is_one_of ts a.place ≡ is_left_out last a) others → AllByRecursion (λ a. numbered s.attempts a.place ≡ Some a) others
     → AllByRecursion (λ a. is_outstanding_on l a ≡ true) others
     → ((a : Attempt) (n : ℕ) → numbered s.attempts a.place ≡ Some a → a.row.stream ≡ Some n → link_number a ≡ l.number → is_one_of ts a.place ≡ true → HasEnded z a.place n l.number)
@@ -263,24 +263,24 @@ gone_zip l z s ts last (x ∷ xs) (a ∷ others) are all there out ends =
 gone_zip l z s ts last [] (a ∷ others) are all there out ends = absurd are
 gone_zip l z s ts last (x ∷ xs) [] are all there out ends = absurd are
 
--- what the link is told
-pub goaway_is_told : (w : Wire) (f : FrameSeen) → link.link_error w f ≡ None → f.kind ≡ goaway_type
-    → told w f ≡ outcome w (read_after w.read (9 + length f.payload)) (Ok (goaway_told (record w { queue = sealed w.queue }) (last_stream f.payload) (read_after w.read (9 + length f.payload))))
-goaway_is_told w f fair kind =
+-- what is reported to the link
+pub goaway_is_reported : (w : Wire) (f : FrameSeen) → link.link_error w f ≡ None → f.kind ≡ goaway_type
+    → reported w f ≡ outcome w (read_after w.read (9 + length f.payload)) (Ok (goaway_reported (record w { queue = sealed w.queue }) (last_stream f.payload) (read_after w.read (9 + length f.payload))))
+goaway_is_reported w f fair kind =
     let seen : ℕ = read_after w.read (9 + length f.payload) in
     let v : Wire = record w { queue = sealed w.queue } in
     let at : Option (ℕ × LiveStream) = found_from (is_numbered f.stream) 0 w.live in
     let no : (n : ℕ) → (goaway_type == n) ≡ false → (f.kind == n) ≡ false = λ n e. not_kind f.kind goaway_type n false kind e in
-    let applied_is : applied v f seen ≡ Ok (plain_told v f seen)
-    = if_false (f.kind == headers_type) (headers_told v f seen) _ (no headers_type refl)
-    ∙ if_false (f.kind == continuation_type) (continuation_told v f seen w.block) (Ok (plain_told v f seen)) (no continuation_type refl) in
-    let plain_is : plain_told v f seen ≡ goaway_told v (last_stream f.payload) seen
-    = if_false (f.kind == data_type) (data_told v f seen at) _ (no data_type refl)
-    ∙ if_false (f.kind == rst_stream_type) (reset_told v (reset_code f.payload) seen at) _ (no rst_stream_type refl)
-    ∙ if_false (f.kind == settings_type) (settings_told v f) _ (no settings_type refl)
-    ∙ if_false (f.kind == ping_type) (ping_told v f) _ (no ping_type refl)
-    ∙ if_true (f.kind == goaway_type) (goaway_told v (last_stream f.payload) seen) _ (not_kind f.kind goaway_type goaway_type true kind refl) in
-    ap (judged w f) fair ∙ ap (outcome w seen) applied_is ∙ ap (λ (t : Told). outcome w seen (Ok t)) plain_is
+    let applied_is : applied v f seen ≡ Ok (plain_reported v f seen)
+    = if_false (f.kind == headers_type) (headers_reported v f seen) _ (no headers_type refl)
+    ∙ if_false (f.kind == continuation_type) (continuation_reported v f seen w.block) (Ok (plain_reported v f seen)) (no continuation_type refl) in
+    let plain_is : plain_reported v f seen ≡ goaway_reported v (last_stream f.payload) seen
+    = if_false (f.kind == data_type) (data_reported v f seen at) _ (no data_type refl)
+    ∙ if_false (f.kind == rst_stream_type) (reset_reported v (reset_code f.payload) seen at) _ (no rst_stream_type refl)
+    ∙ if_false (f.kind == settings_type) (settings_reported v f) _ (no settings_type refl)
+    ∙ if_false (f.kind == ping_type) (ping_reported v f) _ (no ping_type refl)
+    ∙ if_true (f.kind == goaway_type) (goaway_reported v (last_stream f.payload) seen) _ (not_kind f.kind goaway_type goaway_type true kind refl) in
+    ap (judged w f) fair ∙ ap (outcome w seen) applied_is ∙ ap (λ (t : Report). outcome w seen (Ok t)) plain_is
 
 -- before any end
 pub goaway_base : (l : Link) (s : Seen) (w : Wire) (g : ℕ → Line) (r : ReadFrame) → SeesStreams l s w g → Comes l w r → r.frame.kind ≡ goaway_type
@@ -294,9 +294,9 @@ goaway_base l s w g r is comes kind =
     let v : Wire = record w { retiring = true; queue = sealed w.queue } in
     let none : List Control = [] in
     let no_settings_ : is_settings f ≡ false = of_settings f.kind f.flags (not_kind f.kind goaway_type settings_type false kind refl) in
-    let said : Heard f (open_block l) w (goaway_told w last seen).wire
-    = goaway_heard w f (open_block l) seen (not_kind f.kind goaway_type goaway_type true kind refl) is.sees.sees.reads.block in
-    let heard : Heard f (open_block l) w v = record {
+    let said : Received f (open_block l) w (goaway_reported w last seen).wire
+    = goaway_received w f (open_block l) seen (not_kind f.kind goaway_type goaway_type true kind refl) is.sees.sees.reads.block in
+    let handled : Received f (open_block l) w v = record {
       whole = said.whole;
       ready = said.ready;
       retiring = said.retiring;
@@ -308,13 +308,13 @@ goaway_base l s w g r is comes kind =
       table = said.table;
     } in
     record {
-      sees = read_keeps l s w v g r is.sees heard comes.end (fair_opened w f comes.fair) refl refl is.sees.opened refl
+      sees = read_keeps l s w v g r is.sees handled comes.end (fair_opened w f comes.fair) refl refl is.sees.opened refl
           (live_read l r frames w.live bs (not_kind f.kind goaway_type window_update_type false kind refl) is.sees.sees.live)
           (owed_read l s w (record v { read = seen }) r none is.sees.owes
           (ap (map (λ k. AFrame k)) (sym (none_owed f l s (not_kind f.kind goaway_type data_type false kind refl) (not_kind f.kind goaway_type settings_type false kind refl) (not_kind f.kind goaway_type ping_type false kind refl))))
           (sym (if_false (is_settings f) (list_any (is_setting 1) (settings_of f) ∷ []) [] no_settings_))
           refl (sym (append-nil w.queue.items)));
-      heard = heard_to l s r frames (with_frame_read r frames) w.live bs no_settings_ (on_no_stream f comes.allowed kind) is.sees.sees.live is.heard;
+      handled = received_to l s r frames (with_frame_read r frames) w.live bs no_settings_ (on_no_stream f comes.allowed kind) is.sees.sees.live is.handled;
     }
 
 all_there_still : (s u : Seen) (ends : List (ℕ × RowEnd)) → u.attempts ≡ s.attempts → AllByRecursion (λ (x : ℕ × RowEnd). IsSomewhere s x.0) ends
@@ -347,8 +347,8 @@ once_ended l s w g r ends z is goes all after =
     (subst (λ (ns : List ℕ). SeesTo last m z (record v { live = filter (λ x. is_none_of ts x.tag) w.live; waiting = ns }) g) wait_is after) in
     record {
       sees = to.sees;
-      heard = within_heard last m z (filter (is_within last) w.live) (by_stream (streaming_on m z)) (kept_pass (is_within last) w.live) to.heard;
-      unheard = λ limit j above going. absurd (both_ways (is_retiring m) (retiring_more l r (owed_for f l s) ∙ ap (λ (b : Bool). is_retiring l || b) goes ∙ or_last (is_retiring l)) going);
+      handled = within_received last m z (filter (is_within last) w.live) (by_stream (streaming_on m z)) (kept_pass (is_within last) w.live) to.handled;
+      unreceived = λ limit j above going. absurd (both_ways (is_retiring m) (retiring_more l r (owed_for f l s) ∙ ap (λ (b : Bool). is_retiring l || b) goes ∙ or_last (is_retiring l)) going);
       begun = is.begun;
     }
 
@@ -382,4 +382,4 @@ goaways_are_read l s w g r ends is comes goes all =
     let done : SeesStreams (with_owed (left_resets gone) m) (reset_all gone z) (record k { queue = q }) g = resets_fold m z k g (sealed w.queue) q gone out_ ended_ are items in
     let T : Wire → Type 0 = λ x. SeesStreams (with_owed (left_resets gone) m) (reset_all gone (ended_all ends (frame_read l.number r s))) x g in
     let W : Seen → Type 0 = λ x. SeesStreams (with_owed (left_resets gone) m) (reset_all gone (ended_all ends x)) (record k { queue = q }) g in
-    subst T (sym (ap (λ (x : Told). x.wire) (goaway_is_told w f comes.fair kind))) (subst W (sym (read_is l s r is.sees.at)) done)
+    subst T (sym (ap (λ (x : Report). x.wire) (goaway_is_reported w f comes.fair kind))) (subst W (sym (read_is l s r is.sees.at)) done)

@@ -11,8 +11,8 @@ use Rattle.h2_link.specs.declared.live.LiveStream.{LiveStream}
 use Rattle.link_actions.proofs.StreamActions.Found.{only_head}
 use Rattle.link_actions.proofs.Lists.{any_kept}
 use Rattle.link_actions.proofs.Streams.{any_by_stream}
-use Rattle.link_actions.specs.Sees.{AreLive, by_stream}
-use Rattle.link_actions.specs.StreamActions.Sees.{AreHeard, IsHeard, SeesStreams, response_of}
+use Rattle.link_actions.specs.Sees.{StreamsAreLive, by_stream}
+use Rattle.link_actions.specs.StreamActions.Sees.{ResponsesAreReceived, IsReceived, SeesStreams, response_of}
 use Rattle.session_actions.specs.Reading.{is_outstanding_on, outstanding_on}
 use Rattle.session_actions.specs.Responses.{limit_of_attempt, no_response, response, response_by, response_in, response_on, traffic_by}
 use Rattle.session_actions.specs.Words.{holds, is_number, numbered}
@@ -81,23 +81,23 @@ no_number n None e = refl
 no_number n (Some m) e = absurd (cc)
 
 -- as the link knows it
-one_zipped : (l : Link) (s : Seen) (n : ℕ) (x : LiveStream) (a : Attempt) (b : Bool) → (x.number == n) ≡ b → IsHeard l s x a
+one_zipped : (l : Link) (s : Seen) (n : ℕ) (x : LiveStream) (a : Attempt) (b : Bool) → (x.number == n) ≡ b → IsReceived l s x a
     → ((x.number == n) && is_some (response_of l s n a).head) ≡ ((x.number == n) && x.head)
-one_zipped l s n x a true is heard =
+one_zipped l s n x a true is handled =
     let same : x.number ≡ n = eqb-true x.number n is in
-    ap (λ (c : Bool). (x.number == n) && c) (ap (λ (k : ℕ). is_some (response_of l s k a).head) (sym same) ∙ sym heard.head)
-one_zipped l s n x a false is heard =
+    ap (λ (c : Bool). (x.number == n) && c) (ap (λ (k : ℕ). is_some (response_of l s k a).head) (sym same) ∙ sym handled.head)
+one_zipped l s n x a false is handled =
     ap (λ (c : Bool). c && is_some (response_of l s n a).head) is ∙ sym (ap (λ (c : Bool). c && x.head) is)
 
-any_zipped : (l : Link) (s : Seen) (n : ℕ) (xs : List LiveStream) (others : List Attempt) → AreLive l xs others → AreHeard l s xs others
+any_zipped : (l : Link) (s : Seen) (n : ℕ) (xs : List LiveStream) (others : List Attempt) → StreamsAreLive l xs others → ResponsesAreReceived l s xs others
     → list_any (has_head l s n) others ≡ list_any (λ (x : LiveStream). (x.number == n) && x.head) xs
-any_zipped l s n [] [] are heard = refl
-any_zipped l s n (x ∷ xs) (a ∷ others) are heard =
+any_zipped l s n [] [] are handled = refl
+any_zipped l s n (x ∷ xs) (a ∷ others) are handled =
     ap (λ (o : Option ℕ). (is_number n o && is_some (response_of l s n a).head) || list_any (has_head l s n) others) are.0.stream
-    ∙ ap (λ (c : Bool). c || list_any (has_head l s n) others) (one_zipped l s n x a (x.number == n) refl heard.0)
-    ∙ ap (λ (c : Bool). ((x.number == n) && x.head) || c) (any_zipped l s n xs others are.1 heard.1)
-any_zipped l s n [] (a ∷ others) are heard = absurd are
-any_zipped l s n (x ∷ xs) [] are heard = absurd are
+    ∙ ap (λ (c : Bool). c || list_any (has_head l s n) others) (one_zipped l s n x a (x.number == n) refl handled.0)
+    ∙ ap (λ (c : Bool). ((x.number == n) && x.head) || c) (any_zipped l s n xs others are.1 handled.1)
+any_zipped l s n [] (a ∷ others) are handled = absurd are
+any_zipped l s n (x ∷ xs) [] are handled = absurd are
 
 pub going : (l : Link) (s : Seen) (w : Wire) (g : ℕ → Line) (n i : ℕ) (y : LiveStream) → SeesStreams l s w g → slice_get w.live i ≡ Some y → y.number ≡ n
     → list_any (is_going_on n s) (outstanding_on l s) ≡ y.head
@@ -106,5 +106,5 @@ going l s w g n i y is there number =
     ∙ any_kept (has_head l s n) (λ (a : Attempt). is_some a.row.stream)
     (λ (a : Attempt) e. ap (λ (b : Bool). b && is_some (response_of l s n a).head) (no_number n a.row.stream e)) (outstanding_on l s)
     ∙ sym (any_by_stream (has_head l s n) (streaming_on l s))
-    ∙ any_zipped l s n w.live (by_stream (streaming_on l s)) is.sees.sees.live is.heard
+    ∙ any_zipped l s n w.live (by_stream (streaming_on l s)) is.sees.sees.live is.handled
     ∙ only_head n 1 (2 * w.opened + 1) i w.live y is.sees.opened there number

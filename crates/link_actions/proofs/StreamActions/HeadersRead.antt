@@ -15,14 +15,14 @@ use Rattle.h2_link.specs.Feeds.{Line}
 use Rattle.h2_link.specs.Queues.{sealed}
 use Rattle.h2_link.specs.Status as link
 use Rattle.h2_link.specs.Steps.{applied, headers_effect, listed, live_after, queue_after, read_after, reset_after, reset_owed, unless}
-use Rattle.h2_link.specs.Wire.{Block, Told, Wire}
+use Rattle.h2_link.specs.Wire.{Block, Report, Wire}
 use Rattle.h2_link.specs.declared.control.Control.{Control}
 use Rattle.h2_link.specs.declared.live.LiveStream.{LiveStream}
 use Rattle.link_actions.proofs.DataSent.{same_opened, same_tags}
-use Rattle.link_actions.proofs.Hearing.{Heard, not_kind, of_settings}
+use Rattle.link_actions.proofs.Receiving.{Received, not_kind, of_settings}
 use Rattle.link_actions.proofs.Lists.{if_false, if_true}
 use Rattle.link_actions.proofs.QuietKept.{owed_read}
-use Rattle.link_actions.specs.Sees.{AreLive, AreOpened, IsLive, SeesLink, by_stream}
+use Rattle.link_actions.specs.Sees.{StreamsAreLive, StreamsAreOpened, IsLive, SeesLink, by_stream}
 use Rattle.session_actions.specs.Links.{has_written_end, is_settings, settings_of}
 use Rattle.session_actions.specs.Reading.{block_with, is_last_of_block, is_of_block, is_setting, open_block}
 use Rattle.session_actions.specs.Responses.{block_end, ended, http_code, http_status, is_head, is_interim, limit_of_attempt, ended_by_block, with_block, with_data, with_head, with_own_frame, with_reset, with_stream_frame, with_trailers, with_update}
@@ -35,7 +35,7 @@ use Rattle.session_actions.specs.declared.link.ReadFrame.{ReadFrame}
 use Rattle.session_actions.specs.declared.response.Outcome.{Outcome}
 use Rattle.session_actions.specs.declared.response.Response.{Response}
 use Rattle.session_actions.specs.declared.seen.Seen.{Seen}
-use Rattle.link_actions.proofs.StreamActions.BlockTold.{IsHeld, IsLast, IsListed, heard_by, is_held, is_listed, is_of, last_is, more_is, told_by}
+use Rattle.link_actions.proofs.StreamActions.BlockReported.{IsHeld, IsLast, IsListed, received_by, is_held, is_listed, is_of, last_is, more_is, reported_by}
 use Rattle.link_actions.proofs.StreamActions.Found.{set_itself}
 use Rattle.link_actions.proofs.StreamActions.PlainRead.{Doing, none_owed, on_after}
 use Rattle.link_actions.proofs.StreamActions.Responses.{response_own}
@@ -43,7 +43,7 @@ use Rattle.link_actions.proofs.StreamActions.StatusSame.{interim_same, status_sa
 use Rattle.link_actions.proofs.StreamActions.StreamEnds.{ends_follow}
 use Rattle.link_actions.proofs.StreamActions.StreamGoes.{Stands, fair_opened, fair_rules, read_but, read_on, stands}
 use Rattle.link_actions.proofs.StreamActions.StreamRead.{live_read, read_is, read_keeps}
-use Rattle.link_actions.proofs.StreamActions.Unheard.{no_list}
+use Rattle.link_actions.proofs.StreamActions.Unreceived.{no_list}
 use Rattle.link_actions.specs.StreamActions.Laws.{BlocksAreRead, Comes, Ends, Follows, GoesOn, IsOn, PartsAreRead, Then, block_then, closed_code, read_link}
 use Rattle.link_actions.specs.StreamActions.Sees.{SeesBut, SeesStreams, response_of}
 
@@ -76,7 +76,7 @@ is_part f of_b = part_by f (f.kind == headers_type) refl of_b
 
 -- the stream, changed
 live_set : (m : Link) (i : ℕ) (xs : List LiveStream) (others : List Attempt) (y x : LiveStream) → slice_get xs i ≡ Some y → ((a : Attempt) → IsLive m y a → IsLive m x a)
-    → AreLive m xs others → AreLive m (slice_set xs i x) others
+    → StreamsAreLive m xs others → StreamsAreLive m (slice_set xs i x) others
 live_set m i [] [] y x e own are = absurd (cc)
 live_set m zero (z ∷ xs) (a ∷ others) y x e own are =
     let same : z ≡ y = (cc) in (own a (subst (λ (k : LiveStream). IsLive m k a) same are.0), are.1)
@@ -89,20 +89,20 @@ abbrev with_head_known : Bool → LiveStream → LiveStream
 with_head_known b y = record y { head = b }
 
 part_base : (l : Link) (s : Seen) (w v : Wire) (g : ℕ → Line) (r : ReadFrame) (a : Attempt) (b : Bool) → SeesStreams l s w g → Comes l w r → (st : Stands l s w r.frame.stream a)
-    → IsPart r.frame → Heard r.frame (open_block l) w v → v.queue.items ≡ w.queue.items → v.waiting ≡ w.waiting → v.resizes ≡ w.resizes
+    → IsPart r.frame → Received r.frame (open_block l) w v → v.queue.items ≡ w.queue.items → v.waiting ≡ w.waiting → v.resizes ≡ w.resizes
     → v.live ≡ slice_set w.live st.index (with_head_known b st.stream)
     → SeesLink (read_link r l s) (frame_read_on r s l) (record v { read = read_after w.read (9 + length r.frame.payload) }) g
-part_base l s w v g r a b is comes st part heard items waiting resizes live =
+part_base l s w v g r a b is comes st part handled items waiting resizes live =
     let f : FrameSeen = r.frame in
     let m : Link = read_link r l s in
     let bs : List Attempt = by_stream (streaming_on l s) in
     let x : LiveStream = with_head_known b st.stream in
     let none : List Control = [] in
     let no_settings_ : is_settings f ≡ false = of_settings f.kind f.flags part.no_settings in
-    read_keeps l s w v g r is.sees heard comes.end (fair_opened w f comes.fair) waiting heard.opened
-    (subst (λ (xs : List LiveStream). AreOpened 1 (2 * w.opened + 1) xs) (sym live) (same_opened 1 (2 * w.opened + 1) st.index w.live st.stream x refl st.there is.sees.opened))
+    read_keeps l s w v g r is.sees handled comes.end (fair_opened w f comes.fair) waiting handled.opened
+    (subst (λ (xs : List LiveStream). StreamsAreOpened 1 (2 * w.opened + 1) xs) (sym live) (same_opened 1 (2 * w.opened + 1) st.index w.live st.stream x refl st.there is.sees.opened))
     (ap (map (λ (z : LiveStream). z.tag)) live ∙ same_tags st.index w.live st.stream x refl st.there)
-    (subst (λ (xs : List LiveStream). AreLive m xs bs) (sym live)
+    (subst (λ (xs : List LiveStream). StreamsAreLive m xs bs) (sym live)
     (live_set m st.index w.live bs st.stream x st.there (λ c is_. record { stream = is_.stream; some = is_.some; tag = is_.tag; finished = is_.finished; credit = is_.credit })
     (live_read l r (owed_for f l s) w.live bs part.no_update is.sees.sees.live)))
     (owed_read l s w (record v { read = read_after w.read (9 + length f.payload) }) r none is.sees.owes
@@ -116,8 +116,8 @@ pub own_response : (l : Link) (s : Seen) (w : Wire) (r : ReadFrame) (a : Attempt
 own_response l s w r a st part =
     let f : FrameSeen = r.frame in
     let n : ℕ = f.stream in
-    let goes = ap (λ (k : ℕ). (response_of l s k a).end) (sym st.number) ∙ st.heard.goes in
-    let small = ap (λ (k : ℕ). (response_of l s k a).large) (sym st.number) ∙ st.heard.small in
+    let goes = ap (λ (k : ℕ). (response_of l s k a).end) (sym st.number) ∙ st.handled.goes in
+    let small = ap (λ (k : ℕ). (response_of l s k a).large) (sym st.number) ∙ st.handled.small in
     let own : (n == n) ≡ true = grind (arith, nat_tests) in
     response_own (limit_of_attempt a s) n l r (owed_for f l s) goes small (of_settings f.kind f.flags part.no_settings) part.no_goaway own
 
@@ -148,21 +148,21 @@ parts_are_read l s w g r a is comes on of_b none =
     let limit : ℕ = limit_of_attempt a s in
     let held : IsHeld w f seen = held_by l s w g r (is_last_of_block f) refl is comes of_b none in
     let v0 : Wire = record w { queue = sealed w.queue; block = Some held.block } in
-    let t : Told = record { wire = v0; news = [] } in
-    let heard : Heard f (open_block l) w v0 = heard_by l w r t is.sees.sees.reads comes held.applied_is in
+    let t : Report = record { wire = v0; news = [] } in
+    let handled : Received f (open_block l) w v0 = received_by l w r t is.sees.sees.reads comes held.applied_is in
     let v : Wire = record v0 { read = seen } in
     let itself_ : slice_set w.live st.index (with_head_known st.stream.head st.stream) ≡ w.live = set_itself st.index w.live st.stream st.there in
-    let base = part_base l s w v0 g r a st.stream.head is comes st part heard refl refl refl (sym itself_) in
+    let base = part_base l s w v0 g r a st.stream.head is comes st part handled refl refl refl (sym itself_) in
     let own : with_own_frame limit p f ≡ p
     = if_false (f.kind == data_type) (with_data limit p f) _ part.no_data ∙ if_false (f.kind == rst_stream_type) (with_reset p (reset_code f.payload)) _ part.no_reset
     ∙ if_false (f.kind == window_update_type) (with_update p (increment f.payload)) p part.no_update in
     let same : response_of m (frame_read_on r s l) n a ≡ p
     = own_response l s w r a st part ∙ ap (λ (o : Option Whole). with_stream_frame limit p f o) none ∙ own in
-    let done = read_on l s w v g r a st.stream is comes st part.no_goaway st.live.tag st.number (sym itself_) refl heard.block base
-    (λ ends. st.heard.head ∙ ap (λ (k : ℕ). is_some (response_of l s k a).head) st.number ∙ ap (λ (z : Response). is_some z.head) (sym same)) in
+    let done = read_on l s w v g r a st.stream is comes st part.no_goaway st.live.tag st.number (sym itself_) refl handled.block base
+    (λ ends. st.handled.head ∙ ap (λ (k : ℕ). is_some (response_of l s k a).head) st.number ∙ ap (λ (z : Response). is_some z.head) (sym same)) in
     let T : Wire → Type 0 = λ x. Follows m (frame_read l.number r s) a n GoesOn x g in
     let W : Seen → Type 0 = λ z. Follows m z a n GoesOn v g in
-    subst T (sym (ap (λ (x : Told). x.wire) (told_by w f t comes.fair held.applied_is))) (subst W (sym (read_is l s r is.sees.at)) done)
+    subst T (sym (ap (λ (x : Report). x.wire) (reported_by w f t comes.fair held.applied_is))) (subst W (sym (read_is l s r is.sees.at)) done)
 
 -- a whole block: what becomes of its attempt, by what it says
 abbrev pub then_of : Bool → Bool → Bool → Bool → Bool → Then
@@ -206,61 +206,61 @@ head_by p b false e goes =
 -- it ends the attempt
 block_ends : (l : Link) (s : Seen) (w : Wire) (g : ℕ → Line) (r : ReadFrame) (a : Attempt) (kept : Option Block) (table : hpack.State) (number : Option ℕ)
     → SeesStreams l s w g → Comes l w r → IsOn l s r.frame.stream a → (st : Stands l s w r.frame.stream a) → IsPart r.frame
-    → Heard r.frame (open_block l) w (record w { queue = sealed w.queue; block = kept; table = table })
+    → Received r.frame (open_block l) w (record w { queue = sealed w.queue; block = kept; table = table })
     → Follows (read_link r l s) (frame_read_on r s l) a r.frame.stream (Ends number)
     (record w { live = remove w.live st.index; queue = reset_after r.frame.stream number (sealed w.queue); block = kept; table = table; read = read_after w.read (9 + length r.frame.payload) }) g
-block_ends l s w g r a kept table number is comes on st part heard =
+block_ends l s w g r a kept table number is comes on st part handled =
     let f : FrameSeen = r.frame in
     let m : Link = read_link r l s in
     let u : Wire = record w { queue = sealed w.queue; block = kept; table = table } in
     let v : Wire = record u { read = read_after w.read (9 + length f.payload) } in
     let itself_ : w.live ≡ slice_set w.live st.index st.stream = sym (set_itself st.index w.live st.stream st.there) in
-    let base = part_base l s w u g r a st.stream.head is comes st part heard refl refl refl itself_ in
-    let but : SeesBut a.place m (frame_read_on r s l) v g = read_but l s w v g r a st.stream is comes st part.no_goaway st.live.tag itself_ refl heard.block base in
+    let base = part_base l s w u g r a st.stream.head is comes st part handled refl refl refl itself_ in
+    let but : SeesBut a.place m (frame_read_on r s l) v g = read_but l s w v g r a st.stream is comes st part.no_goaway st.live.tag itself_ refl handled.block base in
     ends_follow m (frame_read_on r s l) v g f.stream st.index a st.stream number but (on_after l s r f.stream a on) refl st.there st.live.tag
 
 -- with END_STREAM
 block_closes : (l : Link) (s : Seen) (w : Wire) (g : ℕ → Line) (r : ReadFrame) (a : Attempt) (kept : Option Block) (table : hpack.State)
     → SeesStreams l s w g → Comes l w r → IsOn l s r.frame.stream a → (st : Stands l s w r.frame.stream a) → IsPart r.frame
-    → Heard r.frame (open_block l) w (record w { queue = sealed w.queue; block = kept; table = table })
+    → Received r.frame (open_block l) w (record w { queue = sealed w.queue; block = kept; table = table })
     → Follows (read_link r l s) (frame_read_on r s l) a r.frame.stream (Ends (closed_code (has_written_end r.frame.stream l)))
     (record w { live = remove w.live st.index; queue = reset_after r.frame.stream (reset_owed st.stream) (sealed w.queue); block = kept; table = table; read = read_after w.read (9 + length r.frame.payload) }) g
-block_closes l s w g r a kept table is comes on st part heard =
+block_closes l s w g r a kept table is comes on st part handled =
     let n : ℕ = r.frame.stream in
     let code : reset_owed st.stream ≡ closed_code (has_written_end n l) = ap closed_code (st.live.finished ∙ ap (λ (k : ℕ). has_written_end k l) st.number) in
     subst (λ (c : Option ℕ). Follows (read_link r l s) (frame_read_on r s l) a n (Ends c)
     (record w { live = remove w.live st.index; queue = reset_after n (reset_owed st.stream) (sealed w.queue); block = kept; table = table; read = read_after w.read (9 + length r.frame.payload) }) g) code
-    (block_ends l s w g r a kept table (reset_owed st.stream) is comes on st part heard)
+    (block_ends l s w g r a kept table (reset_owed st.stream) is comes on st part handled)
 
 -- it goes on
 block_goes : (l : Link) (s : Seen) (w : Wire) (g : ℕ → Line) (r : ReadFrame) (a : Attempt) (b : Whole) (kept : Option Block) (table : hpack.State) (h : Bool)
     → SeesStreams l s w g → Comes l w r → (st : Stands l s w r.frame.stream a) → IsPart r.frame → r.block ≡ Some b
-    → Heard r.frame (open_block l) w (record w { queue = sealed w.queue; block = kept; table = table })
+    → Received r.frame (open_block l) w (record w { queue = sealed w.queue; block = kept; table = table })
     → ((with_block (response_of l s r.frame.stream a) b).end ≡ None → h ≡ is_some (with_block (response_of l s r.frame.stream a) b).head)
     → Follows (read_link r l s) (frame_read_on r s l) a r.frame.stream GoesOn
     (record w { live = slice_set w.live st.index (record st.stream { head = h }); queue = sealed w.queue; block = kept; table = table; read = read_after w.read (9 + length r.frame.payload) }) g
-block_goes l s w g r a b kept table h is comes st part block heard head =
+block_goes l s w g r a b kept table h is comes st part block handled head =
     let f : FrameSeen = r.frame in
     let n : ℕ = f.stream in
     let p : Response = response_of l s n a in
     let limit : ℕ = limit_of_attempt a s in
     let u : Wire = record w { queue = sealed w.queue; block = kept; table = table; live = slice_set w.live st.index (record st.stream { head = h }) } in
     let v : Wire = record u { read = read_after w.read (9 + length f.payload) } in
-    let said : Heard f (open_block l) w u = record {
-      whole = heard.whole;
-      ready = heard.ready;
-      retiring = heard.retiring;
-      limit = heard.limit;
-      initial = heard.initial;
-      window = heard.window;
-      opened = heard.opened;
-      block = heard.block;
-      table = heard.table;
+    let said : Received f (open_block l) w u = record {
+      whole = handled.whole;
+      ready = handled.ready;
+      retiring = handled.retiring;
+      limit = handled.limit;
+      initial = handled.initial;
+      window = handled.window;
+      opened = handled.opened;
+      block = handled.block;
+      table = handled.table;
     } in
     let base = part_base l s w u g r a h is comes st part said refl refl refl refl in
     let same : response_of (read_link r l s) (frame_read_on r s l) n a ≡ with_block p b
     = own_response l s w r a st part ∙ ap (λ (o : Option Whole). with_stream_frame limit p f o) block in
-    read_on l s w v g r a (record st.stream { head = h }) is comes st part.no_goaway st.live.tag st.number refl refl heard.block base
+    read_on l s w v g r a (record st.stream { head = h }) is comes st part.no_goaway st.live.tag st.number refl refl handled.block base
     (λ ends. head (sym (ap (λ (z : Response). z.end) same) ∙ ends) ∙ ap (λ (z : Response). is_some z.head) (sym same))
 
 -- the wire after it
@@ -270,24 +270,24 @@ wire_of w i n kept table seen e = record w { live = live_after i e w.live; queue
 -- with END_STREAM, and without
 closes_by : (l : Link) (s : Seen) (w : Wire) (g : ℕ → Line) (r : ReadFrame) (a : Attempt) (kept : Option Block) (table : hpack.State) (e : Doing) (q : Bool)
     → SeesStreams l s w g → Comes l w r → IsOn l s r.frame.stream a → (st : Stands l s w r.frame.stream a) → IsPart r.frame
-    → Heard r.frame (open_block l) w (record w { queue = sealed w.queue; block = kept; table = table })
+    → Received r.frame (open_block l) w (record w { queue = sealed w.queue; block = kept; table = table })
     → Follows (read_link r l s) (frame_read_on r s l) a r.frame.stream (Ends (closed_code (has_written_end r.frame.stream l)))
     (wire_of w st.index r.frame.stream kept table (read_after w.read (9 + length r.frame.payload)) e) g
     → Follows (read_link r l s) (frame_read_on r s l) a r.frame.stream (if q then Ends (Some protocol_error) else Ends (closed_code (has_written_end r.frame.stream l)))
     (wire_of w st.index r.frame.stream kept table (read_after w.read (9 + length r.frame.payload)) (unless (if q then Some protocol_error else None) e)) g
-closes_by l s w g r a kept table e true is comes on st part heard closes = block_ends l s w g r a kept table (Some protocol_error) is comes on st part heard
-closes_by l s w g r a kept table e false is comes on st part heard closes = closes
+closes_by l s w g r a kept table e true is comes on st part handled closes = block_ends l s w g r a kept table (Some protocol_error) is comes on st part handled
+closes_by l s w g r a kept table e false is comes on st part handled closes = closes
 
 goes_by : (l : Link) (s : Seen) (w : Wire) (g : ℕ → Line) (r : ReadFrame) (a : Attempt) (kept : Option Block) (table : hpack.State) (e : Doing) (q k : Bool)
     → SeesStreams l s w g → Comes l w r → IsOn l s r.frame.stream a → (st : Stands l s w r.frame.stream a) → IsPart r.frame
-    → Heard r.frame (open_block l) w (record w { queue = sealed w.queue; block = kept; table = table })
+    → Received r.frame (open_block l) w (record w { queue = sealed w.queue; block = kept; table = table })
     → (q ≡ true → Follows (read_link r l s) (frame_read_on r s l) a r.frame.stream GoesOn (wire_of w st.index r.frame.stream kept table (read_after w.read (9 + length r.frame.payload)) e) g)
     → (q ≡ false → k ≡ false → Follows (read_link r l s) (frame_read_on r s l) a r.frame.stream GoesOn (wire_of w st.index r.frame.stream kept table (read_after w.read (9 + length r.frame.payload)) e) g)
     → Follows (read_link r l s) (frame_read_on r s l) a r.frame.stream (if q then GoesOn else if k then Ends (Some protocol_error) else GoesOn)
     (wire_of w st.index r.frame.stream kept table (read_after w.read (9 + length r.frame.payload)) (unless (if q then None else if k then Some protocol_error else None) e)) g
-goes_by l s w g r a kept table e true k is comes on st part heard passes comes_ = passes refl
-goes_by l s w g r a kept table e false true is comes on st part heard passes comes_ = block_ends l s w g r a kept table (Some protocol_error) is comes on st part heard
-goes_by l s w g r a kept table e false false is comes on st part heard passes comes_ = comes_ refl refl
+goes_by l s w g r a kept table e true k is comes on st part handled passes comes_ = passes refl
+goes_by l s w g r a kept table e false true is comes on st part handled passes comes_ = block_ends l s w g r a kept table (Some protocol_error) is comes on st part handled
+goes_by l s w g r a kept table e false false is comes on st part handled passes comes_ = comes_ refl refl
 
 -- tests
 both_of : (h im : Bool) → (not h && im) ≡ true → (h ≡ false) × (im ≡ true)
@@ -304,35 +304,35 @@ first_off true im none e i = absurd (cc)
 -- by END_STREAM
 block_by : (l : Link) (s : Seen) (w : Wire) (g : ℕ → Line) (r : ReadFrame) (a : Attempt) (b : Whole) (kept : Option Block) (table : hpack.State) (ends : Bool)
     → SeesStreams l s w g → Comes l w r → IsOn l s r.frame.stream a → (st : Stands l s w r.frame.stream a) → IsPart r.frame → r.block ≡ Some b
-    → Heard r.frame (open_block l) w (record w { queue = sealed w.queue; block = kept; table = table })
+    → Received r.frame (open_block l) w (record w { queue = sealed w.queue; block = kept; table = table })
     → is_some (response_of l s r.frame.stream a).head ≡ st.stream.head → b.ends ≡ ends
     → Follows (read_link r l s) (frame_read_on r s l) a r.frame.stream
     (then_of st.stream.head (link.is_interim (link.http_status b.fields)) ends (is_none (link.http_status b.fields)) (has_written_end r.frame.stream l))
     (wire_of w st.index r.frame.stream kept table (read_after w.read (9 + length r.frame.payload)) (headers_effect st.stream (link.http_status b.fields) ends)) g
-block_by l s w g r a b kept table true is comes on st part block heard known ends_ =
-    closes_by l s w g r a kept table _ (not st.stream.head && link.is_interim (link.http_status b.fields)) is comes on st part heard (block_closes l s w g r a kept table is comes on st part heard)
-block_by l s w g r a b kept table false is comes on st part block heard known ends_ =
+block_by l s w g r a b kept table true is comes on st part block handled known ends_ =
+    closes_by l s w g r a kept table _ (not st.stream.head && link.is_interim (link.http_status b.fields)) is comes on st part handled (block_closes l s w g r a kept table is comes on st part handled)
+block_by l s w g r a b kept table false is comes on st part block handled known ends_ =
     let o : Option ℕ = link.http_status b.fields in
     let p : Response = response_of l s r.frame.stream a in
     let h : Bool = st.stream.head || not (link.is_interim o) in
     let interim_is : is_interim (http_status b.fields) ≡ link.is_interim o = interim_same (http_status b.fields) ∙ ap link.is_interim (status_same b.fields) in
     let none_is : is_none (http_status b.fields) ≡ is_none o = ap (λ (x : Option ℕ). is_none x) (status_same b.fields) in
-    goes_by l s w g r a kept table _ (not st.stream.head && link.is_interim o) (st.stream.head || is_none o) is comes on st part heard
+    goes_by l s w g r a kept table _ (not st.stream.head && link.is_interim o) (st.stream.head || is_none o) is comes on st part handled
     (λ q.
     let parts = both_of st.stream.head (link.is_interim o) q in
     let off : h ≡ false = ap (λ (c : Bool). c || not (link.is_interim o)) parts.0 ∙ ap not parts.1 in
     let no_head : is_some p.head ≡ false = known ∙ parts.0 in
-    block_goes l s w g r a b kept table h is comes st part block heard
+    block_goes l s w g r a b kept table h is comes st part block handled
     (λ goes. off ∙ sym (ap (λ (x : Response). is_some x.head) (interim_passes p b no_head (interim_is ∙ parts.1) ends_) ∙ no_head)))
     (λ q k.
     let parts = first_off st.stream.head (link.is_interim o) (is_none o) q k in
     let on_ : h ≡ true = ap (λ (c : Bool). c || not (link.is_interim o)) parts.0 ∙ ap not parts.1 in
     let no_head : is_some p.head ≡ false = known ∙ parts.0 in
     let first : with_block p b ≡ with_head p b = head_comes p b no_head (interim_is ∙ parts.1) ends_ (none_is ∙ parts.2) in
-    block_goes l s w g r a b kept table h is comes st part block heard
+    block_goes l s w g r a b kept table h is comes st part block handled
     (λ goes. on_ ∙ sym (ap (λ (x : Response). is_some x.head) first ∙ head_by p b (is_head b.fields) refl (sym (ap (λ (x : Response). x.end) first) ∙ goes))))
 
--- the header list that the frame completes is the one that the link is told
+-- the header list that the frame completes is the one that the link is reported
 pub record IsGot (l : Link) (w : Wire) (r : ReadFrame) (b : Whole) : Type 0 where
   pub of_b : is_of_block r.frame ≡ true
   pub listed : IsListed w r.frame b.fields b.ends (read_after w.read (9 + length r.frame.payload))
@@ -361,10 +361,10 @@ got_by l s w g r b true true is_of_ is_last_ is comes block =
     }
 
 -- what was read is the same whatever becomes of the stream
-list_heard : (l : Link) (w : Wire) (r : ReadFrame) (b : Whole) (kept : Option Block) (table : hpack.State) (i : ℕ) (y : LiveStream) (seen : ℕ)
-    → Heard r.frame (open_block l) w (listed (record w { queue = sealed w.queue; block = kept; table = table }) b.fields b.ends seen (Some (i, y))).wire
-    → Heard r.frame (open_block l) w (record w { queue = sealed w.queue; block = kept; table = table })
-list_heard l w r b kept table i y seen is = record {
+list_received : (l : Link) (w : Wire) (r : ReadFrame) (b : Whole) (kept : Option Block) (table : hpack.State) (i : ℕ) (y : LiveStream) (seen : ℕ)
+    → Received r.frame (open_block l) w (listed (record w { queue = sealed w.queue; block = kept; table = table }) b.fields b.ends seen (Some (i, y))).wire
+    → Received r.frame (open_block l) w (record w { queue = sealed w.queue; block = kept; table = table })
+list_received l w r b kept table i y seen is = record {
   whole = is.whole;
   ready = is.ready;
   retiring = is.retiring;
@@ -388,14 +388,14 @@ blocks_are_read l s w g r a b is comes on block =
     let li : IsListed w f b.fields b.ends seen = got.listed in
     let part : IsPart f = is_part f got.of_b in
     let u : Wire = record w { queue = sealed w.queue; block = li.kept; table = li.table } in
-    let t : Told = listed u b.fields b.ends seen (Some (st.index, y)) in
+    let t : Report = listed u b.fields b.ends seen (Some (st.index, y)) in
     let applied_is : applied (record w { queue = sealed w.queue }) f seen ≡ Ok t
     = li.applied_is ∙ ap (λ (o : Option (ℕ × LiveStream)). Ok (listed u b.fields b.ends seen o)) st.found in
-    let told_ : Heard f (open_block l) w t.wire = heard_by l w r t is.sees.sees.reads comes applied_is in
-    let heard : Heard f (open_block l) w u = list_heard l w r b li.kept li.table st.index y seen told_ in
+    let reported_ : Received f (open_block l) w t.wire = received_by l w r t is.sees.sees.reads comes applied_is in
+    let handled : Received f (open_block l) w u = list_received l w r b li.kept li.table st.index y seen reported_ in
     let o : Option ℕ = link.http_status b.fields in
     let we : Bool = has_written_end n l in
-    let known : is_some (response_of l s n a).head ≡ y.head = sym (st.heard.head ∙ ap (λ (k : ℕ). is_some (response_of l s k a).head) st.number) in
+    let known : is_some (response_of l s n a).head ≡ y.head = sym (st.handled.head ∙ ap (λ (k : ℕ). is_some (response_of l s k a).head) st.number) in
     let interim_is : is_interim (http_status b.fields) ≡ link.is_interim o = interim_same (http_status b.fields) ∙ ap link.is_interim (status_same b.fields) in
     let none_is : is_none (http_status b.fields) ≡ is_none o = ap (λ (x : Option ℕ). is_none x) (status_same b.fields) in
     let next : Then = block_then (is_some (response_of l s n a).head) (http_status b.fields) b.ends we in
@@ -407,7 +407,7 @@ blocks_are_read l s w g r a b is comes on block =
     let W : Seen → Type 0 = λ z. Follows m z a n next (wire_of w st.index y.number li.kept li.table seen (headers_effect y o b.ends)) g in
     let N : ℕ → Type 0 = λ k. Follows m (frame_read_on r s l) a n next (wire_of w st.index k li.kept li.table seen (headers_effect y o b.ends)) g in
     let H : Then → Type 0 = λ k. Follows m (frame_read_on r s l) a n k (wire_of w st.index n li.kept li.table seen (headers_effect y o b.ends)) g in
-    subst T (sym (ap (λ (x : Told). x.wire) (told_by w f t comes.fair applied_is)))
+    subst T (sym (ap (λ (x : Report). x.wire) (reported_by w f t comes.fair applied_is)))
     (subst W (sym (read_is l s r is.sees.at))
     (subst N (sym st.number)
-    (subst H next_is (block_by l s w g r a b li.kept li.table b.ends is comes on st part block heard known refl))))
+    (subst H next_is (block_by l s w g r a b li.kept li.table b.ends is comes on st part block handled known refl))))

@@ -16,16 +16,16 @@ use Rattle.h2_link.specs.Feeds.{Line}
 use Rattle.h2_link.specs.LinkErrors as link
 use Rattle.h2_link.specs.LinkErrors.{send_window}
 use Rattle.h2_link.specs.Queues.{sealed}
-use Rattle.h2_link.specs.Steps.{applied, continuation_told, data_told, found_from, goaway_told, headers_told, is_numbered, judged, live_after, outcome, ping_told, plain_told, queue_after, read_after, reset_after, reset_told, settings_told, told, unless, update_told, window_effect, window_told}
-use Rattle.h2_link.specs.Wire.{Told, Wire}
+use Rattle.h2_link.specs.Steps.{applied, continuation_reported, data_reported, found_from, goaway_reported, headers_reported, is_numbered, judged, live_after, outcome, ping_reported, plain_reported, queue_after, read_after, reset_after, reset_reported, settings_reported, reported, unless, update_reported, window_effect, window_reported}
+use Rattle.h2_link.specs.Wire.{Report, Wire}
 use Rattle.h2_link.specs.declared.control.Control.{Control}
 use Rattle.h2_link.specs.declared.live.LiveStream.{LiveStream}
 use Rattle.link_actions.proofs.DataSent.{same_opened, same_tags}
-use Rattle.link_actions.proofs.Hearing.{block_kept, heard_quiet, no_raise, not_kind, of_settings, raises_none}
+use Rattle.link_actions.proofs.Receiving.{block_kept, received_quiet, no_raise, not_kind, of_settings, raises_none}
 use Rattle.link_actions.proofs.History.{raised_more, used_same}
 use Rattle.link_actions.proofs.Lists.{if_false, if_true, on_if}
 use Rattle.link_actions.proofs.QuietKept.{ends_still, owed_read, raise_none}
-use Rattle.link_actions.specs.Sees.{AreLive, AreOpened, IsBlock, IsLive, SeesLink, by_stream}
+use Rattle.link_actions.specs.Sees.{StreamsAreLive, StreamsAreOpened, IsBlock, IsLive, SeesLink, by_stream}
 use Rattle.session_actions.specs.Links.{is_settings, settings_of}
 use Rattle.session_actions.specs.Reading.{block_after, initial_window, is_of_block, is_setting, largest_window, open_block, raise_by, raised, used}
 use Rattle.session_actions.specs.Responses.{ended, limit_of_attempt, plain_end, with_data, with_own_frame, with_reset, with_stream_frame, with_update}
@@ -42,7 +42,7 @@ use Rattle.link_actions.proofs.StreamActions.Responses.{response_own}
 use Rattle.link_actions.proofs.StreamActions.StreamEnds.{ends_follow}
 use Rattle.link_actions.proofs.StreamActions.StreamGoes.{Stands, fair_opened, read_but, read_on, stands}
 use Rattle.link_actions.proofs.StreamActions.StreamRead.{live_read, read_is, read_keeps}
-use Rattle.link_actions.proofs.StreamActions.Unheard.{no_list}
+use Rattle.link_actions.proofs.StreamActions.Unreceived.{no_list}
 use Rattle.link_actions.specs.StreamActions.Laws.{Comes, Ends, Follows, GoesOn, IsOn, OthersAreRead, ResetsAreRead, UpdatesAreRead, is_too_wide, read_link, update_then}
 use Rattle.link_actions.specs.StreamActions.Sees.{SeesBut, SeesStreams, response_of}
 
@@ -61,29 +61,29 @@ none_owed f l s no_data no_settings_ no_ping =
     ∙ if_false ((f.kind == ping_type) && not (has_flag f.flags ack_flag)) (ping_ack (ping_word f.payload) ∷ []) _ (ap (λ (b : Bool). b && not (has_flag f.flags ack_flag)) no_ping)
     ∙ if_false (f.kind == data_type) (updates_for f l s) [] no_data
 
--- what the link is told of it
-still_told : (w : Wire) (f : FrameSeen) → link.link_error w f ≡ None → IsStill f
-    → told w f ≡ outcome w (read_after w.read (9 + length f.payload))
-    (Ok (if f.kind == rst_stream_type then reset_told (record w { queue = sealed w.queue }) (reset_code f.payload) (read_after w.read (9 + length f.payload)) (found_from (is_numbered f.stream) 0 w.live)
-    else if f.kind == window_update_type then update_told (record w { queue = sealed w.queue }) f (read_after w.read (9 + length f.payload))
+-- what the link is notified of it
+still_reported : (w : Wire) (f : FrameSeen) → link.link_error w f ≡ None → IsStill f
+    → reported w f ≡ outcome w (read_after w.read (9 + length f.payload))
+    (Ok (if f.kind == rst_stream_type then reset_reported (record w { queue = sealed w.queue }) (reset_code f.payload) (read_after w.read (9 + length f.payload)) (found_from (is_numbered f.stream) 0 w.live)
+    else if f.kind == window_update_type then update_reported (record w { queue = sealed w.queue }) f (read_after w.read (9 + length f.payload))
     else record { wire = record w { queue = sealed w.queue }; news = [] }))
-still_told w f fair is =
+still_reported w f fair is =
     let seen : ℕ = read_after w.read (9 + length f.payload) in
     let v : Wire = record w { queue = sealed w.queue } in
     let at : Option (ℕ × LiveStream) = found_from (is_numbered f.stream) 0 w.live in
-    let rest : Told = if f.kind == window_update_type then update_told v f seen else record { wire = v; news = [] } in
-    let applied_is : applied v f seen ≡ Ok (plain_told v f seen)
-    = if_false (f.kind == headers_type) (headers_told v f seen) _ is.no_headers
-    ∙ if_false (f.kind == continuation_type) (continuation_told v f seen w.block) (Ok (plain_told v f seen)) is.no_continuation in
-    let behind : Told = if f.kind == settings_type then settings_told v f
-    else if f.kind == ping_type then ping_told v f else if f.kind == goaway_type then goaway_told v (last_stream f.payload) seen else rest in
-    let behind_is : behind ≡ rest
-    = if_false (f.kind == settings_type) (settings_told v f) _ is.no_settings ∙ if_false (f.kind == ping_type) (ping_told v f) _ is.no_ping
-    ∙ if_false (f.kind == goaway_type) (goaway_told v (last_stream f.payload) seen) rest is.no_goaway in
-    let plain_is : plain_told v f seen ≡ (if f.kind == rst_stream_type then reset_told v (reset_code f.payload) seen at else behind)
-    = if_false (f.kind == data_type) (data_told v f seen at) (if f.kind == rst_stream_type then reset_told v (reset_code f.payload) seen at else behind) is.no_data in
-    ap (judged w f) fair ∙ ap (outcome w seen) applied_is ∙ ap (λ (t : Told). outcome w seen (Ok t)) plain_is
-    ∙ ap (λ (t : Told). outcome w seen (Ok (if f.kind == rst_stream_type then reset_told v (reset_code f.payload) seen at else t))) behind_is
+    let rest : Report = if f.kind == window_update_type then update_reported v f seen else record { wire = v; news = [] } in
+    let applied_is : applied v f seen ≡ Ok (plain_reported v f seen)
+    = if_false (f.kind == headers_type) (headers_reported v f seen) _ is.no_headers
+    ∙ if_false (f.kind == continuation_type) (continuation_reported v f seen w.block) (Ok (plain_reported v f seen)) is.no_continuation in
+    let afterwards : Report = if f.kind == settings_type then settings_reported v f
+    else if f.kind == ping_type then ping_reported v f else if f.kind == goaway_type then goaway_reported v (last_stream f.payload) seen else rest in
+    let after_is : afterwards ≡ rest
+    = if_false (f.kind == settings_type) (settings_reported v f) _ is.no_settings ∙ if_false (f.kind == ping_type) (ping_reported v f) _ is.no_ping
+    ∙ if_false (f.kind == goaway_type) (goaway_reported v (last_stream f.payload) seen) rest is.no_goaway in
+    let plain_is : plain_reported v f seen ≡ (if f.kind == rst_stream_type then reset_reported v (reset_code f.payload) seen at else afterwards)
+    = if_false (f.kind == data_type) (data_reported v f seen at) (if f.kind == rst_stream_type then reset_reported v (reset_code f.payload) seen at else afterwards) is.no_data in
+    ap (judged w f) fair ∙ ap (outcome w seen) applied_is ∙ ap (λ (t : Report). outcome w seen (Ok t)) plain_is
+    ∙ ap (λ (t : Report). outcome w seen (Ok (if f.kind == rst_stream_type then reset_reported v (reset_code f.payload) seen at else t))) after_is
 
 off_block : (f : FrameSeen) → IsStill f → is_of_block f ≡ false
 off_block f is = ap (λ (b : Bool). b || (f.kind == continuation_type)) is.no_headers ∙ is.no_continuation
@@ -91,7 +91,7 @@ off_block f is = ap (λ (b : Bool). b || (f.kind == continuation_type)) is.no_he
 -- link and session before any end is acted on, with the streams as they are then
 still_base : (l : Link) (s : Seen) (w : Wire) (g : ℕ → Line) (r : ReadFrame) (a : Attempt) (x : LiveStream) → SeesStreams l s w g → Comes l w r → (st : Stands l s w r.frame.stream a)
     → IsStill r.frame → raise_by 0 r.frame ≡ 0 → x.number ≡ st.stream.number → x.tag ≡ st.stream.tag
-    → AreLive (read_link r l s) (slice_set w.live st.index x) (by_stream (streaming_on l s))
+    → StreamsAreLive (read_link r l s) (slice_set w.live st.index x) (by_stream (streaming_on l s))
     → SeesLink (read_link r l s) (frame_read_on r s l) (record w { queue = sealed w.queue; live = slice_set w.live st.index x; read = read_after w.read (9 + length r.frame.payload) }) g
 still_base l s w g r a x is comes st still raises number tag live =
     let f : FrameSeen = r.frame in
@@ -99,7 +99,7 @@ still_base l s w g r a x is comes st still raises number tag live =
     let no_settings_ : is_settings f ≡ false = of_settings f.kind f.flags still.no_settings in
     let none : List Control = [] in
     read_keeps l s w v g r is.sees
-    (heard_quiet f (open_block l) w v (record { settings = no_settings_; goaway = still.no_goaway; block = off_block f still; raises = raises }) is.sees.sees.reads.block
+    (received_quiet f (open_block l) w v (record { settings = no_settings_; goaway = still.no_goaway; block = off_block f still; raises = raises }) is.sees.sees.reads.block
     (record { whole = refl; ready = refl; retiring = refl; limit = refl; initial = refl; window = refl; opened = refl; block = refl; table = refl }))
     comes.end (fair_opened w f comes.fair) refl refl
     (same_opened 1 (2 * w.opened + 1) st.index w.live st.stream x number st.there is.sees.opened)
@@ -121,8 +121,8 @@ still_response l s w r a comes st still =
     let f : FrameSeen = r.frame in
     let n : ℕ = f.stream in
     let limit : ℕ = limit_of_attempt a s in
-    let goes = ap (λ (k : ℕ). (response_of l s k a).end) (sym st.number) ∙ st.heard.goes in
-    let small = ap (λ (k : ℕ). (response_of l s k a).large) (sym st.number) ∙ st.heard.small in
+    let goes = ap (λ (k : ℕ). (response_of l s k a).end) (sym st.number) ∙ st.handled.goes in
+    let small = ap (λ (k : ℕ). (response_of l s k a).large) (sym st.number) ∙ st.handled.small in
     let own : (n == n) ≡ true = grind (arith, nat_tests) in
     response_own limit n l r (owed_for f l s) goes small (of_settings f.kind f.flags still.no_settings) still.no_goaway own
     ∙ ap (λ (o : Option Whole). with_stream_frame limit (response_of l s n a) f o) (no_list l r (off_block f still) comes.next)
@@ -154,7 +154,7 @@ still_same l s w g r a is comes st still no_update =
     = λ xs. SeesLink (read_link r l s) (frame_read_on r s l) (record w { queue = sealed w.queue; live = xs; read = read_after w.read (9 + length f.payload) }) g in
     subst B set
     (still_base l s w g r a st.stream is comes st still (no_raise (f.kind == window_update_type) (f.stream == 0) (increment f.payload) no_update) refl refl
-    (subst (λ (xs : List LiveStream). AreLive (read_link r l s) xs bs) (sym set) (live_read l r (owed_for f l s) w.live bs no_update is.sees.sees.live)))
+    (subst (λ (xs : List LiveStream). StreamsAreLive (read_link r l s) xs bs) (sym set) (live_read l r (owed_for f l s) w.live bs no_update is.sees.sees.live)))
 
 pub resets_are_read : ResetsAreRead
 resets_are_read l s w g r a is comes on kind =
@@ -171,15 +171,15 @@ resets_are_read l s w g r a is comes on kind =
     let but : SeesBut a.place m (frame_read_on r s l) v g
     = read_but l s w v g r a st.stream is comes st still.no_goaway st.live.tag (sym (set_itself st.index w.live st.stream st.there)) refl (still_block l s w g f is still) base in
     let done = ends_follow m (frame_read_on r s l) v g n st.index a st.stream None but (on_after l s r n a on) refl st.there st.live.tag in
-    let rest : Told = if f.kind == window_update_type then update_told (record w { queue = sealed w.queue }) f seen else record { wire = record w { queue = sealed w.queue }; news = [] } in
-    let found : Told = reset_told (record w { queue = sealed w.queue }) (reset_code f.payload) seen (found_from (is_numbered n) 0 w.live) in
+    let rest : Report = if f.kind == window_update_type then update_reported (record w { queue = sealed w.queue }) f seen else record { wire = record w { queue = sealed w.queue }; news = [] } in
+    let found : Report = reset_reported (record w { queue = sealed w.queue }) (reset_code f.payload) seen (found_from (is_numbered n) 0 w.live) in
     let reset_is : (if f.kind == rst_stream_type then found else rest) ≡ found = if_true (f.kind == rst_stream_type) found rest kind in
-    let told_is : told w f ≡ outcome w seen (Ok (reset_told (record w { queue = sealed w.queue }) (reset_code f.payload) seen (Some (st.index, st.stream))))
-    = still_told w f comes.fair still ∙ ap (λ (t : Told). outcome w seen (Ok t)) reset_is
-    ∙ ap (λ (o : Option (ℕ × LiveStream)). outcome w seen (Ok (reset_told (record w { queue = sealed w.queue }) (reset_code f.payload) seen o))) st.found in
+    let reported_is : reported w f ≡ outcome w seen (Ok (reset_reported (record w { queue = sealed w.queue }) (reset_code f.payload) seen (Some (st.index, st.stream))))
+    = still_reported w f comes.fair still ∙ ap (λ (t : Report). outcome w seen (Ok t)) reset_is
+    ∙ ap (λ (o : Option (ℕ × LiveStream)). outcome w seen (Ok (reset_reported (record w { queue = sealed w.queue }) (reset_code f.payload) seen o))) st.found in
     let T : Wire → Type 0 = λ x. Follows m (frame_read l.number r s) a n (Ends None) x g in
     let W : Seen → Type 0 = λ z. Follows m z a n (Ends None) (record w { queue = sealed w.queue; live = remove w.live st.index; read = seen }) g in
-    subst T (sym (ap (λ (t : Told). t.wire) told_is)) (subst W (sym (read_is l s r is.sees.at)) done)
+    subst T (sym (ap (λ (t : Report). t.wire) reported_is)) (subst W (sym (read_is l s r is.sees.at)) done)
 
 -- frames that are passed over
 pub record AreNot (a b c d e f g h : Bool) : Type 0 where
@@ -227,17 +227,17 @@ others_are_read l s w g r a is comes on passed =
     = still_response l s w r a comes st still ∙ if_false (f.kind == data_type) (with_data limit p f) _ none.one
     ∙ if_false (f.kind == rst_stream_type) (with_reset p (reset_code f.payload)) _ none.three ∙ if_false (f.kind == window_update_type) (with_update p (increment f.payload)) p none.seven in
     let done = read_on l s w v g r a st.stream is comes st still.no_goaway st.live.tag st.number (sym (set_itself st.index w.live st.stream st.there)) refl (still_block l s w g f is still) base
-    (λ ends. st.heard.head ∙ ap (λ (k : ℕ). is_some (response_of l s k a).head) st.number ∙ ap (λ (z : Response). is_some z.head) (sym same)) in
-    let plain : Told = record { wire = record w { queue = sealed w.queue }; news = [] } in
-    let update : Told = update_told (record w { queue = sealed w.queue }) f seen in
-    let reset_ : Told = reset_told (record w { queue = sealed w.queue }) (reset_code f.payload) seen (found_from (is_numbered n) 0 w.live) in
+    (λ ends. st.handled.head ∙ ap (λ (k : ℕ). is_some (response_of l s k a).head) st.number ∙ ap (λ (z : Response). is_some z.head) (sym same)) in
+    let plain : Report = record { wire = record w { queue = sealed w.queue }; news = [] } in
+    let update : Report = update_reported (record w { queue = sealed w.queue }) f seen in
+    let reset_ : Report = reset_reported (record w { queue = sealed w.queue }) (reset_code f.payload) seen (found_from (is_numbered n) 0 w.live) in
     let plain_is : (if f.kind == rst_stream_type then reset_ else if f.kind == window_update_type then update else plain) ≡ plain
     = if_false (f.kind == rst_stream_type) reset_ (if f.kind == window_update_type then update else plain) none.three ∙ if_false (f.kind == window_update_type) update plain none.seven in
-    let told_is : told w f ≡ outcome w seen (Ok plain)
-    = still_told w f comes.fair still ∙ ap (λ (t : Told). outcome w seen (Ok t)) plain_is in
+    let reported_is : reported w f ≡ outcome w seen (Ok plain)
+    = still_reported w f comes.fair still ∙ ap (λ (t : Report). outcome w seen (Ok t)) plain_is in
     let T : Wire → Type 0 = λ x. Follows m (frame_read l.number r s) a n GoesOn x g in
     let W : Seen → Type 0 = λ z. Follows m z a n GoesOn v g in
-    subst T (sym (ap (λ (t : Told). t.wire) told_is)) (subst W (sym (read_is l s r is.sees.at)) done)
+    subst T (sym (ap (λ (t : Report). t.wire) reported_is)) (subst W (sym (read_is l s r is.sees.at)) done)
 
 -- WINDOW_UPDATE: what the stream may send is what the session says
 raised_one : (c : ℤ) (by used_ was more : ℕ) → c +ℤ pos used_ ≡ pos was → more ≡ was + by → (c +ℤ pos by) +ℤ pos used_ ≡ pos more
@@ -268,8 +268,8 @@ high_apart m n h = grind (arith, nat_tests, h)
 low_apart : (m n : ℕ) → m < n → (n == m) ≡ false
 low_apart m n h = grind (arith, nat_tests, h)
 
-live_above : (l : Link) (r : ReadFrame) (frames : List FrameSeen) (first bound : ℕ) (xs : List LiveStream) (others : List Attempt) → r.frame.stream < first → AreOpened first bound xs
-    → AreLive l xs others → AreLive (with_frame_read r frames l) xs others
+live_above : (l : Link) (r : ReadFrame) (frames : List FrameSeen) (first bound : ℕ) (xs : List LiveStream) (others : List Attempt) → r.frame.stream < first → StreamsAreOpened first bound xs
+    → StreamsAreLive l xs others → StreamsAreLive (with_frame_read r frames l) xs others
 live_above l r frames first bound [] [] low opened are = tt
 live_above l r frames first bound (x ∷ xs) (a ∷ others) low opened are =
     let from_ : first ≤ x.number = opened.0 in
@@ -280,8 +280,8 @@ live_above l r frames first bound [] (a ∷ others) low opened are = absurd are
 live_above l r frames first bound (x ∷ xs) [] low opened are = absurd are
 
 live_raised : (l : Link) (r : ReadFrame) (frames : List FrameSeen) (first bound i : ℕ) (xs : List LiveStream) (others : List Attempt) (y : LiveStream) → (r.frame.kind == window_update_type) ≡ true
-    → r.frame.stream ≡ y.number → AreOpened first bound xs → slice_get xs i ≡ Some y → AreLive l xs others
-    → AreLive (with_frame_read r frames l) (slice_set xs i (record y { credit = y.credit +ℤ pos (increment r.frame.payload) })) others
+    → r.frame.stream ≡ y.number → StreamsAreOpened first bound xs → slice_get xs i ≡ Some y → StreamsAreLive l xs others
+    → StreamsAreLive (with_frame_read r frames l) (slice_set xs i (record y { credit = y.credit +ℤ pos (increment r.frame.payload) })) others
 live_raised l r frames first bound i [] [] y kind at opened e are = absurd (cc)
 live_raised l r frames first bound zero (x ∷ xs) (a ∷ others) y kind at opened e are =
     let same : x ≡ y = (cc) in
@@ -400,7 +400,7 @@ update_goes l s w g r a is comes st still kind base =
     ∙ if_true (f.kind == window_update_type) (with_update p (increment f.payload)) p kind in
     let same = still_response l s w r a comes st still ∙ own in
     read_on l s w v g r a x is comes st still.no_goaway st.live.tag st.number refl refl (still_block l s w g f is still) base
-    (λ ends. st.heard.head ∙ ap (λ (k : ℕ). is_some (response_of l s k a).head) st.number ∙ ap (λ o. is_some o) (sym (update_head p (increment f.payload)))
+    (λ ends. st.handled.head ∙ ap (λ (k : ℕ). is_some (response_of l s k a).head) st.number ∙ ap (λ o. is_some o) (sym (update_head p (increment f.payload)))
     ∙ ap (λ (z : Response). is_some z.head) (sym same))
 
 pub updates_are_read : UpdatesAreRead
@@ -420,24 +420,24 @@ updates_are_read l s w g r a is comes on kind =
     let base = still_base l s w g r a x is comes st still (raises_none (f.kind == window_update_type) (n == 0) by some) refl refl
     (live_raised l r (owed_for f l s) 1 (2 * w.opened + 1) st.index w.live (by_stream (streaming_on l s)) y kind (sym st.number) is.sees.opened st.there is.sees.sees.live) in
     let wide : int_lt (pos largest_window) (send_window w.initial y +ℤ pos by) ≡ is_too_wide l n by = wide_same l s w n by a st is.sees.sees.reads.initial in
-    let plain : Told = record { wire = v0; news = [] } in
-    let reset_ : Told = reset_told v0 (reset_code f.payload) seen (found_from (is_numbered n) 0 w.live) in
+    let plain : Report = record { wire = v0; news = [] } in
+    let reset_ : Report = reset_reported v0 (reset_code f.payload) seen (found_from (is_numbered n) 0 w.live) in
     let no_reset : (f.kind == rst_stream_type) ≡ false = not_kind f.kind window_update_type rst_stream_type false e refl in
-    let on_link_ : Told = record { wire = record v0 { window = min (w.window + by) 4294967295 }; news = [] } in
-    let update_is : (if f.kind == rst_stream_type then reset_ else if f.kind == window_update_type then update_told v0 f seen else plain) ≡ window_told v0 by seen (Some (st.index, y))
-    = if_false (f.kind == rst_stream_type) reset_ (if f.kind == window_update_type then update_told v0 f seen else plain) no_reset
-    ∙ if_true (f.kind == window_update_type) (update_told v0 f seen) plain kind
-    ∙ if_false (n == 0) on_link_ (window_told v0 by seen (found_from (is_numbered n) 0 w.live)) some
-    ∙ ap (λ (o : Option (ℕ × LiveStream)). window_told v0 by seen o) st.found in
-    let told_is : told w f ≡ outcome w seen (Ok (window_told v0 by seen (Some (st.index, y))))
-    = still_told w f comes.fair still ∙ ap (λ (t : Told). outcome w seen (Ok t)) update_is in
+    let on_link_ : Report = record { wire = record v0 { window = min (w.window + by) 4294967295 }; news = [] } in
+    let update_is : (if f.kind == rst_stream_type then reset_ else if f.kind == window_update_type then update_reported v0 f seen else plain) ≡ window_reported v0 by seen (Some (st.index, y))
+    = if_false (f.kind == rst_stream_type) reset_ (if f.kind == window_update_type then update_reported v0 f seen else plain) no_reset
+    ∙ if_true (f.kind == window_update_type) (update_reported v0 f seen) plain kind
+    ∙ if_false (n == 0) on_link_ (window_reported v0 by seen (found_from (is_numbered n) 0 w.live)) some
+    ∙ ap (λ (o : Option (ℕ × LiveStream)). window_reported v0 by seen o) st.found in
+    let reported_is : reported w f ≡ outcome w seen (Ok (window_reported v0 by seen (Some (st.index, y))))
+    = still_reported w f comes.fair still ∙ ap (λ (t : Report). outcome w seen (Ok t)) update_is in
     let T : Wire → Type 0 = λ k. Follows m (frame_read l.number r s) a n (update_then by (is_too_wide l n by)) k g in
-    let W : Seen → Type 0 = λ z. Follows m z a n (update_then by (is_too_wide l n by)) (outcome w seen (Ok (window_told v0 by seen (Some (st.index, y))))).wire g in
+    let W : Seen → Type 0 = λ z. Follows m z a n (update_then by (is_too_wide l n by)) (outcome w seen (Ok (window_reported v0 by seen (Some (st.index, y))))).wire g in
     let B : Bool → Type 0 = λ b. Follows m (frame_read_on r s l) a n (update_then by b)
     (record w { live = live_after st.index (window_effect w.initial y by) w.live; queue = queue_after y.number (window_effect w.initial y by) (sealed w.queue); read = seen }) g in
     let N : ℕ → Type 0 = λ k. Follows m (frame_read_on r s l) a n (update_then by (int_lt (pos largest_window) (send_window w.initial y +ℤ pos by)))
     (record w { live = live_after st.index (window_effect w.initial y by) w.live; queue = queue_after k (window_effect w.initial y by) (sealed w.queue); read = seen }) g in
-    subst T (sym (ap (λ (t : Told). t.wire) told_is))
+    subst T (sym (ap (λ (t : Report). t.wire) reported_is))
     (subst W (sym (read_is l s r is.sees.at))
     (subst B wide (subst N (sym st.number)
     (update_by l s w g r a _ (by == 0) (int_lt (pos largest_window) (send_window w.initial y +ℤ pos by)) is comes on st still base (update_goes l s w g r a is comes st still kind base)))))

@@ -8,11 +8,11 @@ use Rattle.h2_frame.specs.declared.payload.Setting.{Setting}
 use Rattle.h2_link.specs.LinkErrors as link
 use Rattle.h2_link.specs.LinkErrors.{overflows_link, overflows_streams}
 use Rattle.h2_link.specs.Queues.{sealed}
-use Rattle.h2_link.specs.Steps.{applied, outcome, read_after, told}
-use Rattle.h2_link.specs.Wire.{Told, Wire}
+use Rattle.h2_link.specs.Steps.{applied, outcome, read_after, reported}
+use Rattle.h2_link.specs.Wire.{Report, Wire}
 use Rattle.h2_link.specs.declared.live.LiveStream.{LiveStream}
 use Rattle.link_actions.proofs.Blocks.{SameAs}
-use Rattle.link_actions.proofs.Hearing.{Heard}
+use Rattle.link_actions.proofs.Receiving.{Received}
 use Rattle.link_actions.proofs.Judged.{settings_same}
 use Rattle.link_actions.proofs.Lists.{none_of}
 use Rattle.link_actions.proofs.Quiet.{IsUntouched, applied_leaves, owed_controls}
@@ -28,21 +28,21 @@ use Rattle.session_actions.specs.declared.link.NextRead.{NextRead}
 use Rattle.session_actions.specs.declared.link.NextRead.TheVariants as nextread
 use Rattle.session_actions.specs.declared.link.ReadFrame.{ReadFrame}
 use Rattle.session_actions.specs.declared.seen.Seen.{Seen}
-use Rattle.link_actions.proofs.StreamActions.BlockTold.{heard_by, told_by}
+use Rattle.link_actions.proofs.StreamActions.BlockReported.{received_by, reported_by}
 use Rattle.link_actions.proofs.StreamActions.StreamGoes.{fair_opened, fair_rules}
 use Rattle.link_actions.proofs.StreamActions.StreamRead.{read_is}
-use Rattle.link_actions.proofs.StreamActions.Unheard.{begun_after, heard_other, unheard_read}
+use Rattle.link_actions.proofs.StreamActions.Unreceived.{begun_after, received_other, unreceived_read}
 use Rattle.link_actions.specs.StreamActions.Laws.{Comes, QuietFramesKeepStreams, read_link}
-use Rattle.link_actions.specs.StreamActions.Sees.{AreHeard, AreUnheard, IsBegun, SeesStreams}
+use Rattle.link_actions.specs.StreamActions.Sees.{ResponsesAreReceived, NewStreamsAreUnreceived, IsBegun, SeesStreams}
 
 -- a frame that the session reads breaks no rule of the link
 pub record IsApplied (w : Wire) (f : FrameSeen) (seen : ℕ) : Type 0 where
-  pub told : Told
-  pub applied_is : applied (record w { queue = sealed w.queue }) f seen ≡ Ok told
+  pub reported : Report
+  pub applied_is : applied (record w { queue = sealed w.queue }) f seen ≡ Ok reported
 
-applied_by : (l : Link) (w : Wire) (r : ReadFrame) (seen : ℕ) (x : Result Told ℕ) → applied (record w { queue = sealed w.queue }) r.frame seen ≡ x
+applied_by : (l : Link) (w : Wire) (r : ReadFrame) (seen : ℕ) (x : Result Report ℕ) → applied (record w { queue = sealed w.queue }) r.frame seen ≡ x
     → SameAs r.end r.frame (open_block l) (record w { queue = sealed w.queue }) (nextread.Frame r) x → IsApplied w r.frame seen
-applied_by l w r seen (Ok t) e same = record { told = t; applied_is = e }
+applied_by l w r seen (Ok t) e same = record { reported = t; applied_is = e }
 applied_by l w r seen (Err code) e same = absurd same
 
 pub is_applied : (l : Link) (w : Wire) (r : ReadFrame) → SeesRead l w → Comes l w r → IsApplied w r.frame (read_after w.read (9 + length r.frame.payload))
@@ -60,14 +60,14 @@ is_applied l w r reads comes =
 turned : (m n : ℕ) → (m == n) ≡ false → (n == m) ≡ false
 turned m n e = grind (arith, nat_tests, e)
 
-heard_apart : (l : Link) (s : Seen) (r : ReadFrame) (frames : List FrameSeen) (h : Link → Link) (xs : List LiveStream) (others : List Attempt) → (r.frame.kind == goaway_type) ≡ false
-    → list_any (λ (x : LiveStream). x.number == r.frame.stream) xs ≡ false → AreHeard l s xs others → AreHeard (with_frame_read r frames l) (with_link h l.number s) xs others
-heard_apart l s r frames h [] [] no_goaway apart are = tt
-heard_apart l s r frames h (x ∷ xs) (a ∷ others) no_goaway apart are =
+received_apart : (l : Link) (s : Seen) (r : ReadFrame) (frames : List FrameSeen) (h : Link → Link) (xs : List LiveStream) (others : List Attempt) → (r.frame.kind == goaway_type) ≡ false
+    → list_any (λ (x : LiveStream). x.number == r.frame.stream) xs ≡ false → ResponsesAreReceived l s xs others → ResponsesAreReceived (with_frame_read r frames l) (with_link h l.number s) xs others
+received_apart l s r frames h [] [] no_goaway apart are = tt
+received_apart l s r frames h (x ∷ xs) (a ∷ others) no_goaway apart are =
     let parts = none_of (x.number == r.frame.stream) (list_any (λ (y : LiveStream). y.number == r.frame.stream) xs) apart in
-    (heard_other l s r frames h x a no_goaway (turned x.number r.frame.stream parts.0) are.0, heard_apart l s r frames h xs others no_goaway parts.1 are.1)
-heard_apart l s r frames h [] (a ∷ others) no_goaway apart are = absurd are
-heard_apart l s r frames h (x ∷ xs) [] no_goaway apart are = absurd are
+    (received_other l s r frames h x a no_goaway (turned x.number r.frame.stream parts.0) are.0, received_apart l s r frames h xs others no_goaway parts.1 are.1)
+received_apart l s r frames h [] (a ∷ others) no_goaway apart are = absurd are
+received_apart l s r frames h (x ∷ xs) [] no_goaway apart are = absurd are
 
 pub quiet_frames_keep_streams : QuietFramesKeepStreams
 quiet_frames_keep_streams l s w g r is comes apart =
@@ -78,24 +78,24 @@ quiet_frames_keep_streams l s w g r is comes apart =
     let m : Link = read_link r l s in
     let bs : List Attempt = by_stream (streaming_on l s) in
     let x : IsApplied w f seen = is_applied l w r is.sees.sees.reads comes in
-    let t : Told = x.told in
+    let t : Report = x.reported in
     let none = fair_rules w f comes.fair in
     let unopened : link.is_unopened w.opened f ≡ false = fair_opened w f comes.fair in
-    let heard : Heard f (open_block l) w t.wire = heard_by l w r t is.sees.sees.reads comes x.applied_is in
+    let handled : Received f (open_block l) w t.wire = received_by l w r t is.sees.sees.reads comes x.applied_is in
     let left : IsUntouched (owed_controls f) v t.wire
-    = subst (λ (q : Result Told ℕ). IfOk q (λ u. IsUntouched (owed_controls f) v u.wire)) x.applied_is (applied_leaves f v seen apart.0 apart.1 none.placed) in
-    let told_is : told w f ≡ outcome w seen (Ok t) = told_by w f t comes.fair x.applied_is in
-    let wire_is : (told w f).wire ≡ record t.wire { read = seen } = ap (λ (y : Told). y.wire) told_is in
-    let whole : (told w f).wire.broken ≡ None = ap (λ (y : Wire). y.broken) wire_is ∙ heard.whole ∙ is.sees.sees.reads.whole in
-    let sees : SeesLink m (frame_read l.number r s) (told w f).wire g = quiet_frames_keep l s w g r is.sees comes.allowed comes.end comes.fair whole apart in
+    = subst (λ (q : Result Report ℕ). IfOk q (λ u. IsUntouched (owed_controls f) v u.wire)) x.applied_is (applied_leaves f v seen apart.0 apart.1 none.placed) in
+    let reported_is : reported w f ≡ outcome w seen (Ok t) = reported_by w f t comes.fair x.applied_is in
+    let wire_is : (reported w f).wire ≡ record t.wire { read = seen } = ap (λ (y : Report). y.wire) reported_is in
+    let whole : (reported w f).wire.broken ≡ None = ap (λ (y : Wire). y.broken) wire_is ∙ handled.whole ∙ is.sees.sees.reads.whole in
+    let sees : SeesLink m (frame_read l.number r s) (reported w f).wire g = quiet_frames_keep l s w g r is.sees comes.allowed comes.end comes.fair whole apart in
     let live_is : t.wire.live ≡ w.live = left.live in
     let opened_is : t.wire.opened ≡ w.opened = left.opened in
-    let H : Seen → Type 0 = λ z. AreHeard m z t.wire.live (by_stream (streaming_on m z)) in
+    let H : Seen → Type 0 = λ z. ResponsesAreReceived m z t.wire.live (by_stream (streaming_on m z)) in
     subst (λ (y : Wire). SeesStreams m (frame_read l.number r s) y g) (sym wire_is) (record {
       sees = subst (λ (y : Wire). SeesLink m (frame_read l.number r s) y g) wire_is sees;
-      heard = subst H (sym (read_is l s r is.sees.at))
-          (subst (λ (xs : List LiveStream). AreHeard m (frame_read_on r s l) xs bs) (sym live_is)
-          (heard_apart l s r frames (with_frame_read r frames) w.live bs apart.0 apart.1 is.heard));
-      unheard = subst (AreUnheard m) (sym opened_is) (unheard_read l w r frames is.unheard unopened none.placed is.begun comes.next);
-      begun = subst (IsBegun t.wire.block) (sym opened_is) (begun_after l w t.wire.block f unopened is.sees.sees.reads.block is.begun heard.block);
+      handled = subst H (sym (read_is l s r is.sees.at))
+          (subst (λ (xs : List LiveStream). ResponsesAreReceived m (frame_read_on r s l) xs bs) (sym live_is)
+          (received_apart l s r frames (with_frame_read r frames) w.live bs apart.0 apart.1 is.handled));
+      unreceived = subst (NewStreamsAreUnreceived m) (sym opened_is) (unreceived_read l w r frames is.unreceived unopened none.placed is.begun comes.next);
+      begun = subst (IsBegun t.wire.block) (sym opened_is) (begun_after l w t.wire.block f unopened is.sees.sees.reads.block is.begun handled.block);
     })

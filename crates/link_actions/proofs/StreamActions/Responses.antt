@@ -7,7 +7,7 @@ use Rattle.h2_frame.specs.Payloads.{last_stream}
 use Rattle.h2_link.specs.declared.live.LiveStream.{LiveStream}
 use Rattle.link_actions.proofs.Lists.{if_false, if_true, on_if}
 use Rattle.link_actions.specs.Laws.{with_written}
-use Rattle.link_actions.specs.StreamActions.Sees.{IsHeard, response_of}
+use Rattle.link_actions.specs.StreamActions.Sees.{IsReceived, response_of}
 use Rattle.session_actions.specs.Links.{is_settings}
 use Rattle.session_actions.specs.Responses.{initial_after, no_response, response_after, response_in, with_read, with_stream_frame, with_traffic}
 use Rattle.session_actions.specs.Writing.{with_frame_read}
@@ -96,10 +96,10 @@ like_written limit k l x goes small =
     let p : Response = response_in limit k l.traffic in
     subst (IsLike p) (sym (response_wrote limit k l x ∙ goes_on limit k p (traffic.Written x) goes small)) (write_like limit k p x)
 
--- so a stream is still heard
-pub heard_like : (l m : Link) (s u : Seen) (x y : LiveStream) (a : Attempt) → y.head ≡ x.head → IsLike (response_of l s x.number a) (response_of m u y.number a)
-    → IsHeard l s x a → IsHeard m u y a
-heard_like l m s u x y a head like is = record {
+-- so a stream is still received
+pub received_like : (l m : Link) (s u : Seen) (x y : LiveStream) (a : Attempt) → y.head ≡ x.head → IsLike (response_of l s x.number a) (response_of m u y.number a)
+    → IsReceived l s x a → IsReceived m u y a
+received_like l m s u x y a head like is = record {
   head = head ∙ is.head ∙ ap (λ o. is_some o) (sym like.head);
   goes = like.end ∙ is.goes;
   small = like.large ∙ is.small;

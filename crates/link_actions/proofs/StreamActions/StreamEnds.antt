@@ -27,8 +27,8 @@ use Rattle.link_actions.proofs.Written.{changed_here}
 use Rattle.link_actions.specs.Laws.{with_owed, without_tag}
 use Rattle.link_actions.specs.StreamActions.Laws.{CutsKeep, Ends, Follows, IsOn, reset_for}
 use Rattle.link_actions.specs.ResetActions.Ahead.{SeesAhead}
-use Rattle.link_actions.specs.Sees.{AreDistinct, AreFed, AreLive, IsFed, by_stream}
-use Rattle.link_actions.specs.StreamActions.Sees.{AreHeard, AreHeardBut, IsHeard, SeesBut, SeesStreams, response_of}
+use Rattle.link_actions.specs.Sees.{NumbersAreDistinct, StreamsAreFed, StreamsAreLive, IsFed, by_stream}
+use Rattle.link_actions.specs.StreamActions.Sees.{ResponsesAreReceived, ResponsesAreReceivedBut, IsReceived, SeesBut, SeesStreams, response_of}
 use Rattle.session_actions.specs.AttemptEnds.{attempt_ended, stream_reset, with_end, with_end_in_run, with_reset_queued}
 use Rattle.session_actions.specs.Attempts.{call_of}
 use Rattle.session_actions.specs.Configs.{chosen_of}
@@ -58,9 +58,9 @@ limit_by s draws call t e runs b c false h is =
     ap (λ (o : Option Call). option_map_or (λ k. (chosen_of k u).response) o message_limit) (changed_one (noted_call (mark.Ended t) (now s)) call b.row.call s.calls c false h is)
     ∙ sym (ap (λ (o : Option Call). option_map_or (λ k. (chosen_of k s).response) o message_limit) is)
 
-pub heard_ended : (l : Link) (s : Seen) (draws : Bool) (call t : ℕ) (e : RowEnd) (runs : List ThrottleRun) (x : LiveStream) (b : Attempt) (line : Line)
-    → IsFed l s b line → IsHeard l s x b → IsHeard l (ended_seen draws call t e runs s) x b
-heard_ended l s draws call t e runs x b line fed_ is =
+pub received_ended : (l : Link) (s : Seen) (draws : Bool) (call t : ℕ) (e : RowEnd) (runs : List ThrottleRun) (x : LiveStream) (b : Attempt) (line : Line)
+    → IsFed l s b line → IsReceived l s x b → IsReceived l (ended_seen draws call t e runs s) x b
+received_ended l s draws call t e runs x b line fed_ is =
     let u : Seen = ended_seen draws call t e runs s in
     let same : response_of l u x.number b ≡ response_of l s x.number b
     = ap (λ (n : ℕ). response_in n x.number l.traffic) (limit_by s draws call t e runs b fed_.call (b.row.call == call) refl fed_.call_is) in
@@ -70,29 +70,29 @@ heard_ended l s draws call t e runs x b line fed_ is =
       small = ap (λ (p : Response). p.large) same ∙ is.small;
     }
 
--- the others are heard as before
+-- the others are handled as before
 pub not_so : (b : Bool) → not b ≡ true → b ≡ false
 not_so false e = refl
 not_so true e = absurd (cc)
 
-heard_without : (l : Link) (s : Seen) (g : ℕ → Line) (draws : Bool) (call t : ℕ) (e : RowEnd) (runs : List ThrottleRun) (xs : List LiveStream) (others : List Attempt)
-    → AreLive l xs others → AreFed l s g xs others → AreHeardBut t l s xs others
-    → AreHeard l (ended_seen draws call t e runs s) (filter (is_other_stream t) xs) (filter (is_other_attempt t) others)
-heard_without l s g draws call t e runs [] [] are fed_ heard = tt
-heard_without l s g draws call t e runs (x ∷ xs) (a ∷ others) are fed_ heard =
+received_without : (l : Link) (s : Seen) (g : ℕ → Line) (draws : Bool) (call t : ℕ) (e : RowEnd) (runs : List ThrottleRun) (xs : List LiveStream) (others : List Attempt)
+    → StreamsAreLive l xs others → StreamsAreFed l s g xs others → ResponsesAreReceivedBut t l s xs others
+    → ResponsesAreReceived l (ended_seen draws call t e runs s) (filter (is_other_stream t) xs) (filter (is_other_attempt t) others)
+received_without l s g draws call t e runs [] [] are fed_ handled = tt
+received_without l s g draws call t e runs (x ∷ xs) (a ∷ others) are fed_ handled =
     let u : Seen = ended_seen draws call t e runs s in
     let fx : List LiveStream = filter (is_other_stream t) xs in
     let fa : List Attempt = filter (is_other_attempt t) others in
-    let rest : AreHeard l u fx fa = heard_without l s g draws call t e runs xs others are.1 fed_.1 heard.1 in
-    subst (λ (c : Bool). AreHeard l u (cond (is_other_stream t x) (x ∷ fx) fx) (cond c (a ∷ fa) fa)) (ap (is_other t) are.0.tag)
-    (both_if (AreHeard l u) (is_other_stream t x) (x ∷ fx) fx (a ∷ fa) fa
-    (λ h. (heard_ended l s draws call t e runs x a (g x.tag) fed_.0 (heard.0 (not_so (x.tag == t) h)), rest)) (λ h. rest))
-heard_without l s g draws call t e runs [] (a ∷ others) are fed_ heard = absurd are
-heard_without l s g draws call t e runs (x ∷ xs) [] are fed_ heard = absurd are
+    let rest : ResponsesAreReceived l u fx fa = received_without l s g draws call t e runs xs others are.1 fed_.1 handled.1 in
+    subst (λ (c : Bool). ResponsesAreReceived l u (cond (is_other_stream t x) (x ∷ fx) fx) (cond c (a ∷ fa) fa)) (ap (is_other t) are.0.tag)
+    (both_if (ResponsesAreReceived l u) (is_other_stream t x) (x ∷ fx) fx (a ∷ fa) fa
+    (λ h. (received_ended l s draws call t e runs x a (g x.tag) fed_.0 (handled.0 (not_so (x.tag == t) h)), rest)) (λ h. rest))
+received_without l s g draws call t e runs [] (a ∷ others) are fed_ handled = absurd are
+received_without l s g draws call t e runs (x ∷ xs) [] are fed_ handled = absurd are
 
-pub ends_heard : (l : Link) (s : Seen) (w : Wire) (g : ℕ → Line) (t : ℕ) (a : Attempt) (e : RowEnd) → SeesBut t l s w g → numbered s.attempts t ≡ Some a
+pub ends_received : (l : Link) (s : Seen) (w : Wire) (g : ℕ → Line) (t : ℕ) (a : Attempt) (e : RowEnd) → SeesBut t l s w g → numbered s.attempts t ≡ Some a
     → SeesStreams l (attempt_ended t e s) (without_tag t w) g
-ends_heard l s w g t a e is there =
+ends_received l s w g t a e is there =
     let runs : List ThrottleRun = (option_map_or (with_end_in_run a e s) (call_of a s) s).runs in
     let draws : Bool = is_some e.word in
     let call : ℕ = a.row.call in
@@ -100,27 +100,27 @@ ends_heard l s w g t a e is there =
     let bs : List Attempt = by_stream (streaming_on l s) in
     let xs : List LiveStream = filter (is_other_stream t) w.live in
     let left : AreLeft l s u t = are_left l s draws call t e runs a is.sees.places there in
-    let heard : AreHeard l u xs (filter (is_other_attempt t) bs) = heard_without l s g draws call t e runs w.live bs is.sees.sees.live is.sees.fed is.heard in
+    let handled : ResponsesAreReceived l u xs (filter (is_other_attempt t) bs) = received_without l s g draws call t e runs w.live bs is.sees.sees.live is.sees.fed is.handled in
     record {
       sees = ends_keep l s w g t a e is.sees there;
-      heard = subst (λ (v : Seen). AreHeard l v xs (by_stream (streaming_on l v))) (sym (is_ended s t e a is.sees.places there)) (subst (AreHeard l u xs) (sym left.streaming) heard);
-      unheard = is.unheard;
+      handled = subst (λ (v : Seen). ResponsesAreReceived l v xs (by_stream (streaming_on l v))) (sym (is_ended s t e a is.sees.places there)) (subst (ResponsesAreReceived l u xs) (sym left.streaming) handled);
+      unreceived = is.unreceived;
       begun = is.begun;
     }
 
 -- RST_STREAM leaves all responses
-all_heard_owed : (l : Link) (s : Seen) (frames : List FrameSeen) (link t : ℕ) (xs : List LiveStream) (others : List Attempt) → AreHeard l s xs others
-    → AreHeard (with_owed frames l) (reset_seen frames link t s) xs others
-all_heard_owed l s frames link t [] [] are = tt
-all_heard_owed l s frames link t (x ∷ xs) (a ∷ others) are =
-    (record { head = are.0.head; goes = are.0.goes; small = are.0.small }, all_heard_owed l s frames link t xs others are.1)
-all_heard_owed l s frames link t [] (a ∷ others) are = absurd are
-all_heard_owed l s frames link t (x ∷ xs) [] are = absurd are
+all_received_owed : (l : Link) (s : Seen) (frames : List FrameSeen) (link t : ℕ) (xs : List LiveStream) (others : List Attempt) → ResponsesAreReceived l s xs others
+    → ResponsesAreReceived (with_owed frames l) (reset_seen frames link t s) xs others
+all_received_owed l s frames link t [] [] are = tt
+all_received_owed l s frames link t (x ∷ xs) (a ∷ others) are =
+    (record { head = are.0.head; goes = are.0.goes; small = are.0.small }, all_received_owed l s frames link t xs others are.1)
+all_received_owed l s frames link t [] (a ∷ others) are = absurd are
+all_received_owed l s frames link t (x ∷ xs) [] are = absurd are
 
-pub reset_heard : (l : Link) (s : Seen) (w : Wire) (g : ℕ → Line) (t n code : ℕ) (a : Attempt) (e : RowEnd) (q : Queue) → SeesStreams l s w g → numbered s.attempts t ≡ Some a
+pub reset_received : (l : Link) (s : Seen) (w : Wire) (g : ℕ → Line) (t n code : ℕ) (a : Attempt) (e : RowEnd) (q : Queue) → SeesStreams l s w g → numbered s.attempts t ≡ Some a
     → a.row.ended ≡ Some e → a.row.stream ≡ Some n → link_number a ≡ l.number → q.items ≡ w.queue.items ++ control.Reset n code ∷ []
     → SeesStreams (with_owed (rst_stream_frame n code ∷ []) l) (stream_reset t code s) (record w { queue = q }) g
-reset_heard l s w g t n code a e q is there ended stream on items =
+reset_received l s w g t n code a e q is there ended stream on items =
     let frames : List FrameSeen = rst_stream_frame n code ∷ [] in
     let m : Link = with_owed frames l in
     let u : Seen = reset_seen frames l.number t s in
@@ -132,13 +132,13 @@ reset_heard l s w g t n code a e q is there ended stream on items =
     let same : by_stream (streaming_on l u) ≡ bs = ap by_stream (ap (filter streams) out) in
     record {
       sees = reset_keeps_ l s w g t n code a e q is.sees there ended stream on items;
-      heard = subst (λ (v : Seen). AreHeard m v w.live (by_stream (streaming_on m v))) (sym (is_reset_seen s t n code l.number a is.sees.places there stream on))
-          (subst (AreHeard m u w.live) (sym same) (all_heard_owed l s frames l.number t w.live bs is.heard));
-      unheard = is.unheard;
+      handled = subst (λ (v : Seen). ResponsesAreReceived m v w.live (by_stream (streaming_on m v))) (sym (is_reset_seen s t n code l.number a is.sees.places there stream on))
+          (subst (ResponsesAreReceived m u w.live) (sym same) (all_received_owed l s frames l.number t w.live bs is.handled));
+      unreceived = is.unreceived;
       begun = is.begun;
     }
 
--- the link has its reset queued behind all else
+-- the link has its reset queued after all else
 reset_ahead : (l : Link) (u : Seen) (v : Wire) (g : ℕ → Line) (n i : ℕ) (code : Option ℕ) → v.queue.fresh ≡ 0 → SeesStreams l u (record v { live = remove v.live i }) g
     → SeesAhead (reset_for n code) l u (record v { live = remove v.live i; queue = reset_after n code v.queue }) g × ((reset_after n code v.queue).fresh ≡ length (reset_for n code))
 reset_ahead l u v g n i None none sees =
@@ -166,7 +166,7 @@ ends_follow l s v g n i a y code is on none there tag = λ e.
     let sees : SeesStreams l u (record v { live = remove v.live i; waiting = v.waiting }) g
     = subst (λ (xs : List LiveStream). SeesStreams l u (record v { live = xs; waiting = v.waiting }) g) gone
     (subst (λ (ns : List ℕ). SeesStreams l u (record v { live = filter (is_other_stream t) v.live; waiting = ns }) g) waits
-    (ends_heard l s v g t a e is on.there)) in
+    (ends_received l s v g t a e is on.there)) in
     reset_ahead l u v g n i code none sees
 
 -- an attempt is cut off
@@ -176,7 +176,7 @@ turned k t e = grind (arith, nat_tests, e)
 same_tag : (m n : ℕ) → m ≡ n → (m == n) ≡ true
 same_tag m n e = grind (arith, nat_tests, e)
 
-tagged_at : (place at i : ℕ) (xs : List LiveStream) (y : LiveStream) (ns : List ℕ) → slice_get xs i ≡ Some y → AreDistinct (map (λ (z : LiveStream). z.tag) xs ++ ns)
+tagged_at : (place at i : ℕ) (xs : List LiveStream) (y : LiveStream) (ns : List ℕ) → slice_get xs i ≡ Some y → NumbersAreDistinct (map (λ (z : LiveStream). z.tag) xs ++ ns)
     → at ≡ place + i → found_from (is_tagged y.tag) place xs ≡ Some (at, y)
 tagged_at place at i [] y ns e tags here = absurd (cc)
 tagged_at place at zero (x ∷ xs) y ns e tags here =

@@ -9,14 +9,14 @@ use Rattle.h2_link.specs.LinkErrors.{is_bad_setting, overflows_link, overflows_s
 use Rattle.h2_link.specs.Steps.{found_from, is_numbered}
 use Rattle.h2_link.specs.Wire.{Wire}
 use Rattle.h2_link.specs.declared.live.LiveStream.{LiveStream}
-use Rattle.link_actions.proofs.StreamActions.Found.{IsIn, IsZipped, found_at, heard_at, streaming_in, zipped}
+use Rattle.link_actions.proofs.StreamActions.Found.{IsIn, IsZipped, found_at, received_at, streaming_in, zipped}
 use Rattle.link_actions.proofs.QuietKept.{opened_of_error}
 use Rattle.link_actions.proofs.Reading.{NoError, no_error}
 use Rattle.link_actions.proofs.StreamActions.StreamEnds.{number_is}
-use Rattle.link_actions.proofs.StreamActions.Unheard.{begun_after, heard_but, heard_set, unheard_read}
+use Rattle.link_actions.proofs.StreamActions.Unreceived.{begun_after, received_but, received_set, unreceived_read}
 use Rattle.link_actions.specs.StreamActions.Laws.{Comes, Follows, GoesOn, IsOn, read_link}
 use Rattle.link_actions.specs.Sees.{IsBlock, IsLive, SeesLink, by_stream}
-use Rattle.link_actions.specs.StreamActions.Sees.{AreHeard, AreHeardBut, AreUnheard, IsBegun, IsHeard, SeesBut, SeesStreams, response_of}
+use Rattle.link_actions.specs.StreamActions.Sees.{ResponsesAreReceived, ResponsesAreReceivedBut, NewStreamsAreUnreceived, IsBegun, IsReceived, SeesBut, SeesStreams, response_of}
 use Rattle.session_actions.specs.Reading.{block_after, open_block}
 use Rattle.session_actions.specs.Writing.{frame_read_on, owed_for, streaming_on, with_frame_read}
 use Rattle.session_actions.specs.declared.attempt.Attempt.{Attempt}
@@ -32,7 +32,7 @@ pub record Stands (l : Link) (s : Seen) (w : Wire) (n : ℕ) (a : Attempt) : Typ
   pub here : slice_get (by_stream (streaming_on l s)) index ≡ Some a
   pub number : stream.number ≡ n
   pub live : IsLive l stream a
-  pub heard : IsHeard l s stream a
+  pub handled : IsReceived l s stream a
   pub found : found_from (is_numbered n) 0 w.live ≡ Some (index, stream)
 
 pub stands : (l : Link) (s : Seen) (w : Wire) (g : ℕ → Line) (n : ℕ) (a : Attempt) → SeesStreams l s w g → IsOn l s n a → Stands l s w n a
@@ -48,7 +48,7 @@ stands l s w g n a is on =
       here = here.there;
       number = number;
       live = z.live;
-      heard = heard_at l s here.index w.live bs z.stream a is.heard z.there here.there;
+      handled = received_at l s here.index w.live bs z.stream a is.handled z.there here.there;
       found = found_at n 0 here.index 1 (2 * w.opened + 1) here.index w.live z.stream is.sees.opened z.there number (omega arith);
     }
 
@@ -78,9 +78,9 @@ read_but l s w v g r a x is comes st no_goaway tag live opened block sees =
     let unopened : link.is_unopened w.opened r.frame ≡ false = fair_opened w r.frame comes.fair in
     record {
       sees = sees;
-      heard = subst (λ (xs : List LiveStream). AreHeardBut a.place m u xs bs) (sym live)
-          (heard_but l s r frames (with_frame_read r frames) 1 (2 * w.opened + 1) st.index a.place w.live bs st.stream x no_goaway (sym st.number) is.sees.opened st.there tag is.heard);
-      unheard = subst (AreUnheard m) (sym opened) (unheard_read l w r frames is.unheard unopened none.placed is.begun comes.next);
+      handled = subst (λ (xs : List LiveStream). ResponsesAreReceivedBut a.place m u xs bs) (sym live)
+          (received_but l s r frames (with_frame_read r frames) 1 (2 * w.opened + 1) st.index a.place w.live bs st.stream x no_goaway (sym st.number) is.sees.opened st.there tag is.handled);
+      unreceived = subst (NewStreamsAreUnreceived m) (sym opened) (unreceived_read l w r frames is.unreceived unopened none.placed is.begun comes.next);
       begun = subst (IsBegun v.block) (sym opened) (begun_after l w v.block r.frame unopened is.sees.sees.reads.block is.begun block);
     }
 
@@ -102,18 +102,18 @@ read_on l s w v g r a x is comes st no_goaway tag number live opened block sees 
     let but : SeesBut a.place m u v g = read_but l s w v g r a x is comes st no_goaway tag live opened block sees in (
       but,
       λ goes small.
-          let own : IsHeard m u x a = record {
+          let own : IsReceived m u x a = record {
             head = head goes ∙ ap (λ (k : ℕ). is_some (response_of m u k a).head) (sym number);
             goes = ap (λ (k : ℕ). (response_of m u k a).end) number ∙ goes;
             small = ap (λ (k : ℕ). (response_of m u k a).large) number ∙ small;
           } in
-          let only : (b : Attempt) → slice_get bs st.index ≡ Some b → IsHeard m u x b
-          = λ b e. subst (IsHeard m u x) (let same : a ≡ b = one_there bs st.index a b st.here e in same) own in
+          let only : (b : Attempt) → slice_get bs st.index ≡ Some b → IsReceived m u x b
+          = λ b e. subst (IsReceived m u x) (let same : a ≡ b = one_there bs st.index a b st.here e in same) own in
           record {
             sees = sees;
-            heard = subst (λ (xs : List LiveStream). AreHeard m u xs bs) (sym live)
-                (heard_set l s r frames (with_frame_read r frames) 1 (2 * w.opened + 1) st.index w.live bs st.stream x no_goaway (sym st.number) is.sees.opened st.there is.heard only);
-            unheard = but.unheard;
+            handled = subst (λ (xs : List LiveStream). ResponsesAreReceived m u xs bs) (sym live)
+                (received_set l s r frames (with_frame_read r frames) 1 (2 * w.opened + 1) st.index w.live bs st.stream x no_goaway (sym st.number) is.sees.opened st.there is.handled only);
+            unreceived = but.unreceived;
             begun = but.begun;
           },
     )

@@ -12,14 +12,14 @@ use Rattle.h2_link.specs.LinkErrors.{was_opened}
 use Rattle.h2_link.specs.Steps.{read_after}
 use Rattle.h2_link.specs.Wire.{Wire}
 use Rattle.h2_link.specs.declared.live.LiveStream.{LiveStream}
-use Rattle.link_actions.proofs.Hearing.{Heard}
+use Rattle.link_actions.proofs.Receiving.{Received}
 use Rattle.link_actions.proofs.History.{raised_more, used_same}
 use Rattle.link_actions.proofs.Lists.{if_false}
 use Rattle.link_actions.proofs.QuietKept.{bad_by, ends_still, fed_quiet, fresh_quiet, wait_quiet}
 use Rattle.link_actions.proofs.Reading.{after_frame}
 use Rattle.link_actions.proofs.Written.{changed_here}
 use Rattle.link_actions.specs.StreamActions.Laws.{read_link}
-use Rattle.link_actions.specs.Sees.{AreDistinct, AreFed, AreFresh, AreLive, AreOpened, IsFed, SeesLink, SeesOwed, by_stream}
+use Rattle.link_actions.specs.Sees.{NumbersAreDistinct, StreamsAreFed, StreamsAreFresh, StreamsAreLive, StreamsAreOpened, IsFed, SeesLink, SeesOwed, by_stream}
 use Rattle.session_actions.specs.Links.{read_bytes}
 use Rattle.session_actions.specs.Reading.{is_of_opened, open_block, raise_by, raised}
 use Rattle.session_actions.specs.Words.{numbered}
@@ -34,7 +34,7 @@ first_tag : (m n : ℕ) (ms ns : List ℕ) → m ∷ ms ≡ n ∷ ns → (m ≡ 
 first_tag m n ms ns e = (cc, cc)
 
 fed_tagged : (l : Link) (s : Seen) (g : ℕ → Line) (xs ys : List LiveStream) (others : List Attempt) → map (λ (z : LiveStream). z.tag) ys ≡ map (λ (z : LiveStream). z.tag) xs
-    → AreFed l s g xs others → AreFed l s g ys others
+    → StreamsAreFed l s g xs others → StreamsAreFed l s g ys others
 fed_tagged l s g [] [] [] same are = tt
 fed_tagged l s g (x ∷ xs) (y ∷ ys) (a ∷ others) same are =
     let parts : (y.tag ≡ x.tag) × (map (λ (z : LiveStream). z.tag) ys ≡ map (λ (z : LiveStream). z.tag) xs)
@@ -46,25 +46,25 @@ fed_tagged l s g [] [] (a ∷ others) same are = absurd are
 fed_tagged l s g (x ∷ xs) (y ∷ ys) [] same are = absurd are
 
 -- what is read
-pub read_keeps : (l : Link) (s : Seen) (w v : Wire) (g : ℕ → Line) (r : ReadFrame) → SeesLink l s w g → Heard r.frame (open_block l) w v
+pub read_keeps : (l : Link) (s : Seen) (w v : Wire) (g : ℕ → Line) (r : ReadFrame) → SeesLink l s w g → Received r.frame (open_block l) w v
     → r.end ≡ read_bytes l + (9 + length r.frame.payload) → link.is_unopened w.opened r.frame ≡ false → v.waiting ≡ w.waiting → v.opened ≡ w.opened
-    → AreOpened 1 (2 * w.opened + 1) v.live → map (λ (z : LiveStream). z.tag) v.live ≡ map (λ (z : LiveStream). z.tag) w.live
-    → AreLive (read_link r l s) v.live (by_stream (streaming_on l s)) → SeesOwed (read_link r l s) (record v { read = read_after w.read (9 + length r.frame.payload) })
+    → StreamsAreOpened 1 (2 * w.opened + 1) v.live → map (λ (z : LiveStream). z.tag) v.live ≡ map (λ (z : LiveStream). z.tag) w.live
+    → StreamsAreLive (read_link r l s) v.live (by_stream (streaming_on l s)) → SeesOwed (read_link r l s) (record v { read = read_after w.read (9 + length r.frame.payload) })
     → SeesLink (read_link r l s) (frame_read_on r s l) (record v { read = read_after w.read (9 + length r.frame.payload) }) g
-read_keeps l s w v g r is heard end unopened waiting opened numbers tags live owes =
+read_keeps l s w v g r is handled end unopened waiting opened numbers tags live owes =
     let frames : List FrameSeen = owed_for r.frame l s in
     let m : Link = with_frame_read r frames l in
     let bs : List Attempt = by_stream (streaming_on l s) in
     record {
       at = changed_here (with_frame_read r frames) l.number s.links l is.at;
-      sees = record { reads = after_frame l w v r frames is.sees.reads heard end; live = live };
+      sees = record { reads = after_frame l w v r frames is.sees.reads handled end; live = live };
       owes = owes;
       waits = waiting ∙ is.waits;
       fed = fed_tagged m (frame_read_on r s l) g w.live v.live bs tags (fed_quiet l s g r frames (with_frame_read r frames) w.live bs is.fed);
       wait_fed = wait_quiet l s g r frames (with_frame_read r frames) (waiting_on l s) is.wait_fed;
-      opened = subst (λ (n : ℕ). AreOpened 1 (2 * n + 1) v.live) (sym opened) numbers;
-      fresh = subst (λ (n : ℕ). AreFresh m n) (sym opened) (fresh_quiet l w.opened r frames unopened is.fresh);
-      tags = subst (λ (ns : List ℕ). AreDistinct (ns ++ v.waiting)) (sym tags) (subst (λ (ns : List ℕ). AreDistinct (map (λ (z : LiveStream). z.tag) w.live ++ ns)) (sym waiting) is.tags);
+      opened = subst (λ (n : ℕ). StreamsAreOpened 1 (2 * n + 1) v.live) (sym opened) numbers;
+      fresh = subst (λ (n : ℕ). StreamsAreFresh m n) (sym opened) (fresh_quiet l w.opened r frames unopened is.fresh);
+      tags = subst (λ (ns : List ℕ). NumbersAreDistinct (ns ++ v.waiting)) (sym tags) (subst (λ (ns : List ℕ). NumbersAreDistinct (map (λ (z : LiveStream). z.tag) w.live ++ ns)) (sym waiting) is.tags);
       places = is.places;
     }
 
@@ -73,7 +73,7 @@ read_is l s r at = ap (λ (o : Option Link). option_map_or (frame_read_on r s) o
 
 -- a frame that raises no window leaves the streams
 pub live_read : (l : Link) (r : ReadFrame) (frames : List FrameSeen) (xs : List LiveStream) (others : List Attempt) → (r.frame.kind == window_update_type) ≡ false
-    → AreLive l xs others → AreLive (with_frame_read r frames l) xs others
+    → StreamsAreLive l xs others → StreamsAreLive (with_frame_read r frames l) xs others
 live_read l r frames [] [] none are = tt
 live_read l r frames (x ∷ xs) (a ∷ others) none are =
     let m : Link = with_frame_read r frames l in

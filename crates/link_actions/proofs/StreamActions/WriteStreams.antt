@@ -31,30 +31,30 @@ use Rattle.session_actions.specs.declared.link.Sent.{Sent}
 use Rattle.session_actions.specs.declared.link.Sent.TheVariants as sent
 use Rattle.session_actions.specs.declared.response.Response.{Response}
 use Rattle.session_actions.specs.declared.seen.Seen.{Seen}
-use Rattle.link_actions.proofs.StreamActions.Responses.{IsLike, heard_like, like_written}
+use Rattle.link_actions.proofs.StreamActions.Responses.{IsLike, received_like, like_written}
 use Rattle.link_actions.specs.StreamActions.Laws.{IsWrittenOn, WritesKeepStreams}
-use Rattle.link_actions.specs.StreamActions.Sees.{AreHeard, AreUnheard, IsBegun, IsHeard, IsUnheard, SeesStreams, response_of}
+use Rattle.link_actions.specs.StreamActions.Sees.{ResponsesAreReceived, NewStreamsAreUnreceived, IsBegun, IsReceived, IsUnreceived, SeesStreams, response_of}
 
 -- each stream that was there
-heard_wrote : (l : Link) (s u : Seen) (z : Sent) (x : LiveStream) (a : Attempt) → limit_of_attempt a u ≡ limit_of_attempt a s → IsHeard l s x a → IsHeard (with_written z l) u x a
-heard_wrote l s u z x a same is =
+received_wrote : (l : Link) (s u : Seen) (z : Sent) (x : LiveStream) (a : Attempt) → limit_of_attempt a u ≡ limit_of_attempt a s → IsReceived l s x a → IsReceived (with_written z l) u x a
+received_wrote l s u z x a same is =
     let p : Response = response_of l s x.number a in
     let like : IsLike p (response_in (limit_of_attempt a s) x.number (with_written z l).traffic) = like_written (limit_of_attempt a s) x.number l z is.goes is.small in
-    heard_like l (with_written z l) s u x x a refl (subst (λ (n : ℕ). IsLike p (response_in n x.number (with_written z l).traffic)) (sym same) like) is
+    received_like l (with_written z l) s u x x a refl (subst (λ (n : ℕ). IsLike p (response_in n x.number (with_written z l).traffic)) (sym same) like) is
 
-all_wrote : (l : Link) (s : Seen) (z : Sent) (xs : List LiveStream) (others : List Attempt) → AreHeard l s xs others → AreHeard (with_written z l) (noted z l s) xs others
+all_wrote : (l : Link) (s : Seen) (z : Sent) (xs : List LiveStream) (others : List Attempt) → ResponsesAreReceived l s xs others → ResponsesAreReceived (with_written z l) (noted z l s) xs others
 all_wrote l s z [] [] are = tt
-all_wrote l s z (x ∷ xs) (a ∷ others) are = (heard_wrote l s (noted z l s) z x a refl are.0, all_wrote l s z xs others are.1)
+all_wrote l s z (x ∷ xs) (a ∷ others) are = (received_wrote l s (noted z l s) z x a refl are.0, all_wrote l s z xs others are.1)
 all_wrote l s z [] (a ∷ others) are = absurd are
 all_wrote l s z (x ∷ xs) [] are = absurd are
 
 -- a stream that has sent more
-heard_put : (m : Link) (u : Seen) (i : ℕ) (xs : List LiveStream) (others : List Attempt) (y v : LiveStream) → slice_get xs i ≡ Some y → v.head ≡ y.head → v.number ≡ y.number
-    → AreHeard m u xs others → AreHeard m u (slice_set xs i v) others
-heard_put m u i [] [] y v e head number are = absurd (cc)
-heard_put m u zero (x ∷ xs) (a ∷ others) y v e head number are =
+received_put : (m : Link) (u : Seen) (i : ℕ) (xs : List LiveStream) (others : List Attempt) (y v : LiveStream) → slice_get xs i ≡ Some y → v.head ≡ y.head → v.number ≡ y.number
+    → ResponsesAreReceived m u xs others → ResponsesAreReceived m u (slice_set xs i v) others
+received_put m u i [] [] y v e head number are = absurd (cc)
+received_put m u zero (x ∷ xs) (a ∷ others) y v e head number are =
     let same : x ≡ y = (cc) in
-    let is : IsHeard m u y a = subst (λ (z : LiveStream). IsHeard m u z a) same are.0 in (
+    let is : IsReceived m u y a = subst (λ (z : LiveStream). IsReceived m u z a) same are.0 in (
       record {
         head = head ∙ is.head ∙ ap (λ (n : ℕ). is_some (response_of m u n a).head) (sym number);
         goes = ap (λ (n : ℕ). (response_of m u n a).end) number ∙ is.goes;
@@ -62,21 +62,21 @@ heard_put m u zero (x ∷ xs) (a ∷ others) y v e head number are =
       },
       are.1,
     )
-heard_put m u (suc i) (x ∷ xs) (a ∷ others) y v e head number are = (are.0, heard_put m u i xs others y v e head number are.1)
-heard_put m u i [] (a ∷ others) y v e head number are = absurd are
-heard_put m u i (x ∷ xs) [] y v e head number are = absurd are
+received_put m u (suc i) (x ∷ xs) (a ∷ others) y v e head number are = (are.0, received_put m u i xs others y v e head number are.1)
+received_put m u i [] (a ∷ others) y v e head number are = absurd are
+received_put m u i (x ∷ xs) [] y v e head number are = absurd are
 
 -- streams that are still to be opened
 retiring_same : (l : Link) (z : Sent) → is_retiring (with_written z l) ≡ is_retiring l
 retiring_same l z = ap (λ (rs : List ReadFrame). list_any (λ r. r.frame.kind == goaway_type) rs) (read_same l z)
 
-unheard_wrote : (l : Link) (z : Sent) (limit k : ℕ) → IsUnheard (response_in limit k l.traffic) → IsUnheard (response_in limit k (with_written z l).traffic)
-unheard_wrote l z limit k is =
+unreceived_wrote : (l : Link) (z : Sent) (limit k : ℕ) → IsUnreceived (response_in limit k l.traffic) → IsUnreceived (response_in limit k (with_written z l).traffic)
+unreceived_wrote l z limit k is =
     let like : IsLike (response_in limit k l.traffic) (response_in limit k (with_written z l).traffic) = like_written limit k l z is.goes is.small in
     record { head = like.head ∙ is.head; goes = like.end ∙ is.goes; small = like.large ∙ is.small }
 
-all_unheard : (l : Link) (z : Sent) (opened : ℕ) → AreUnheard l opened → AreUnheard (with_written z l) opened
-all_unheard l z opened un limit k above going = unheard_wrote l z limit k (un limit k above (sym (retiring_same l z) ∙ going))
+all_unreceived : (l : Link) (z : Sent) (opened : ℕ) → NewStreamsAreUnreceived l opened → NewStreamsAreUnreceived (with_written z l) opened
+all_unreceived l z opened un limit k above going = unreceived_wrote l z limit k (un limit k above (sym (retiring_same l z) ∙ going))
 
 -- a control frame
 control_keeps : (l : Link) (s : Seen) (w : Wire) (g : ℕ → Line) (c : Control) → SeesStreams l s w g → IsWritten l s (sent_control w g c) → IsWrittenOn l s (sent_control w g c)
@@ -85,15 +85,15 @@ control_keeps l s w g c is k =
     let m : Link = with_written z l in
     let plain : IsPlain z l = is_plain z l c k.same in
     let u_is : frame_written l.number z s ≡ noted z l s = is_noted l s z is.sees.at ∙ ap (noted z l) (plain.stays s) in
-    let H : Seen → Type 0 = λ u. AreHeard m u w.live (by_stream (streaming_on m u)) in
+    let H : Seen → Type 0 = λ u. ResponsesAreReceived m u w.live (by_stream (streaming_on m u)) in
     record {
       sent = z;
       next = k.next;
       same = k.same;
       sees = record {
         sees = k.sees;
-        heard = subst H (sym u_is) (all_wrote l s z w.live (by_stream (streaming_on l s)) is.heard);
-        unheard = all_unheard l z w.opened is.unheard;
+        handled = subst H (sym u_is) (all_wrote l s z w.live (by_stream (streaming_on l s)) is.handled);
+        unreceived = all_unreceived l z w.opened is.unreceived;
         begun = is.begun;
       };
     }
@@ -110,11 +110,11 @@ data_keeps l s w g x is share k =
     let bs : List Attempt = by_stream (streaming_on l s) in
     let index : share.index ≡ share.at = (let at : share.at ≡ 0 + share.index = share.at_is in omega (arith, at)) in
     let there : slice_get w.live share.at ≡ Some y = ap (λ (n : ℕ). slice_get w.live n) (sym index) ∙ share.there in
-    let heard : AreHeard m (noted (sent.Frame f) l s) (slice_set w.live share.at v) bs
-    = heard_put m (noted (sent.Frame f) l s) share.at w.live bs y v there refl refl (all_wrote l s (sent.Frame f) w.live bs is.heard) in
-    let H : Seen → Type 0 = λ u. AreHeard m u (slice_set w.live share.at v) (by_stream (streaming_on m u)) in
-    let L : List LiveStream → Type 0 = λ xs. AreHeard m (frame_written l.number (sent.Frame f) s) xs (by_stream (streaming_on m (frame_written l.number (sent.Frame f) s))) in
-    let F : Sent → Type 0 = λ q. AreHeard (with_written q l) (frame_written l.number q s) x.wire.live (by_stream (streaming_on (with_written q l) (frame_written l.number q s))) in
+    let handled : ResponsesAreReceived m (noted (sent.Frame f) l s) (slice_set w.live share.at v) bs
+    = received_put m (noted (sent.Frame f) l s) share.at w.live bs y v there refl refl (all_wrote l s (sent.Frame f) w.live bs is.handled) in
+    let H : Seen → Type 0 = λ u. ResponsesAreReceived m u (slice_set w.live share.at v) (by_stream (streaming_on m u)) in
+    let L : List LiveStream → Type 0 = λ xs. ResponsesAreReceived m (frame_written l.number (sent.Frame f) s) xs (by_stream (streaming_on m (frame_written l.number (sent.Frame f) s))) in
+    let F : Sent → Type 0 = λ q. ResponsesAreReceived (with_written q l) (frame_written l.number q s) x.wire.live (by_stream (streaming_on (with_written q l) (frame_written l.number q s))) in
     let opened_is : x.wire.opened ≡ w.opened = ap (λ (n : Wire). n.opened) share.wire in
     let block_is : x.wire.block ≡ w.block = ap (λ (n : Wire). n.block) share.wire in
     record {
@@ -123,21 +123,21 @@ data_keeps l s w g x is share k =
       same = k.same;
       sees = record {
         sees = k.sees;
-        heard = subst F (sym sent_is) (subst L (sym (ap (λ (n : Wire). n.live) share.wire)) (subst H (sym (is_noted l s (sent.Frame f) is.sees.at)) heard));
-        unheard = subst (AreUnheard (with_written k.sent l)) (sym opened_is) (all_unheard l k.sent w.opened is.unheard);
+        handled = subst F (sym sent_is) (subst L (sym (ap (λ (n : Wire). n.live) share.wire)) (subst H (sym (is_noted l s (sent.Frame f) is.sees.at)) handled));
+        unreceived = subst (NewStreamsAreUnreceived (with_written k.sent l)) (sym opened_is) (all_unreceived l k.sent w.opened is.unreceived);
         begun = subst (λ (o : Option Block). IsBegun o x.wire.opened) (sym block_is) (subst (IsBegun w.block) (sym opened_is) is.begun);
       };
     }
 
 -- HEADERS
-heard_more : (m : Link) (u : Seen) (xs : List LiveStream) (others : List Attempt) (x : LiveStream) (a : Attempt) → AreHeard m u xs others → IsHeard m u x a
-    → AreHeard m u (xs ++ x ∷ []) (others ++ a ∷ [])
-heard_more m u [] [] x a are is = (is, tt)
-heard_more m u (y ∷ xs) (b ∷ others) x a are is = (are.0, heard_more m u xs others x a are.1 is)
-heard_more m u [] (b ∷ others) x a are is = absurd are
-heard_more m u (y ∷ xs) [] x a are is = absurd are
+received_more : (m : Link) (u : Seen) (xs : List LiveStream) (others : List Attempt) (x : LiveStream) (a : Attempt) → ResponsesAreReceived m u xs others → IsReceived m u x a
+    → ResponsesAreReceived m u (xs ++ x ∷ []) (others ++ a ∷ [])
+received_more m u [] [] x a are is = (is, tt)
+received_more m u (y ∷ xs) (b ∷ others) x a are is = (are.0, received_more m u xs others x a are.1 is)
+received_more m u [] (b ∷ others) x a are is = absurd are
+received_more m u (y ∷ xs) [] x a are is = absurd are
 
-all_changed : (m : Link) (s u : Seen) (xs : List LiveStream) (others : List Attempt) → ((a : Attempt) → limit_of_attempt a u ≡ limit_of_attempt a s) → AreHeard m s xs others → AreHeard m u xs others
+all_changed : (m : Link) (s u : Seen) (xs : List LiveStream) (others : List Attempt) → ((a : Attempt) → limit_of_attempt a u ≡ limit_of_attempt a s) → ResponsesAreReceived m s xs others → ResponsesAreReceived m u xs others
 all_changed m s u [] [] same are = tt
 all_changed m s u (x ∷ xs) (a ∷ others) same are =
     let p : response_of m u x.number a ≡ response_of m s x.number a = ap (λ (n : ℕ). response_in n x.number m.traffic) (same a) in (
@@ -185,20 +185,20 @@ head_keeps l s w g tag is e k =
     let going : is_retiring l ≡ false
     = sym is.sees.sees.reads.retiring ∙ not_retiring w.retiring _ _ (opens_open (may_open w) (slice_get w.waiting 0) tag e) in
     let above : 2 * w.opened < n = omega arith in
-    let none : IsUnheard (response_in (limit_of_attempt a s) n m.traffic) = unheard_wrote l z (limit_of_attempt a s) n (is.unheard (limit_of_attempt a s) n above going) in
+    let none : IsUnreceived (response_in (limit_of_attempt a s) n m.traffic) = unreceived_wrote l z (limit_of_attempt a s) n (is.unreceived (limit_of_attempt a s) n above going) in
     let x : LiveStream = stream_opened w tag in
-    let new : IsHeard m u x (with_stream n a) = record { head = ap (λ o. is_some o) (sym none.head); goes = none.goes; small = none.small } in
-    let old : AreHeard m u w.live bs = all_changed m (noted z l s) u w.live bs (λ b. refl) (all_wrote l s z w.live bs is.heard) in
-    let H : Seen → Type 0 = λ v. AreHeard m v (w.live ++ x ∷ []) (by_stream (streaming_on m v)) in
-    let F : Sent → Type 0 = λ q. AreHeard (with_written q l) (frame_written l.number q s) (w.live ++ x ∷ []) (by_stream (streaming_on (with_written q l) (frame_written l.number q s))) in
+    let new : IsReceived m u x (with_stream n a) = record { head = ap (λ o. is_some o) (sym none.head); goes = none.goes; small = none.small } in
+    let old : ResponsesAreReceived m u w.live bs = all_changed m (noted z l s) u w.live bs (λ b. refl) (all_wrote l s z w.live bs is.handled) in
+    let H : Seen → Type 0 = λ v. ResponsesAreReceived m v (w.live ++ x ∷ []) (by_stream (streaming_on m v)) in
+    let F : Sent → Type 0 = λ q. ResponsesAreReceived (with_written q l) (frame_written l.number q s) (w.live ++ x ∷ []) (by_stream (streaming_on (with_written q l) (frame_written l.number q s))) in
     record {
       sent = k.sent;
       next = k.next;
       same = k.same;
       sees = record {
         sees = k.sees;
-        heard = subst F (sym sent_is) (subst H (sym u_is) (subst (AreHeard m u (w.live ++ x ∷ [])) (sym streams_) (heard_more m u w.live bs x (with_stream n a) old new)));
-        unheard = λ limit j higher going_. all_unheard l k.sent w.opened is.unheard limit j (let high : 2 * (w.opened + 1) < j = higher in omega (arith, high)) going_;
+        handled = subst F (sym sent_is) (subst H (sym u_is) (subst (ResponsesAreReceived m u (w.live ++ x ∷ [])) (sym streams_) (received_more m u w.live bs x (with_stream n a) old new)));
+        unreceived = λ limit j higher going_. all_unreceived l k.sent w.opened is.unreceived limit j (let high : 2 * (w.opened + 1) < j = higher in omega (arith, high)) going_;
         begun = begun_wider w.block w.opened is.begun;
       };
     }

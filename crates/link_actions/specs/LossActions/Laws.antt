@@ -12,13 +12,13 @@ use Rattle.attempt_ledger.specs.declared.news.News.TheVariants as news
 use Rattle.attempt_ledger.specs.declared.row.RowCause.TheVariants as cause
 use Rattle.attempt_ledger.specs.declared.row.RowEnd.{RowEnd}
 use Rattle.grpc_base.specs.declared.code.Code.TheVariants as code
-use Rattle.grpc_link.specs.Ends.{bare_end}
-use Rattle.grpc_link.specs.Links.{GrpcSeen, told_all}
+use Rattle.grpc_link.specs.Ends.{end_without_block}
+use Rattle.grpc_link.specs.Links.{GrpcSeen, reported_all}
 use Rattle.h2_link.specs.Feeds.{Line}
-use Rattle.h2_link.specs.Heard.{front_of}
+use Rattle.h2_link.specs.Received.{prefix_of}
 use Rattle.h2_link.specs.Steps.{broke}
-use Rattle.h2_link.specs.Wire.{Told, Wire}
-use Rattle.link_actions.specs.Sees.{ArePlaced}
+use Rattle.h2_link.specs.Wire.{Report, Wire}
+use Rattle.link_actions.specs.Sees.{AttemptsStandInPlace}
 use Rattle.link_actions.specs.LossActions.Sees.{SeesOver, WasOn, end_news, loss_of}
 use Rattle.session_actions.specs.AttemptEnds.{attempt_ended, end_of, next_wire_end, outcome_of, reset_code_of, wire_end}
 use Rattle.session_actions.specs.Attempts.{is_over}
@@ -43,20 +43,20 @@ with_over why l = record l { over = Some why }
 
 -- the bytes that were not read, wherever in a piece, break the link: so they do in the session, with the same code, and it is the next action; the link
 -- keeps nothing of what it had (RFC 9113, section 5.4.1)
-pub record IsBroken (l : Link) (s : Seen) (w : Wire) (number : ℕ) (t : Told) : Type 0 where
-  pub told : t ≡ broke w number
+pub record IsBroken (l : Link) (s : Seen) (w : Wire) (number : ℕ) (t : Report) : Type 0 where
+  pub reported : t ≡ broke w number
   pub next : next_frame_read l.number s ≡ Some (action.LinkBreaks l.number number)
   pub over : SeesOver (with_over over.Broken l) (link_broken l.number s)
 
 abbrev pub BreaksAreSame : Type 0
 BreaksAreSame =
-    (l : Link) (s : Seen) (w : Wire) (g : ℕ → Line) (bytes : List ℕ) (taken number : ℕ) (t : Told) → SeesStreams l s w g → l.over ≡ None
-    → drop (read_bytes l) l.received ≡ bytes → front_of w bytes ≡ Some (taken, t) → t.wire.broken ≡ Some number → IsBroken l s w number t
+    (l : Link) (s : Seen) (w : Wire) (g : ℕ → Line) (bytes : List ℕ) (taken number : ℕ) (t : Report) → SeesStreams l s w g → l.over ≡ None
+    → drop (read_bytes l) l.received ≡ bytes → prefix_of w bytes ≡ Some (taken, t) → t.wire.broken ≡ Some number → IsBroken l s w number t
 
 -- and the link reports of it this alone
 abbrev pub BreaksAreReported : Type 0
 BreaksAreReported =
-    (g : GrpcSeen) (w : Wire) (number : ℕ) → told_all g (broke w number).news ≡ record { link = record g { readers = [] }; news = news.Broken number ∷ [] }
+    (g : GrpcSeen) (w : Wire) (number : ℕ) → reported_all g (broke w number).news ≡ record { link = record g { readers = [] }; news = news.Broken number ∷ [] }
 
 -- the environment loses the link
 abbrev pub LossesAreOver : Type 0
@@ -82,7 +82,7 @@ EndsAreLosses =
 abbrev pub LossesAreReported : Type 0
 LossesAreReported =
     (stream : Option ℕ) (seen : ℕ)
-    → end_news (loss_of stream) seen ≡ bare_end code.Unavailable (if is_some stream then cause.Lost else cause.Unsent) (not (is_some stream)) seen
+    → end_news (loss_of stream) seen ≡ end_without_block code.Unavailable (if is_some stream then cause.Lost else cause.Unsent) (not (is_some stream)) seen
 
 -- of several the lowest place comes first. (Nothing else is about to end an attempt: on other links each response goes on, and no attempt on this one is
 -- over for its call, which would be cut off before.)
@@ -104,7 +104,7 @@ NoneIsReset = (l : Link) (s : Seen) (a : Attempt) → link_of a s ≡ Some l →
 -- it stays over after whatever leaves what passed on it, and places no attempt on it: each that is on it was there before, with the same limit of its call
 abbrev pub OverStays : Type 0
 OverStays =
-    (l m : Link) (s t : Seen) → SeesOver l s → numbered t.links m.number ≡ Some m → is_some m.over ≡ true → m.traffic ≡ l.traffic → ArePlaced 1 t.attempts
+    (l m : Link) (s t : Seen) → SeesOver l s → numbered t.links m.number ≡ Some m → is_some m.over ≡ true → m.traffic ≡ l.traffic → AttemptsStandInPlace 1 t.attempts
     → ((n : ℕ) (b : Attempt) → IsOn m t n b → WasOn l s t n b) → SeesOver m t
 
 -- so it does when any attempt ends

@@ -4,7 +4,7 @@
 -- loss. So does attempt 2, which was never sent.
 use Rattle.std.specs.Prelude.{None, Option, Some, false, is_some, true, ℕ, ◌≡◌}
 use Rattle.attempt_ledger.specs.declared.news.EndNews.{EndNews}
-use Rattle.link_actions.specs.Sees.{ArePlaced}
+use Rattle.link_actions.specs.Sees.{AttemptsStandInPlace}
 use Rattle.session_actions.specs.AttemptEnds.{lost_end, unsent_end}
 use Rattle.session_actions.specs.Responses.{limit_of_attempt}
 use Rattle.session_actions.specs.Words.{numbered}
@@ -26,7 +26,7 @@ pub record SeesOver (l : Link) (s : Seen) : Type 0 where
   pub at : numbered s.links l.number ≡ Some l
   pub over : is_some l.over ≡ true
   pub goes : (n : ℕ) (a : Attempt) → IsOn l s n a → IsGoing (response_of l s n a)
-  pub places : ArePlaced 1 s.attempts
+  pub places : AttemptsStandInPlace 1 s.attempts
 
 -- how a link that is over ends an attempt: one that has a stream was lost, and one that has none was never sent (gRPC over HTTP/2, "Connection failure";
 -- gRFC A6, "Transparent Retries")

@@ -5,7 +5,7 @@
 use Rattle.std.specs.List.{AllByRecursion}
 use Rattle.std.specs.Prelude.{Some, ℕ, ◌≡◌}
 use Rattle.attempt_ledger.specs.declared.row.RowEnd.{RowEnd}
-use Rattle.link_actions.specs.Sees.{ArePlaced}
+use Rattle.link_actions.specs.Sees.{AttemptsStandInPlace}
 use Rattle.link_actions.specs.LossActions.Laws.{IsQuiet}
 use Rattle.session_actions.specs.AttemptEnds.{attempt_ended}
 use Rattle.session_actions.specs.Words.{numbered}
@@ -16,5 +16,5 @@ use Rattle.session_actions.specs.declared.seen.Seen.{Seen}
 -- nothing else is about to end an attempt, once one has ended, if nothing was before
 abbrev pub EndsKeepQuiet : Type 0
 EndsKeepQuiet =
-    (l : Link) (s : Seen) (t : ℕ) (a : Attempt) (e : RowEnd) → numbered s.attempts t ≡ Some a → ArePlaced 1 s.attempts → AllByRecursion (IsQuiet l s) s.attempts
+    (l : Link) (s : Seen) (t : ℕ) (a : Attempt) (e : RowEnd) → numbered s.attempts t ≡ Some a → AttemptsStandInPlace 1 s.attempts → AllByRecursion (IsQuiet l s) s.attempts
     → AllByRecursion (IsQuiet l (attempt_ended t e s)) (attempt_ended t e s).attempts

@@ -14,7 +14,7 @@ use Rattle.h2_link.specs.Drains.{Sent as Sending}
 use Rattle.h2_link.specs.Feeds.{Line}
 use Rattle.h2_link.specs.Wire.{Wire}
 use Rattle.link_actions.specs.Laws.{with_owed, with_written}
-use Rattle.link_actions.specs.ResponseActions.Laws.{reported}
+use Rattle.link_actions.specs.ResponseActions.Laws.{frame_reported}
 use Rattle.link_actions.specs.ResponseActions.Readers.{SeesReaders}
 use Rattle.session_actions.specs.Policies.{attempt_placed}
 use Rattle.session_actions.specs.Responses.{limit_of_attempt}
@@ -24,7 +24,7 @@ use Rattle.session_actions.specs.declared.attempt.Attempt.{Attempt}
 use Rattle.session_actions.specs.declared.link.Link.{Link}
 use Rattle.session_actions.specs.declared.link.ReadFrame.{ReadFrame}
 use Rattle.session_actions.specs.declared.seen.Seen.{Seen}
-use Rattle.link_actions.specs.ResetActions.Laws.{AreEndedAt}
+use Rattle.link_actions.specs.ResetActions.Laws.{AttemptsAreEndedAt}
 use Rattle.link_actions.specs.SteadyLinks.Laws.{CanPlace}
 use Rattle.link_actions.specs.StreamActions.Laws.{AreAllOf, Comes, IsWrittenOn, ended_all, left_out, left_resets, read_link, reset_all}
 use Rattle.link_actions.specs.StreamActions.Sees.{SeesStreams}
@@ -54,12 +54,12 @@ GoawaysKeepReaders =
     (l : Link) (s : Seen) (w : Wire) (g : ℕ → Line) (readers : List TagReader) (r : ReadFrame) (ends : List (ℕ × RowEnd)) → SeesStreams l s w g → SeesReaders l s readers → Comes l w r
     → (r.frame.kind == goaway_type) ≡ true → AreAllOf l s (last_stream r.frame.payload) ends
     → SeesReaders (with_owed (left_resets (left_out l s (last_stream r.frame.payload))) (read_link r l s))
-    (reset_all (left_out l s (last_stream r.frame.payload)) (ended_all ends (frame_read l.number r s))) (reported w readers r.frame).link.readers
+    (reset_all (left_out l s (last_stream r.frame.payload)) (ended_all ends (frame_read l.number r s))) (frame_reported w readers r.frame).link.readers
 
 -- and so before any stream is reset, in a session in which all these have ended
 abbrev pub GoawaysLeaveReaders : Type 0
 GoawaysLeaveReaders =
     (l : Link) (s : Seen) (w : Wire) (g : ℕ → Line) (readers : List TagReader) (r : ReadFrame) (ends : List (ℕ × RowEnd)) (rows : List Attempt) → SeesStreams l s w g
     → SeesReaders l s readers → Comes l w r → (r.frame.kind == goaway_type) ≡ true → AreAllOf l s (last_stream r.frame.payload) ends
-    → AreEndedAt (map (λ (x : ℕ × RowEnd). x.0) ends) s.attempts rows
-    → SeesReaders (read_link r l s) (record (frame_read l.number r s) { attempts = rows }) (reported w readers r.frame).link.readers
+    → AttemptsAreEndedAt (map (λ (x : ℕ × RowEnd). x.0) ends) s.attempts rows
+    → SeesReaders (read_link r l s) (record (frame_read l.number r s) { attempts = rows }) (frame_reported w readers r.frame).link.readers

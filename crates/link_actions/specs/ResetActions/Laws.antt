@@ -11,7 +11,7 @@ use Rattle.h2_frame.specs.Numbers.{goaway_type}
 use Rattle.h2_frame.specs.Payloads.{last_stream}
 use Rattle.h2_frame.specs.Sent.{rst_stream_frame}
 use Rattle.h2_link.specs.Feeds.{Line}
-use Rattle.h2_link.specs.Steps.{cut, sealed_wire, told}
+use Rattle.h2_link.specs.Steps.{cut, sealed_wire, reported}
 use Rattle.h2_link.specs.Wire.{Wire}
 use Rattle.lb_policy.specs.Table.{is_one_of}
 use Rattle.link_actions.specs.Laws.{with_owed}
@@ -69,10 +69,10 @@ abbrev pub IsEndedIf : Bool → Attempt → Attempt → Type 0
 IsEndedIf true a b = (e : RowEnd) × (b ≡ with_end e a)
 IsEndedIf false a b = b ≡ a
 
-abbrev pub AreEndedAt : List ℕ → List Attempt → List Attempt → Type 0
-AreEndedAt places [] [] = Unit {0}
-AreEndedAt places (a ∷ as_) (b ∷ bs) = IsEndedIf (is_one_of places a.place) a b × AreEndedAt places as_ bs
-AreEndedAt places _ _ = ⊥
+abbrev pub AttemptsAreEndedAt : List ℕ → List Attempt → List Attempt → Type 0
+AttemptsAreEndedAt places [] [] = Unit {0}
+AttemptsAreEndedAt places (a ∷ as_) (b ∷ bs) = IsEndedIf (is_one_of places a.place) a b × AttemptsAreEndedAt places as_ bs
+AttemptsAreEndedAt places _ _ = ⊥
 
 -- after GOAWAY, and before any stream is reset, the link is as a session is in which all these have ended, and ahead of it by a reset with CANCEL for each stream
 -- that GOAWAY leaves out, the lowest first (RFC 9113, section 6.8). (Tokens, marks and random words, which ends bring too, bear on no link.)
@@ -85,8 +85,8 @@ cancels_of xs = map cancel_of xs
 abbrev pub GoawaysGoAhead : Type 0
 GoawaysGoAhead =
     (l : Link) (s : Seen) (w : Wire) (g : ℕ → Line) (r : ReadFrame) (ends : List (ℕ × RowEnd)) (rows : List Attempt) → SeesStreams l s w g → Comes l w r
-    → (r.frame.kind == goaway_type) ≡ true → AreAllOf l s (last_stream r.frame.payload) ends → AreEndedAt (map (λ (x : ℕ × RowEnd). x.0) ends) s.attempts rows
-    → IsCut (cancels_of (left_out l s (last_stream r.frame.payload))) (read_link r l s) (record (frame_read l.number r s) { attempts = rows }) (told w r.frame).wire g
+    → (r.frame.kind == goaway_type) ≡ true → AreAllOf l s (last_stream r.frame.payload) ends → AttemptsAreEndedAt (map (λ (x : ℕ × RowEnd). x.0) ends) s.attempts rows
+    → IsCut (cancels_of (left_out l s (last_stream r.frame.payload))) (read_link r l s) (record (frame_read l.number r s) { attempts = rows }) (reported w r.frame).wire g
 
 -- these are the resets that the session owes on the link then, in the order of the streams: where nothing is owed of any other attempt, and of these a reset with
 -- CANCEL is, if the attempt has a stream
@@ -108,5 +108,5 @@ OweAt code l places _ _ = ⊥
 abbrev pub GoawaysOweResets : Type 0
 GoawaysOweResets =
     (l : Link) (s : Seen) (last : ℕ) (ends : List (ℕ × RowEnd)) (rows : List Attempt) (code : Attempt → Option ℕ) → AreAllOf l s last ends
-    → AreEndedAt (map (λ (x : ℕ × RowEnd). x.0) ends) s.attempts rows → OweAt code l (map (λ (x : ℕ × RowEnd). x.0) ends) s.attempts rows
+    → AttemptsAreEndedAt (map (λ (x : ℕ × RowEnd). x.0) ends) s.attempts rows → OweAt code l (map (λ (x : ℕ × RowEnd). x.0) ends) s.attempts rows
     → owed_on code l rows ≡ cancels_of (left_out l s last)

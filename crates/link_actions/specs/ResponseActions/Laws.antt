@@ -16,18 +16,18 @@ use Rattle.attempt_ledger.specs.declared.row.RowCause.TheVariants as cause
 use Rattle.attempt_ledger.specs.declared.row.RowEnd.{RowEnd}
 use Rattle.grpc_base.specs.ErrorCodes.{cancel}
 use Rattle.grpc_base.specs.declared.code.Code.TheVariants as code
-use Rattle.grpc_link.specs.Links.{reader_in, told_all, without}
-use Rattle.grpc_link.specs.Links.{Told as Reported}
+use Rattle.grpc_link.specs.Links.{reader_in, reported_all, without}
+use Rattle.grpc_link.specs.Links.{Report as Reported}
 use Rattle.grpc_link.specs.declared.readers.TagReader.{TagReader}
 use Rattle.h2_frame.specs.Frames.{FrameSeen}
 use Rattle.h2_frame.specs.Numbers.{data_type, goaway_type, rst_stream_type, window_update_type}
 use Rattle.h2_frame.specs.Payloads.{last_stream}
 use Rattle.h2_link.specs.Feeds.{Line}
-use Rattle.h2_link.specs.Steps.{told}
+use Rattle.h2_link.specs.Steps.{reported}
 use Rattle.h2_link.specs.Wire.{Wire}
 use Rattle.link_actions.specs.Laws.{IsApart}
 use Rattle.lb_policy.specs.Table.{is_one_of}
-use Rattle.link_actions.specs.Sees.{AreDistinct, ArePlaced}
+use Rattle.link_actions.specs.Sees.{NumbersAreDistinct, AttemptsStandInPlace}
 use Rattle.link_actions.specs.LossActions.Sees.{end_news}
 use Rattle.link_actions.specs.ResponseActions.Gained.{gained, is_done, is_listed_fairly}
 use Rattle.link_actions.specs.ResponseActions.Readers.{SeesReaders, SeesReadersBut, attempt_on}
@@ -47,8 +47,8 @@ use Rattle.link_actions.specs.StreamActions.Laws.{Comes, Ends, Follows, IsOn, is
 use Rattle.link_actions.specs.StreamActions.Sees.{SeesStreams, response_of}
 
 -- what a link with these readers makes of a whole frame
-abbrev pub reported : Wire → List TagReader → FrameSeen → Reported
-reported w readers f = told_all (record { link = record { wire = (told w f).wire; rest = [] }; readers = readers }) (told w f).news
+abbrev pub frame_reported : Wire → List TagReader → FrameSeen → Reported
+frame_reported w readers f = reported_all (record { link = record { wire = (reported w f).wire; rest = [] }; readers = readers }) (reported w f).news
 
 -- how many bytes of the link were read with it. (A count of 64 bits stays at its last number.)
 abbrev pub seen_at : ReadFrame → ℕ
@@ -64,7 +64,7 @@ pub record IsEnded (l : Link) (s : Seen) (w : Wire) (g : ℕ → Line) (readers 
   pub readers_are : SeesReadersBut a.place l s readers
 
 -- of a frame of its stream: what is reported is what the response gained, and where it goes on, link and readers agree with the session, and no reset was queued by it
-pub record IsReported (l : Link) (s : Seen) (m : Link) (u : Seen) (t : Reported) (g : ℕ → Line) (n seen : ℕ) (a : Attempt) : Type 0 where
+pub record IsFrameReported (l : Link) (s : Seen) (m : Link) (u : Seen) (t : Reported) (g : ℕ → Line) (n seen : ℕ) (a : Attempt) : Type 0 where
   pub news : t.news ≡ gained a.place seen (response_of l s n a) (response_of m u n a)
   pub goes : is_done (response_of m u n a) ≡ false → SeesStreams m u t.link.link.wire g × SeesReaders m u t.link.readers
   pub unreset : is_done (response_of m u n a) ≡ false → t.link.link.wire.queue.fresh ≡ 0
@@ -75,7 +75,7 @@ abbrev pub FramesAreReported : (Link → Seen → ReadFrame → Attempt → Type
 FramesAreReported Case =
     (l : Link) (s : Seen) (w : Wire) (g : ℕ → Line) (readers : List TagReader) (r : ReadFrame) (a : Attempt) → SeesStreams l s w g → SeesReaders l s readers
     → Comes l w r → IsOn l s r.frame.stream a → l.over ≡ None → Case l s r a
-    → IsReported l s (read_link r l s) (frame_read l.number r s) (reported w readers r.frame) g r.frame.stream (seen_at r) a
+    → IsFrameReported l s (read_link r l s) (frame_read l.number r s) (frame_reported w readers r.frame) g r.frame.stream (seen_at r) a
 
 -- DATA (RFC 9113, section 6.1; gRPC over HTTP/2, "Length-Prefixed-Message")
 abbrev pub DataIsReported : Type 0
@@ -113,7 +113,7 @@ abbrev pub QuietIsReported : Type 0
 QuietIsReported =
     (l : Link) (s : Seen) (w : Wire) (g : ℕ → Line) (readers : List TagReader) (r : ReadFrame) → SeesStreams l s w g → SeesReaders l s readers → Comes l w r
     → IsApart r.frame w
-    → IsQuiet l s (read_link r l s) (frame_read l.number r s) w (told w r.frame).wire (reported w readers r.frame) readers r.frame
+    → IsQuiet l s (read_link r l s) (frame_read l.number r s) w (reported w r.frame).wire (frame_reported w readers r.frame) readers r.frame
 
 -- GOAWAY (section 6.8): of each stream that it leaves out, the lowest first, and then of each attempt that waits for a stream, it is reported that the server
 -- did not see it; and, the first time, that the link takes no further attempt. These have no reader any more, and the others keep theirs. (In which order
@@ -132,19 +132,19 @@ pub record IsRetired (l : Link) (s : Seen) (w : Wire) (v : Wire) (t : Reported) 
   pub wire : t.link.link.wire ≡ v
   pub gone : (k : ℕ) → is_one_of (places_of (left_out l s last) ++ places_of (waiting_on l s)) k ≡ true → reader_in k t.link.readers ≡ None
   pub kept : (k : ℕ) → is_one_of (places_of (left_out l s last) ++ places_of (waiting_on l s)) k ≡ false → reader_in k t.link.readers ≡ reader_in k readers
-  pub distinct : AreDistinct (map (λ r. r.tag) t.link.readers)
+  pub distinct : NumbersAreDistinct (map (λ r. r.tag) t.link.readers)
 
 abbrev pub GoawaysAreReported : Type 0
 GoawaysAreReported =
     (l : Link) (s : Seen) (w : Wire) (g : ℕ → Line) (readers : List TagReader) (r : ReadFrame) → SeesStreams l s w g → SeesReaders l s readers → Comes l w r
     → (r.frame.kind == goaway_type) ≡ true
-    → IsRetired l s w (told w r.frame).wire (reported w readers r.frame) readers (last_stream r.frame.payload) (seen_at r)
+    → IsRetired l s w (reported w r.frame).wire (frame_reported w readers r.frame) readers (last_stream r.frame.payload) (seen_at r)
 
 -- an attempt that ended has no reader
 abbrev pub EndsKeepReaders : Type 0
 EndsKeepReaders =
     (l : Link) (s : Seen) (t : ℕ) (a : Attempt) (e : RowEnd) (readers : List TagReader) → SeesReadersBut t l s readers → numbered s.attempts t ≡ Some a
-    → ArePlaced 1 s.attempts → SeesReaders l (attempt_ended t e s) readers
+    → AttemptsStandInPlace 1 s.attempts → SeesReaders l (attempt_ended t e s) readers
 
 -- an attempt that is cut off loses its reader, and is still to end in the session
 abbrev pub CutsTakeReaders : Type 0
@@ -170,7 +170,7 @@ ReadersAreLeft =
 -- the code of a reset stays once the attempt has ended, when the session looks at what its end saw: all that passed on the link was read by then
 abbrev pub CodesStay : Type 0
 CodesStay =
-    (l : Link) (s : Seen) (n : ℕ) (a : Attempt) (e : RowEnd) → numbered s.links l.number ≡ Some l → IsOn l s n a → ArePlaced 1 s.attempts → e.seen ≡ read_bytes l
+    (l : Link) (s : Seen) (n : ℕ) (a : Attempt) (e : RowEnd) → numbered s.links l.number ≡ Some l → IsOn l s n a → AttemptsStandInPlace 1 s.attempts → e.seen ≡ read_bytes l
     → list_all (is_read_by (read_bytes l)) l.traffic ≡ true
     → code_to_reset (with_end e a) e n (attempt_ended a.place e s) l ≡ code_to_reset a e n s l
 

@@ -19,12 +19,12 @@ abbrev pub with_end : Line → Line
 with_end line = record line { finished = true }
 
 -- the lines of the attempts of one call are changed, and the others are not
-abbrev pub AreChangedOf : ℕ → (Line → Line) → Seen → (ℕ → Line) → (ℕ → Line) → Type 0
-AreChangedOf call f s g h =
+abbrev pub LinesAreChangedOf : ℕ → (Line → Line) → Seen → (ℕ → Line) → (ℕ → Line) → Type 0
+LinesAreChangedOf call f s g h =
     (a : Attempt) → numbered s.attempts a.place ≡ Some a → h a.place ≡ (if a.row.call == call then f (g a.place) else g a.place)
 
 -- each line has the header list that its request has in a session
-abbrev pub AreOfMoment : Seen → Seen → (ℕ → Line) → (ℕ → Line) → Type 0
-AreOfMoment s t g h =
+abbrev pub LinesAreOfMoment : Seen → Seen → (ℕ → Line) → (ℕ → Line) → Type 0
+LinesAreOfMoment s t g h =
     (a : Attempt) (c : Call) → numbered s.attempts a.place ≡ Some a → call_of a s ≡ Some c
     → h a.place ≡ record (g a.place) { fields = fields_of_request c.request s.setup.authority (time_left c t) a.row.number }

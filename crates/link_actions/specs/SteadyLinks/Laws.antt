@@ -1,9 +1,9 @@
--- What leaves the agreement of a link: whatever it cannot tell. So what is done to calls and their attempts between a frame and the ends that it brings
+-- What leaves the agreement of a link: whatever it cannot distinguish. So what is done to calls and their attempts between a frame and the ends that it brings
 -- leaves it: a commitment, the end of a call, an attempt that is made, a message that is accepted, a request that is finished.
 -- Example: the head of attempt 1 comes on stream 1 of link 1, where attempt 2 of the same call has stream 3. The frame is read; the call is committed to attempt
 -- 1; and link 1 still agrees, with both streams. Then attempt 2 ends, cut off, and its stream is reset.
 -- The laws, in the order of this file:
--- 1. Whatever a link cannot tell.
+-- 1. Whatever a link cannot distinguish.
 -- 2. A commitment; the end of a call; an attempt that is made.
 -- 3. An attempt that is placed on the link.
 -- 4. What is noted of the entry; a message that is accepted; a request that is finished; an entry that opens.
@@ -16,7 +16,7 @@ use Rattle.grpc_base.specs.declared.event.Event.TheVariants as event
 use Rattle.h2_link.specs.Feeds.{Line}
 use Rattle.h2_link.specs.Steps.{placed}
 use Rattle.h2_link.specs.Wire.{Wire}
-use Rattle.link_actions.specs.Sees.{ArePlaced, IsFed}
+use Rattle.link_actions.specs.Sees.{AttemptsStandInPlace, IsFed}
 use Rattle.session_actions.specs.CallEnds.{call_ended}
 use Rattle.session_actions.specs.Commitments.{call_committed}
 use Rattle.session_actions.specs.Deliveries.{message_accepted, request_finished}
@@ -28,21 +28,21 @@ use Rattle.session_actions.specs.declared.attempt.Attempt.{Attempt}
 use Rattle.session_actions.specs.declared.entry.OpenEntry.{OpenEntry}
 use Rattle.session_actions.specs.declared.link.Link.{Link}
 use Rattle.session_actions.specs.declared.seen.Seen.{Seen}
-use Rattle.link_actions.specs.SteadyLinks.Fed.{AreChangedOf, AreOfMoment, with_end, with_message_left}
-use Rattle.link_actions.specs.SteadyLinks.Same.{AreSameOn, IsSameLink}
+use Rattle.link_actions.specs.SteadyLinks.Fed.{LinesAreChangedOf, LinesAreOfMoment, with_end, with_message_left}
+use Rattle.link_actions.specs.SteadyLinks.Same.{LinesAreSameOn, IsSameLink}
 use Rattle.link_actions.specs.StreamActions.Sees.{SeesBut, SeesStreams}
 
--- a link agrees with any session that it cannot tell from one with which it agrees, fed with these lines
+-- a link agrees with any session that it cannot distinguish from one with which it agrees, fed with these lines
 abbrev pub LinksAreLeft : Type 0
 LinksAreLeft =
     (l m : Link) (s t : Seen) (w : Wire) (g h : ℕ → Line) → SeesStreams l s w g → IsSameLink l m → numbered t.links m.number ≡ Some m
-    → AreSameOn l m s t h s.attempts t.attempts → ArePlaced 1 t.attempts → SeesStreams m t w h
+    → LinesAreSameOn l m s t h s.attempts t.attempts → AttemptsStandInPlace 1 t.attempts → SeesStreams m t w h
 
 -- so it does but for an attempt whose end is about to happen
 abbrev pub LinksAreLeftBut : Type 0
 LinksAreLeftBut =
     (k : ℕ) (l m : Link) (s t : Seen) (w : Wire) (g h : ℕ → Line) → SeesBut k l s w g → IsSameLink l m → numbered t.links m.number ≡ Some m
-    → AreSameOn l m s t h s.attempts t.attempts → ArePlaced 1 t.attempts → SeesBut k m t w h
+    → LinesAreSameOn l m s t h s.attempts t.attempts → AttemptsStandInPlace 1 t.attempts → SeesBut k m t w h
 
 -- what leaves each link that agrees, and each that agrees but for one attempt
 pub record IsLeft (s t : Seen) : Type 0 where
@@ -81,17 +81,17 @@ EntriesLeaveLinks = (s : Seen) (f : OpenEntry → OpenEntry) → ((o : OpenEntry
 -- a message of a call is accepted: each of its attempts is fed with it too, after what it had (gRPC over HTTP/2, "Length-Prefixed-Message")
 abbrev pub MessagesFeed : Type 0
 MessagesFeed =
-    (l : Link) (s : Seen) (w : Wire) (g h : ℕ → Line) (call : ℕ) (message : List ℕ) → SeesStreams l s w g → AreChangedOf call (with_message_left message) s g h
+    (l : Link) (s : Seen) (w : Wire) (g h : ℕ → Line) (call : ℕ) (message : List ℕ) → SeesStreams l s w g → LinesAreChangedOf call (with_message_left message) s g h
     → SeesStreams l (message_accepted call (event.Send call message) s) w h
 
 -- the request of a call is finished: nothing is added any more to what its attempts are fed with (gRPC over HTTP/2, "Requests": EOS)
 abbrev pub FinishesFeed : Type 0
 FinishesFeed =
-    (l : Link) (s : Seen) (w : Wire) (g h : ℕ → Line) (call : ℕ) → SeesStreams l s w g → AreChangedOf call with_end s g h
+    (l : Link) (s : Seen) (w : Wire) (g h : ℕ → Line) (call : ℕ) → SeesStreams l s w g → LinesAreChangedOf call with_end s g h
     → SeesStreams l (request_finished call s) w h
 
 -- an entry opens: its moment is the later one, and the header list of each request names the time that is left then (gRPC over HTTP/2, "Requests": Timeout)
 abbrev pub MomentsFeed : Type 0
 MomentsFeed =
-    (l : Link) (s : Seen) (w : Wire) (g h : ℕ → Line) (posted word : ℕ) (e : Event) → SeesStreams l s w g → AreOfMoment s (opened posted word e s) g h
+    (l : Link) (s : Seen) (w : Wire) (g h : ℕ → Line) (posted word : ℕ) (e : Event) → SeesStreams l s w g → LinesAreOfMoment s (opened posted word e s) g h
     → SeesStreams l (opened posted word e s) w h

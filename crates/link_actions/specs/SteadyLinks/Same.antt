@@ -1,4 +1,4 @@
--- When a link cannot tell two sessions apart: what passed on it and what it owes is the same; its attempts have the same places and streams, the same limits
+-- When a link cannot distinguish two sessions: what passed on it and what it owes is the same; its attempts have the same places and streams, the same limits
 -- for their responses, and are fed right; and the attempts that came since are on no link.
 -- Example: a call is committed to its attempt 1, which has stream 1 of link 1. The attempt is noted to be committed, and its call has one mark more. Link 1
 -- looks at neither.
@@ -27,7 +27,7 @@ pub record IsSameOn (l m : Link) (s t : Seen) (h : ℕ → Line) (a b : Attempt)
   pub limit : is_outstanding_on l a ≡ true → limit_of_attempt b t ≡ limit_of_attempt a s
   pub fed : is_outstanding_on l a ≡ true → IsFed m t b (h b.place)
 
-abbrev pub AreSameOn : Link → Link → Seen → Seen → (ℕ → Line) → List Attempt → List Attempt → Type 0
-AreSameOn l m s t h [] bs = AllByRecursion (λ b. b.row.placed ≡ None) bs
-AreSameOn l m s t h (a ∷ as_) (b ∷ bs) = IsSameOn l m s t h a b × AreSameOn l m s t h as_ bs
-AreSameOn l m s t h (a ∷ as_) [] = ⊥
+abbrev pub LinesAreSameOn : Link → Link → Seen → Seen → (ℕ → Line) → List Attempt → List Attempt → Type 0
+LinesAreSameOn l m s t h [] bs = AllByRecursion (λ b. b.row.placed ≡ None) bs
+LinesAreSameOn l m s t h (a ∷ as_) (b ∷ bs) = IsSameOn l m s t h a b × LinesAreSameOn l m s t h as_ bs
+LinesAreSameOn l m s t h (a ∷ as_) [] = ⊥

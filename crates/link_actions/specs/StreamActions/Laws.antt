@@ -10,7 +10,7 @@
 -- 5. RST_STREAM; WINDOW_UPDATE of the stream; PRIORITY and frames of unknown types.
 -- 6. GOAWAY.
 -- 7. Ends are those of the session's responses, with the codes that it resets streams with: DATA, header blocks, RST_STREAM, GOAWAY.
--- Still to be stated: other ends of one frame (those that are cut off), whose resets go by stream; that what is told of a response is what came of it (a
+-- Still to be stated: other ends of one frame (those that are cut off), whose resets go by stream; that what is reported of a response is what came of it (a
 -- head, messages, the end with its code and metadata); breaks in mid-piece; a link that is lost.
 use Rattle.std.specs.List.{AllByRecursion}
 use Rattle.std.specs.Prelude.{Bool, List, None, Option, Some, [], false, filter, if◌then◌else◌, is_none, is_some, length, map, nat_lt, not, true, ℕ, ◌&&◌, ◌+◌, ◌==◌, ◌<◌, ◌^◌, ◌||◌, ◌∷◌, ◌≡◌}
@@ -24,12 +24,12 @@ use Rattle.h2_link.specs.Drains.{next}
 use Rattle.h2_link.specs.Drains.{Sent as Sending}
 use Rattle.h2_link.specs.Feeds.{Line}
 use Rattle.h2_link.specs.LinkErrors as link
-use Rattle.h2_link.specs.Steps.{cut, told}
+use Rattle.h2_link.specs.Steps.{cut, reported}
 use Rattle.h2_link.specs.Wire.{Wire, fresh_wire}
 use Rattle.link_actions.specs.Laws.{IsApart, with_owed, with_written}
 use Rattle.lb_policy.specs.Table.{is_one_of}
 use Rattle.link_actions.specs.ResetActions.Ahead.{SeesAhead}
-use Rattle.link_actions.specs.Sees.{ArePlaced, by_stream, outgoing_of}
+use Rattle.link_actions.specs.Sees.{AttemptsStandInPlace, by_stream, outgoing_of}
 use Rattle.session_actions.specs.AttemptEnds.{attempt_ended, code_to_reset, stream_reset}
 use Rattle.session_actions.specs.Links.{has_written_end, read_bytes, stream_number}
 use Rattle.session_actions.specs.Reading.{frame_read_by, initial_window, is_of_block, is_outstanding_on, largest_window, outstanding_on, raised, used}
@@ -67,13 +67,13 @@ read_link r l s = with_frame_read r (owed_for r.frame l s) l
 abbrev pub NewLinksAgree : Type 0
 NewLinksAgree =
     (number sub : ℕ) (t s : Seen) (g : ℕ → Line) → numbered s.links number ≡ Some (new_link number sub t) → outstanding_on (new_link number sub t) s ≡ []
-    → ArePlaced 1 s.attempts → SeesStreams (new_link number sub t) s fresh_wire g
+    → AttemptsStandInPlace 1 s.attempts → SeesStreams (new_link number sub t) s fresh_wire g
 
 -- a frame that is of no attempt's stream, and no GOAWAY, leaves the responses (RFC 9113, section 5.1)
 abbrev pub QuietFramesKeepStreams : Type 0
 QuietFramesKeepStreams =
     (l : Link) (s : Seen) (w : Wire) (g : ℕ → Line) (r : ReadFrame) → SeesStreams l s w g → Comes l w r → IsApart r.frame w
-    → SeesStreams (read_link r l s) (frame_read l.number r s) (told w r.frame).wire g
+    → SeesStreams (read_link r l s) (frame_read l.number r s) (reported w r.frame).wire g
 
 -- and so does whatever is written; a stream that is opened has no response yet (RFC 9113, section 5.1.1)
 pub record IsWrittenOn (l : Link) (s : Seen) (x : Sending) : Type 0 where
@@ -92,7 +92,7 @@ pub data Then : Type 0 where
   Ends : Option ℕ → Then
 
 -- so link and session agree again, once the attempt has ended, but that the link is ahead by that reset, if any. Once the session queues it too they agree
--- (`reset_actions`). (Where its response has an end though the link goes on, as by a message that breaks a rule, the link is told to cut it off: that is the
+-- (`reset_actions`). (Where its response has an end though the link goes on, as by a message that breaks a rule, the link is asked to cut it off: that is the
 -- next law.)
 abbrev pub reset_for : ℕ → Option ℕ → List (ℕ × ℕ)
 reset_for n None = []
@@ -125,7 +125,7 @@ DataIsRead =
     (l : Link) (s : Seen) (w : Wire) (g : ℕ → Line) (r : ReadFrame) (a : Attempt) → SeesStreams l s w g → Comes l w r → IsOn l s r.frame.stream a
     → (r.frame.kind == data_type) ≡ true
     → Follows (read_link r l s) (frame_read l.number r s) a r.frame.stream
-    (data_then (is_some (response_of l s r.frame.stream a).head) (has_written_end r.frame.stream l) (has_flag r.frame.flags end_stream_flag)) (told w r.frame).wire g
+    (data_then (is_some (response_of l s r.frame.stream a).head) (has_written_end r.frame.stream l) (has_flag r.frame.flags end_stream_flag)) (reported w r.frame).wire g
 
 -- a whole header block on an attempt's stream (RFC 9113, section 8.1; gRPC over HTTP/2, "Responses"). With END_STREAM it is trailers, which end the attempt;
 -- its stream is reset with CANCEL unless the client has ended it too. Without, it is the head, of which there is one; interim responses before it are passed
@@ -142,21 +142,21 @@ BlocksAreRead =
     (l : Link) (s : Seen) (w : Wire) (g : ℕ → Line) (r : ReadFrame) (a : Attempt) (b : Block) → SeesStreams l s w g → Comes l w r → IsOn l s r.frame.stream a
     → r.block ≡ Some b
     → Follows (read_link r l s) (frame_read l.number r s) a r.frame.stream
-    (block_then (is_some (response_of l s r.frame.stream a).head) (http_status b.fields) b.ends (has_written_end r.frame.stream l)) (told w r.frame).wire g
+    (block_then (is_some (response_of l s r.frame.stream a).head) (http_status b.fields) b.ends (has_written_end r.frame.stream l)) (reported w r.frame).wire g
 
 -- a frame of a header block that is not its last: the attempt goes on (RFC 9113, section 4.3)
 abbrev pub PartsAreRead : Type 0
 PartsAreRead =
     (l : Link) (s : Seen) (w : Wire) (g : ℕ → Line) (r : ReadFrame) (a : Attempt) → SeesStreams l s w g → Comes l w r → IsOn l s r.frame.stream a
     → is_of_block r.frame ≡ true → r.block ≡ None
-    → Follows (read_link r l s) (frame_read l.number r s) a r.frame.stream GoesOn (told w r.frame).wire g
+    → Follows (read_link r l s) (frame_read l.number r s) a r.frame.stream GoesOn (reported w r.frame).wire g
 
 -- RST_STREAM ends the attempt, and nothing is reset (RFC 9113, section 6.4)
 abbrev pub ResetsAreRead : Type 0
 ResetsAreRead =
     (l : Link) (s : Seen) (w : Wire) (g : ℕ → Line) (r : ReadFrame) (a : Attempt) → SeesStreams l s w g → Comes l w r → IsOn l s r.frame.stream a
     → (r.frame.kind == rst_stream_type) ≡ true
-    → Follows (read_link r l s) (frame_read l.number r s) a r.frame.stream (Ends None) (told w r.frame).wire g
+    → Follows (read_link r l s) (frame_read l.number r s) a r.frame.stream (Ends None) (reported w r.frame).wire g
 
 -- WINDOW_UPDATE of the stream gives it more to send; one of nothing, or above the largest window, ends the attempt, whose stream is reset with
 -- PROTOCOL_ERROR or FLOW_CONTROL_ERROR (RFC 9113, sections 6.9 and 6.9.1)
@@ -171,7 +171,7 @@ UpdatesAreRead =
     (l : Link) (s : Seen) (w : Wire) (g : ℕ → Line) (r : ReadFrame) (a : Attempt) → SeesStreams l s w g → Comes l w r → IsOn l s r.frame.stream a
     → (r.frame.kind == window_update_type) ≡ true
     → Follows (read_link r l s) (frame_read l.number r s) a r.frame.stream
-    (update_then (increment r.frame.payload) (is_too_wide l r.frame.stream (increment r.frame.payload))) (told w r.frame).wire g
+    (update_then (increment r.frame.payload) (is_too_wide l r.frame.stream (increment r.frame.payload))) (reported w r.frame).wire g
 
 -- PRIORITY, and a frame of a type that is not known, are passed over (RFC 9113, sections 4.1 and 5.3.2)
 abbrev pub is_passed_over : FrameSeen → Bool
@@ -182,7 +182,7 @@ is_passed_over f =
 abbrev pub OthersAreRead : Type 0
 OthersAreRead =
     (l : Link) (s : Seen) (w : Wire) (g : ℕ → Line) (r : ReadFrame) (a : Attempt) → SeesStreams l s w g → Comes l w r → IsOn l s r.frame.stream a
-    → is_passed_over r.frame ≡ true → Follows (read_link r l s) (frame_read l.number r s) a r.frame.stream GoesOn (told w r.frame).wire g
+    → is_passed_over r.frame ≡ true → Follows (read_link r l s) (frame_read l.number r s) a r.frame.stream GoesOn (reported w r.frame).wire g
 
 -- several attempts end, one after the other; and streams are reset with CANCEL, one after the other
 abbrev pub ended_all : List (ℕ × RowEnd) → Seen → Seen
@@ -220,7 +220,7 @@ GoawaysAreRead =
     (l : Link) (s : Seen) (w : Wire) (g : ℕ → Line) (r : ReadFrame) (ends : List (ℕ × RowEnd)) → SeesStreams l s w g → Comes l w r
     → (r.frame.kind == goaway_type) ≡ true → AreAllOf l s (last_stream r.frame.payload) ends
     → SeesStreams (with_owed (left_resets (left_out l s (last_stream r.frame.payload))) (read_link r l s))
-    (reset_all (left_out l s (last_stream r.frame.payload)) (ended_all ends (frame_read l.number r s))) (told w r.frame).wire g
+    (reset_all (left_out l s (last_stream r.frame.payload)) (ended_all ends (frame_read l.number r s))) (reported w r.frame).wire g
 
 -- an end that the link acts on is the session's own: the response has it, and its stream is reset with the code by which the session resets it (gRPC over
 -- HTTP/2, "Errors"; RFC 9113, sections 5.4.2, 6.4 and 8.1)

@@ -19,31 +19,31 @@ abbrev pub response_of : Link → Seen → ℕ → Attempt → Response
 response_of l s stream a = response_in (limit_of_attempt a s) stream l.traffic
 
 -- the response on a stream of the link goes on, and the link knows whether its head came
-pub record IsHeard (l : Link) (s : Seen) (x : LiveStream) (a : Attempt) : Type 0 where
+pub record IsReceived (l : Link) (s : Seen) (x : LiveStream) (a : Attempt) : Type 0 where
   pub head : x.head ≡ is_some (response_of l s x.number a).head
   pub goes : (response_of l s x.number a).end ≡ None
   pub small : (response_of l s x.number a).large ≡ false
 
-abbrev pub AreHeard : Link → Seen → List LiveStream → List Attempt → Type 0
-AreHeard l s [] [] = Unit {0}
-AreHeard l s (x ∷ xs) (a ∷ others) = IsHeard l s x a × AreHeard l s xs others
-AreHeard l s _ _ = ⊥
+abbrev pub ResponsesAreReceived : Link → Seen → List LiveStream → List Attempt → Type 0
+ResponsesAreReceived l s [] [] = Unit {0}
+ResponsesAreReceived l s (x ∷ xs) (a ∷ others) = IsReceived l s x a × ResponsesAreReceived l s xs others
+ResponsesAreReceived l s _ _ = ⊥
 
 -- of all but the attempt at a place
-abbrev pub AreHeardBut : ℕ → Link → Seen → List LiveStream → List Attempt → Type 0
-AreHeardBut t l s [] [] = Unit {0}
-AreHeardBut t l s (x ∷ xs) (a ∷ others) = ((x.tag == t) ≡ false → IsHeard l s x a) × AreHeardBut t l s xs others
-AreHeardBut t l s _ _ = ⊥
+abbrev pub ResponsesAreReceivedBut : ℕ → Link → Seen → List LiveStream → List Attempt → Type 0
+ResponsesAreReceivedBut t l s [] [] = Unit {0}
+ResponsesAreReceivedBut t l s (x ∷ xs) (a ∷ others) = ((x.tag == t) ≡ false → IsReceived l s x a) × ResponsesAreReceivedBut t l s xs others
+ResponsesAreReceivedBut t l s _ _ = ⊥
 
 -- nothing came yet
-pub record IsUnheard (p : Response) : Type 0 where
+pub record IsUnreceived (p : Response) : Type 0 where
   pub head : p.head ≡ None
   pub goes : p.end ≡ None
   pub small : p.large ≡ false
 
 -- nothing came on streams that are still to be opened. (After GOAWAY none is.)
-abbrev pub AreUnheard : Link → ℕ → Type 0
-AreUnheard l opened = (limit k : ℕ) → 2 * opened < k → is_retiring l ≡ false → IsUnheard (response_in limit k l.traffic)
+abbrev pub NewStreamsAreUnreceived : Link → ℕ → Type 0
+NewStreamsAreUnreceived l opened = (limit k : ℕ) → 2 * opened < k → is_retiring l ≡ false → IsUnreceived (response_in limit k l.traffic)
 
 -- the header block that is begun is on a stream that was opened
 abbrev pub IsBegun : Option Block → ℕ → Type 0
@@ -53,13 +53,13 @@ IsBegun (Some b) opened = b.number ≤ 2 * opened
 -- a link of a session, with the responses on its streams
 pub record SeesStreams (l : Link) (s : Seen) (w : Wire) (g : ℕ → Line) : Type 0 where
   pub sees : SeesLink l s w g
-  pub heard : AreHeard l s w.live (by_stream (streaming_on l s))
-  pub unheard : AreUnheard l w.opened
+  pub handled : ResponsesAreReceived l s w.live (by_stream (streaming_on l s))
+  pub unreceived : NewStreamsAreUnreceived l w.opened
   pub begun : IsBegun w.block w.opened
 
 -- but for the attempt at a place, whose response has an end, or a message that is too long: its end is the next thing that happens
 pub record SeesBut (t : ℕ) (l : Link) (s : Seen) (w : Wire) (g : ℕ → Line) : Type 0 where
   pub sees : SeesLink l s w g
-  pub heard : AreHeardBut t l s w.live (by_stream (streaming_on l s))
-  pub unheard : AreUnheard l w.opened
+  pub handled : ResponsesAreReceivedBut t l s w.live (by_stream (streaming_on l s))
+  pub unreceived : NewStreamsAreUnreceived l w.opened
   pub begun : IsBegun w.block w.opened

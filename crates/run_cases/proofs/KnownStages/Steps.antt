@@ -1,8 +1,8 @@
 -- Clock and wishes, of a session that began new: its links are joined to subchannels and attempts.
-use Rattle.channel_actions.proofs.Links.Greeted.Along.{greeted_along, greeted_begins, links_are_joined}
+use Rattle.channel_actions.proofs.Links.Prefaced.Along.{prefaced_along, prefaced_begins, links_are_joined}
 use Rattle.channel_actions.proofs.KeptSessions.Along.{kept_begins}
 use Rattle.channel_actions.specs.FewCalls.Reached.{IsReached}
-use Rattle.channel_actions.specs.GreetedLinks.Joined.{AreJoined}
+use Rattle.channel_actions.specs.PrefacedLinks.Joined.{PrefacedLinksAreJoined}
 use Rattle.channel_actions.specs.OwnLinks.Laws.{OwnAlong, OwnBegins}
 use Rattle.run_cases.specs.KnownStages.Laws.{WishSteps}
 use Rattle.attempt_cases.specs.NetSettlings.Laws.{ClocksAreParts, WishesAreParts}
@@ -10,10 +10,10 @@ use Rattle.call_cases.specs.SettlingActions.Steps.{ClockSteps}
 use Rattle.session_actions.specs.Sessions.{new_session}
 use Rattle.session_actions.specs.declared.seen.Seen.{Seen}
 
-joined : OwnBegins → OwnAlong → (s : Seen) → IsReached s → AreJoined s
+joined : OwnBegins → OwnAlong → (s : Seen) → IsReached s → PrefacedLinksAreJoined s
 joined begins along s r =
     links_are_joined s (along r.actions (new_session r.setup) s (kept_begins r.setup) (begins r.setup) r.does)
-    (greeted_along r.actions (new_session r.setup) s (kept_begins r.setup) (greeted_begins r.setup) r.does)
+    (prefaced_along r.actions (new_session r.setup) s (kept_begins r.setup) (prefaced_begins r.setup) r.does)
 
 pub clock_steps : OwnBegins → OwnAlong → ClocksAreParts → ClockSteps
 clock_steps begins along clocks x o s h sound at point =

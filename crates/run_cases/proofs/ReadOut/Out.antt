@@ -6,7 +6,7 @@ use Rattle.channel_actions.proofs.KeptSessions.Lists.{all_more}
 use Rattle.channel_actions.proofs.Stamps.{counted_at}
 use Rattle.channel_actions.specs.KeptSessions.Kept.{IsKept}
 use Rattle.run_cases.proofs.ReadOut.Shown.{event_link, nothing_by, partial_by, read_fair, shows_by}
-use Rattle.run_cases.proofs.ReadOut.Tells.{ReadsNext, arrives_on, tells_next}
+use Rattle.run_cases.proofs.ReadOut.ReportsThat.{ReadsNext, arrives_on, reports_next}
 use Rattle.frame_cases.specs.PieceWalks.Points.{IsReadFairly}
 use Rattle.run_cases.specs.ReadOut.Laws.{LinksAreReadOut}
 use Rattle.grpc_base.specs.declared.event.Event.TheVariants as event
@@ -438,7 +438,7 @@ free_closing n o s at settled =
 -- each action
 out_in : (o : OpenEntry) (a : Action) (s : Seen) → s.current ≡ Some o → IsKept s → IsNext a s → AreOut s → AreOut (after_in o a s)
 out_in o action.EntryCloses s at in_order next k =
-    free_out s (entry_made o s) (λ n. free_closing n o s at (tells_next s o action.EntryCloses refl at next)) (closed_was o s) k
+    free_out s (entry_made o s) (λ n. free_closing n o s at (reports_next s o action.EntryCloses refl at next)) (closed_was o s) k
 out_in o action.CallBegins s at in_order next k = kept s (call_begun_by o.event s) (begun_now o.event s) k
 out_in o (action.EventRefused why) s at in_order next k =
     free_out s (replied (reply.Refused why) s) (λ n. free_event n o s at (begins_at_event s o (action.EventRefused why) refl refl at next)) (still s) k
@@ -446,12 +446,12 @@ out_in o (action.EventAnswered r) s at in_order next k =
     free_out s (replied r s) (λ n. free_event n o s at (begins_at_event s o (action.EventAnswered r) refl refl at next)) (still s) k
 out_in o (action.ItemTaken call item) s at in_order next k =
     free_out s (item_taken call item s) (λ n. free_event n o s at (begins_at_event s o (action.ItemTaken call item) refl refl at next)) (still s) k
-out_in o action.SettlingBegins s at in_order next k = settled_now o s at (tells_next s o action.SettlingBegins refl at next) k
+out_in o action.SettlingBegins s at in_order next k = settled_now o s at (reports_next s o action.SettlingBegins refl at next) k
 out_in o (action.DialTaken sub again until) s at in_order next k = kept s (after_in o (action.DialTaken sub again until) s) (dial_by again until s (numbered s.subs sub)) k
 out_in o (action.LinkUp sub) s at in_order next k = up_now sub s k
 out_in o (action.BytesArrive link) s at in_order next k =
-    come_now link o s at (begins_at_event s o (action.BytesArrive link) refl refl at next) (tells_next s o (action.BytesArrive link) refl at next) k
-out_in o (action.FrameRead link r) s at in_order next k = read_by link r o s at in_order (tells_next s o (action.FrameRead link r) refl at next) k (numbered s.links link) refl
+    come_now link o s at (begins_at_event s o (action.BytesArrive link) refl refl at next) (reports_next s o (action.BytesArrive link) refl at next) k
+out_in o (action.FrameRead link r) s at in_order next k = read_by link r o s at in_order (reports_next s o (action.FrameRead link r) refl at next) k (numbered s.links link) refl
 out_in o (action.FrameWritten link x) s at in_order next k =
     kept s (after_in o (action.FrameWritten link x) s)
     (written_in Stays small (λ stream n v. aside v (with_attempt (with_stream stream) n v) refl refl)

@@ -1,6 +1,6 @@
 -- What the bytes of a link show next: a frame, which is whole; nothing, where they are a part of one.
 use Rattle.frame_cases.proofs.QuietFrames.Read.{IsReading, listed_more, reads_so}
-use Rattle.run_cases.proofs.ReadOut.Tells.{arrives_on}
+use Rattle.run_cases.proofs.ReadOut.ReportsThat.{arrives_on}
 use Rattle.frame_cases.specs.PieceWalks.Points.{IsReadFairly}
 use Rattle.grpc_base.specs.ErrorCodes.{enhance_your_calm}
 use Rattle.grpc_base.specs.declared.event.Event.TheVariants as event

@@ -17,7 +17,7 @@ use Rattle.channel_core.specs.States.{StateSeen}
 use Rattle.channel_core.specs.declared.state.slots.CallSlot.{CallSlot}
 use Rattle.grpc_base.specs.Kinds.{KindsSeen, has_kind}
 use Rattle.grpc_base.specs.declared.kind.Kind.TheVariants as kind
-use Rattle.net_actions.specs.Laws.{AreFewDials}
+use Rattle.net_actions.specs.Laws.{DialCountsFit}
 use Rattle.policy_rack.specs.Kinds.{kinds_of}
 use Rattle.session_actions.specs.Configs.{kinds_in}
 use Rattle.session_actions.specs.Entries.{entry}
@@ -41,13 +41,13 @@ links_known links x s known =
     below_on : (n m : ℕ) → n ≤ m → m ≤ 1048576 → n < 4294967295
     below_on n m e f = omega (arith, e, f)
 
-few_dials : (n : ℕ) (subs : List Subchannel) → n ≤ 1048576 → list_all (λ (b : Subchannel). nat_le b.dials n) subs ≡ true → AreFewDials subs
+few_dials : (n : ℕ) (subs : List Subchannel) → n ≤ 1048576 → list_all (λ (b : Subchannel). nat_le b.dials n) subs ≡ true → DialCountsFit subs
 few_dials n [] less e = tt
 few_dials n (b ∷ subs) less e =
     let both = and_parts (nat_le b.dials n) (list_all (λ (c : Subchannel). nat_le c.dials n) subs) e in
     let one : b.dials ≤ n = leb-true b.dials n both.0 in (omega (arith, one, less), few_dials n subs less both.1)
 
-pub dials_known : DialsAreFew → (x : StateSeen) (s : Seen) → IsKnown x s → AreFewDials s.subs
+pub dials_known : DialsAreFew → (x : StateSeen) (s : Seen) → IsKnown x s → DialCountsFit s.subs
 dials_known dials x s known =
     few_dials (entry s) s.subs (entries_known x s known) (dials known.reached.setup known.reached.actions s known.reached.does)
 

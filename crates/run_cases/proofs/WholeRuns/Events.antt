@@ -1,6 +1,6 @@
 -- Each event is answered, by its kind.
 use Rattle.channel_actions.specs.Agrees.{Agrees}
-use Rattle.channel_actions.specs.Calm.{IsAt}
+use Rattle.channel_actions.specs.Quiescent.{IsAt}
 use Rattle.channel_actions.specs.Cases.{DoesSomething, does_something}
 use Rattle.channel_actions.specs.Known.{IsKnown}
 use Rattle.channel_actions.specs.FewCalls.Laws.{DialsAreFew, LinksAreFew}

@@ -3,14 +3,14 @@ use Rattle.event_cases.specs.FewStreams.Laws.{AttemptsAreFew}
 use Rattle.std.proofs.Common.{◌<◌, ℕ, arith, length}
 use Rattle.channel_actions.specs.SoundBuffers.Held.{BuffersAreSound}
 use Rattle.channel_actions.specs.SoundBuffers.Laws.{EachHoldsSoundly}
-use Rattle.channel_actions.specs.SoundCalls.Sound.{AreSoundCalls}
+use Rattle.channel_actions.specs.SoundCalls.Sound.{CallsAreSound}
 use Rattle.end_cases.specs.AttemptEnds.Ends.{AreHeld}
 use Rattle.end_cases.specs.AttemptEnds.Runs.{RunsOfSessions}
 use Rattle.event_cases.specs.LostLinks.Laws.{LostLinksAreAnswered}
 use Rattle.run_cases.specs.WholeRuns.Parts.{KnownLossesAreAnswered}
 use Rattle.channel_core.specs.States.{StateSeen}
 
-held_known : EachHoldsSoundly → (x : StateSeen) → AreSoundCalls x → BuffersAreSound x → AreHeld x
+held_known : EachHoldsSoundly → (x : StateSeen) → CallsAreSound x → BuffersAreSound x → AreHeld x
 held_known each x calls buffers number slot at = record { rows_are = (calls.slots number slot at).held; alone = (each x number slot buffers at).alone }
 
 few_by : (n : ℕ) → n < 7696581394432 → n < 18446744073709551615

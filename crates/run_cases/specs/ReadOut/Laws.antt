@@ -1,10 +1,10 @@
 -- Where an entry comes to its event, all that came on its links was read, as far as it shows whole frames: an entry whose event brings bytes reads them before it settles.
--- So a piece that arrives is answered where its frames are heard, with what runs keep.
+-- So a piece that arrives is answered where its frames are handled, with what runs keep.
 -- Example: two frames and 3 bytes of a third arrive. Both are read before the entry settles, and the next entry begins with these 3 bytes unread.
 use Rattle.std.specs.Prelude.{List, Some, ℕ, ◌≡◌}
 use Rattle.channel_actions.specs.Stages.{EventsAnswered}
 use Rattle.run_cases.specs.WholeRuns.Parts.{IsArrival}
-use Rattle.frame_cases.specs.PieceWalks.Laws.{BreaksAreHeard, FramesAreHeard}
+use Rattle.frame_cases.specs.PieceWalks.Laws.{BreaksAreReceived, FramesAreReceived}
 use Rattle.frame_cases.specs.PieceWalks.Points.{IsReadOut}
 use Rattle.session_actions.specs.Sessions.{Does, new_session}
 use Rattle.session_actions.specs.Words.{numbered}
@@ -21,4 +21,4 @@ LinksAreReadOut =
     → (link : ℕ) (l : Link) → numbered s.links link ≡ Some l → IsReadOut l
 
 abbrev pub ArrivalsAreAnswered : Type 0
-ArrivalsAreAnswered = FramesAreHeard → BreaksAreHeard → EventsAnswered IsArrival
+ArrivalsAreAnswered = FramesAreReceived → BreaksAreReceived → EventsAnswered IsArrival

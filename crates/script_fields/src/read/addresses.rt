@@ -22,12 +22,12 @@ pub fn addresses_of(text: &[u8]) -> Result<AddressList, FieldFault>
     let mut count = 0usize;
     let mut rest = Some(text);
     while let Some(items) = rest {
-        let (item, behind) = first_piece(items, b',');
+        let (item, afterwards) = first_piece(items, b',');
         let Some(address) = address_of(item) else {
             return Err(FieldFault::Form);
         };
         count = add(&mut list, count, address);
-        rest = behind;
+        rest = afterwards;
     }
     if count > ADDRESSES {
         return Err(FieldFault::Limit);

@@ -37,15 +37,15 @@ pub fn bytes_of(alloc: Global, text: &[u8]) -> Result<Option<Vec<u8>>, NoMemory>
 {
     let mut bytes = Vec::with_capacity(alloc, text.len() / 2)?;
     let mut rest = text;
-    while let [high, behind @ ..] = rest {
-        let [low, behind @ ..] = behind else {
+    while let [high, afterwards @ ..] = rest {
+        let [low, afterwards @ ..] = afterwards else {
             return Ok(None);
         };
         let Some(byte) = byte_of(*high, *low) else {
             return Ok(None);
         };
         bytes.push(byte)?;
-        rest = behind;
+        rest = afterwards;
     }
     Ok(Some(bytes))
 }

@@ -22,11 +22,11 @@ pub fn meta_of(alloc: Global, text: &[u8]) -> Result<Option<Metadata>, NoMemory>
     }
     let mut rest = Some(text);
     while let Some(items) = rest {
-        let (item, behind) = first_piece(items, b',');
+        let (item, afterwards) = first_piece(items, b',');
         if !push_pair(alloc, &mut meta, item)? {
             return Ok(None);
         }
-        rest = behind;
+        rest = afterwards;
     }
     Ok(Some(meta))
 }

@@ -1,4 +1,4 @@
-// Numbers in decimal digits, with no zero in front of another digit.
+// Numbers in decimal digits, with no zero before another digit.
 ghost use Rattle.std.specs.Prelude.{◌≡◌, ◌≤◌, ◌<◌, ◌↔◌, ◌^◌, ◌++◌, ◌∷◌, ℕ, List, IfSome, IfNone, IsTrue, decimal};
 ghost use Rattle.grpc_base.specs.Numbers.{number_of};
 ghost use Rattle.script_fields.specs.Reading.{SpellsNumber};
@@ -6,7 +6,7 @@ ghost use Rattle.script_fields.specs.Values.{IsNoDigit};
 
 use grpc_base::{is_number, read_number, split_at_byte};
 
-/// Whether this is a number of any length with no zero in front of another digit.
+/// Whether this is a number of any length with no zero before another digit.
 pub fn is_canonical(text: &[u8]) -> bool
     ensures { IsTrue result ↔ SpellsNumber text.now (number_of text.now) }
 {
@@ -41,7 +41,7 @@ pub fn number_within(text: &[u8], most: u64) -> Option<u64>
     Some(number)
 }
 
-/// The number at the front, at most this one, and what stands behind the byte that ends it.
+/// The number at the start, at most this one, and what stands after the byte that ends it.
 pub fn number_before(text: &[u8], byte: u8, most: u64) -> Option<(u64, &[u8])>
     requires { IsNoDigit byte }
     ensures some { IfSome result (λ p. (p.0 ≤ most) × (text.now ≡ decimal p.0 ++ byte ∷ p.1.now)) }

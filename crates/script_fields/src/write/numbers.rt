@@ -4,7 +4,7 @@ ghost use Rattle.script_fields.specs.Spelling.{number_or_dash};
 
 use grpc_base::{NoMemory, append_decimal};
 
-/// Appends a word behind a space.
+/// Appends a word after a space.
 pub fn append_word(out: &mut Vec<u8>, word: &[u8]) -> Result<(), NoMemory>
     ensures { OnOk result (out.new.items ≡ out.old.items ++ 32 ∷ word.now) }
 {
@@ -13,7 +13,7 @@ pub fn append_word(out: &mut Vec<u8>, word: &[u8]) -> Result<(), NoMemory>
     Ok(())
 }
 
-/// Appends a number behind a space.
+/// Appends a number after a space.
 pub fn append_number(out: &mut Vec<u8>, number: u64) -> Result<(), NoMemory>
     ensures { OnOk result (out.new.items ≡ out.old.items ++ 32 ∷ decimal number) }
 {
@@ -21,7 +21,7 @@ pub fn append_number(out: &mut Vec<u8>, number: u64) -> Result<(), NoMemory>
     append_decimal(out, number)
 }
 
-/// Appends a number behind a space, or a dash.
+/// Appends a number after a space, or a dash.
 pub fn append_number_or_dash(out: &mut Vec<u8>, number: Option<u64>) -> Result<(), NoMemory>
     ensures { OnOk result (out.new.items ≡ out.old.items ++ 32 ∷ number_or_dash number) }
 {

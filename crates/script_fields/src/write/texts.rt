@@ -26,7 +26,7 @@ pub fn append_hex_of_word(alloc: Global, out: &mut Vec<u8>, word: u64) -> Result
     append_hex(alloc, out, &word.to_be_bytes())
 }
 
-/// Appends bytes in hex behind a space, a dash where there are none.
+/// Appends bytes in hex after a space, a dash where there are none.
 pub fn append_hex_word(alloc: Global, out: &mut Vec<u8>, bytes: &[u8]) -> Result<(), NoMemory>
     ensures { OnOk result (out.new.items ≡ out.old.items ++ 32 ∷ hex_or_dash bytes.now) }
 {
@@ -37,7 +37,7 @@ pub fn append_hex_word(alloc: Global, out: &mut Vec<u8>, bytes: &[u8]) -> Result
     append_hex(alloc, out, bytes)
 }
 
-/// Appends a text behind a space: what is not visible ASCII is escaped, the empty text is a dash.
+/// Appends a text after a space: what is not visible ASCII is escaped, the empty text is a dash.
 #[tactic(auto, using(crate::proofs::Digits::percent_plain))]
 pub fn append_text(alloc: Global, out: &mut Vec<u8>, text: &[u8]) -> Result<(), NoMemory>
     ensures { OnOk result (out.new.items ≡ out.old.items ++ 32 ∷ percent_text text.now) }
@@ -62,7 +62,7 @@ fn append_escaped(alloc: Global, out: &mut Vec<u8>, text: &[u8]) -> Result<(), N
     Ok(())
 }
 
-/// Appends addresses with commas behind a space, a dash where there are none.
+/// Appends addresses with commas after a space, a dash where there are none.
 pub fn append_addresses(out: &mut Vec<u8>, addresses: &[Address]) -> Result<(), NoMemory>
     ensures { OnOk result (out.new.items ≡ out.old.items ++ 32 ∷ addresses_text addresses.now) }
 {
@@ -87,7 +87,7 @@ fn append_pair(alloc: Global, out: &mut Vec<u8>, pair: &Field) -> Result<(), NoM
     append_hex(alloc, out, pair.value.as_slice())
 }
 
-/// Appends metadata with commas behind a space, a dash where there is none.
+/// Appends metadata with commas after a space, a dash where there is none.
 pub fn append_meta(alloc: Global, out: &mut Vec<u8>, pairs: &[Field]) -> Result<(), NoMemory>
     ensures { OnOk result (out.new.items ≡ out.old.items ++ 32 ∷ meta_text pairs.now) }
 {
@@ -114,7 +114,7 @@ pub fn append_wait(out: &mut Vec<u8>, wait: Option<bool>) -> Result<(), NoMemory
     }
 }
 
-/// Appends a service config in hex behind a space, or a dash.
+/// Appends a service config in hex after a space, or a dash.
 pub fn append_config(
     alloc: Global,
     out: &mut Vec<u8>,

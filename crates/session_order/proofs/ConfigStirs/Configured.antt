@@ -32,8 +32,8 @@ use Rattle.session_order.proofs.Changed.{changed_away, changed_twice, none_each_
 use Rattle.session_order.proofs.Finals.{final_same}
 use Rattle.session_order.proofs.Limits.{code_with, then_same}
 use Rattle.session_order.proofs.Lists.{holds_same}
-use Rattle.session_order.specs.Calm.{IsStill, is_overflowing, is_to_cut, is_to_end, is_to_reset}
-use Rattle.session_order.specs.Stirs.{AreNumbered, stirs}
+use Rattle.session_order.specs.Quiescent.{IsStill, is_overflowing, is_to_cut, is_to_end, is_to_reset}
+use Rattle.session_order.specs.Stirs.{CallsHaveTheirNumbers, stirs}
 use Rattle.session_order.specs.declared.line.Line.{Line}
 use Rattle.session_order.specs.declared.line.Line.TheVariants as line
 use Rattle.session_actions.specs.declared.action.Action.TheVariants as action
@@ -84,7 +84,7 @@ and_off : (b : Bool) → (b && false) ≡ false
 and_off true = refl
 and_off false = refl
 
-module _ (s : Seen) (n : ℕ) (config at : ℕ) (numbers : AreNumbered s) (none : list_any (λ (a : Attempt). a.row.call == n) s.attempts ≡ false) where
+module _ (s : Seen) (n : ℕ) (config at : ℕ) (numbers : CallsHaveTheirNumbers s) (none : list_any (λ (a : Attempt). a.row.call == n) s.attempts ≡ false) where
   abbrev now_one : Call → Call
   now_one c = record c { marks = c.marks ++ record { what = mark.Configured; moment = now s } ∷ []; config = Some config; configured = Some at }
 

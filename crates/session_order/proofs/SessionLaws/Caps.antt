@@ -70,17 +70,17 @@ limit configs None = 0
 limit configs (Some q) = limit_by configs q.0 q.1.0
 
 -- a call without a config has no mark of one; with one, it is there
-abbrev IsToldBy : List HeldConfig → Option ℕ → Bool → Type 0
-IsToldBy configs None marked = marked ≡ false
-IsToldBy configs (Some n) marked = is_some (numbered configs n) ≡ true
+abbrev IsReportedBy : List HeldConfig → Option ℕ → Bool → Type 0
+IsReportedBy configs None marked = marked ≡ false
+IsReportedBy configs (Some n) marked = is_some (numbered configs n) ≡ true
 
-abbrev IsTold : List HeldConfig → Option CallKey → Type 0
-IsTold configs None = Unit {0}
-IsTold configs (Some q) = IsToldBy configs q.1.0 q.1.1
+abbrev IsReported : List HeldConfig → Option CallKey → Type 0
+IsReported configs None = Unit {0}
+IsReported configs (Some q) = IsReportedBy configs q.1.0 q.1.1
 
 record IsWithin (rows : List RowKey) (configs : List HeldConfig) (k : ℕ) (o : Option CallKey) : Type 0 where
   few : turns k rows ≤ limit configs o
-  told : IsTold configs o
+  reported : IsReported configs o
 
 abbrev AreWithin : Seen → Type 0
 AreWithin s = (k : ℕ) → IsWithin (map row_key s.attempts) s.configs k (option_map call_key (numbered s.calls k))
@@ -108,7 +108,7 @@ begun_if : (rows : List RowKey) (configs : List HeldConfig) (k : ℕ) (old new :
 begun_if rows configs k old new request (inl e) h = subst (λ (z : Option CallKey). IsWithin rows configs k z) (sym e) h
 begun_if rows configs k old new request (inr p) h =
     let none : IsWithin rows configs k None = subst (λ (z : Option CallKey). IsWithin rows configs k z) p.0 h in
-    subst (λ (z : Option CallKey). IsWithin rows configs k z) (sym p.1) (record { few = none.few; told = refl })
+    subst (λ (z : Option CallKey). IsWithin rows configs k z) (sym p.1) (record { few = none.few; reported = refl })
 
 fresh_key : (s : Seen) (c : Call) (i : ℕ)
     → (option_map call_key (slice_get (s.calls ++ c ∷ []) i) ≡ option_map call_key (slice_get s.calls i))
@@ -141,17 +141,17 @@ config_kept configs x (suc i) e = kept_some configs x i (slice_get configs i) re
 
 read_by : (rows : List RowKey) (configs : List HeldConfig) (x : HeldConfig) (k : ℕ) (request : RequestSeen) (o : Option ℕ) (marked : Bool)
     → IsWithin rows configs k (Some (request, (o, marked))) → IsWithin rows (configs ++ x ∷ []) k (Some (request, (o, marked)))
-read_by rows configs x k request None marked h = record { few = h.few; told = h.told }
+read_by rows configs x k request None marked h = record { few = h.few; reported = h.reported }
 read_by rows configs x k request (Some n) marked h =
-    let same : numbered (configs ++ x ∷ []) n ≡ numbered configs n = config_kept configs x n h.told in
+    let same : numbered (configs ++ x ∷ []) n ≡ numbered configs n = config_kept configs x n h.reported in
     let most : most_by (configs ++ x ∷ []) request n ≡ most_by configs request n =
     ap (λ (z : Option HeldConfig). most_attempts (option_map_or (λ (h : HeldConfig). chosen_for h.config request.path) z no_choice).plan) same in
     let few : turns k rows ≤ most_by configs request n = h.few in
-    record { few = subst (λ (m : ℕ). turns k rows ≤ m) (sym most) few; told = ap is_some same ∙ h.told }
+    record { few = subst (λ (m : ℕ). turns k rows ≤ m) (sym most) few; reported = ap is_some same ∙ h.reported }
 
 read_at : (rows : List RowKey) (configs : List HeldConfig) (x : HeldConfig) (k : ℕ) (o : Option CallKey) → IsWithin rows configs k o
     → IsWithin rows (configs ++ x ∷ []) k o
-read_at rows configs x k None h = record { few = h.few; told = tt }
+read_at rows configs x k None h = record { few = h.few; reported = tt }
 read_at rows configs x k (Some q) h = read_by rows configs x k q.0 q.1.0 q.1.1 h
 
 held_within : (s : Seen) (config : Config) (run : Option ℕ) → AreWithin s → AreWithin (with_config config run s)
@@ -190,7 +190,7 @@ configured_here s call config c here none there h =
     let few : turns call (map row_key s.attempts) ≤ 0 =
     subst (λ (z : Option ℕ). turns call (map row_key s.attempts) ≤ limit_by s.configs c.request z) none old.few in
     subst (λ (z : Option Call). IsWithin (map row_key s.attempts) s.configs call (option_map call_key z)) (sym now_is)
-    (record { few = omega (arith, few); told = there })
+    (record { few = omega (arith, few); reported = there })
 
 configured_away : (s : Seen) (call config k : ℕ) → (k ≡ call → ⊥) → AreWithin s
     → IsWithin (map row_key s.attempts) s.configs k
@@ -285,11 +285,11 @@ more_within rows configs k o q h (inl e) =
     let more : turns k (rows ++ q ∷ []) ≡ turns k rows + one_if (is_turn k q) = count_more (is_turn k) rows q in
     let none : one_if (is_turn k q) ≡ 0 = ap (λ (b : Bool). one_if b) e in
     let few : turns k rows ≤ limit configs o = h.few in
-    record { few = omega (arith, more, none, few); told = h.told }
+    record { few = omega (arith, more, none, few); reported = h.reported }
 more_within rows configs k o q h (inr less) =
     let more : turns k (rows ++ q ∷ []) ≡ turns k rows + one_if (is_turn k q) = count_more (is_turn k) rows q in
     let one : one_if (is_turn k q) ≤ 1 = cond_small (is_turn k q) in
-    record { few = omega (arith, more, one, less); told = h.told }
+    record { few = omega (arith, more, one, less); reported = h.reported }
 
 retried_not : (call number k : ℕ) (sort : RowKind) → sort ≡ kind.Transparent → is_turn k (call, (number, sort)) ≡ false
 retried_not call number k sort e =
@@ -300,10 +300,10 @@ retried_not call number k sort e =
     and_false false = refl
 
 -- the call has a config, of which not all attempts are made
-room_by : (c : Call) (s : Seen) (o : Option ℕ) → c.config ≡ o → IsToldBy s.configs o (is_marked c) → is_marked c ≡ true
+room_by : (c : Call) (s : Seen) (o : Option ℕ) → c.config ≡ o → IsReportedBy s.configs o (is_marked c) → is_marked c ≡ true
     → attempts_made c s < most_attempts (plan_of c s) → attempts_made c s < limit_by s.configs c.request o
-room_by c s None e told marked less = absurd (cc)
-room_by c s (Some n) e told marked less =
+room_by c s None e reported marked less = absurd (cc)
+room_by c s (Some n) e reported marked less =
     let same : most_by s.configs c.request n ≡ most_attempts (plan_of c s) =
     ap (λ (z : Option ℕ). most_attempts (option_map_or (λ (h : HeldConfig). chosen_for h.config c.request.path) (option_and_then (numbered s.configs) z) no_choice).plan)
     (sym e) in
@@ -317,7 +317,7 @@ due_room c s due is here h =
     let own : IsWithin (map row_key s.attempts) s.configs c.number (Some (call_key c)) =
     subst (λ (z : Option Call). IsWithin (map row_key s.attempts) s.configs c.number (option_map call_key z)) here (h c.number) in
     let few : attempts_made c s < most_attempts (plan_of c s) = leb-false (most_attempts (plan_of c s)) (attempts_made c s) parts.1 in
-    let room : attempts_made c s < limit_by s.configs c.request c.config = room_by c s c.config refl own.told marked few in
+    let room : attempts_made c s < limit_by s.configs c.request c.config = room_by c s c.config refl own.reported marked few in
     let count : attempts_made c s ≡ turns c.number (map row_key s.attempts) = turns_made c s in
     subst (λ (z : Option Call). turns c.number (map row_key s.attempts) < limit s.configs (option_map call_key z)) (sym here)
     (subst (λ (m : ℕ). m < limit_by s.configs c.request c.config) count room)
@@ -383,8 +383,8 @@ within_if None (action.AttemptMade call number sort due) s asks place h = h
 within_if o a s asks place h = same_within s (after_if o a s) (same_if o a s (same_self s) refl) h
 
 new_within : (setup : Setup) → AreWithin (new_session setup)
-new_within setup zero = record { few = omega arith; told = tt }
-new_within setup (suc i) = record { few = omega arith; told = tt }
+new_within setup zero = record { few = omega arith; reported = tt }
+new_within setup (suc i) = record { few = omega arith; reported = tt }
 
 runs_within : (actions : List Action) (s t : Seen) → IsInPlace s → AreWithin s → Does actions s t → AreWithin t
 runs_within [] s t place h does = subst (λ (x : Seen). AreWithin x) (sym does) h

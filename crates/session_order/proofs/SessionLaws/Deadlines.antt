@@ -12,8 +12,8 @@ use Rattle.session_actions.specs.declared.call.Call.{Call}
 use Rattle.session_actions.specs.declared.entry.OpenEntry.{OpenEntry}
 use Rattle.session_actions.specs.declared.seen.Seen.{Seen}
 use Rattle.session_order.specs.SessionLaws.Deadlines.{DeadlinesEndCalls, EventsFollowDeadlines}
-use Rattle.session_order.proofs.Calms.{calm_leaves_stage}
-use Rattle.session_order.specs.Calm.{IsCalm}
+use Rattle.session_order.proofs.Quiescence.{quiescence_leaves_stage}
+use Rattle.session_order.specs.Quiescent.{IsQuiescent}
 use Rattle.session_actions.specs.declared.action.Action.TheVariants as action
 use Rattle.grpc_base.specs.declared.event.EndCause.TheVariants as ending
 use Rattle.session_actions.specs.declared.entry.Stage.TheVariants as stage
@@ -67,17 +67,17 @@ abbrev at_event : OpenEntry → Seen → List Call → Option Action
 at_event o s past =
     option_or (option_map (ending_call ending.Deadline) (foremost (is_due_before s) past)) (option_or (event_action o.event s) None)
 
-comes : (o : OpenEntry) (s : Seen) → s.current ≡ Some o → o.stage ≡ stage.Event → IsCalm o s
+comes : (o : OpenEntry) (s : Seen) → s.current ≡ Some o → o.stage ≡ stage.Event → IsQuiescent o s
     → following s ≡ at_event o s (filter (is_past_deadline s) s.calls)
-comes o s now at calm = calm_leaves_stage o s now calm ∙ ap (of_stage o s) at
+comes o s now at quiescent = quiescence_leaves_stage o s now quiescent ∙ ap (of_stage o s) at
 
 or_none : {X : Type 0} (o : Option X) → option_or o None ≡ o
 or_none None = refl
 or_none (Some x) = refl
 
 pub events_follow_deadlines : EventsFollowDeadlines
-events_follow_deadlines o s now at calm none =
-    comes o s now at calm ∙ ap (at_event o s) (filter_none (is_past_deadline s) s.calls none) ∙ or_none (event_action o.event s)
+events_follow_deadlines o s now at quiescent none =
+    comes o s now at quiescent ∙ ap (at_event o s) (filter_none (is_past_deadline s) s.calls none) ∙ or_none (event_action o.event s)
 
 ends_by : (o : OpenEntry) (s : Seen) (past : List Call) → filter (is_past_deadline s) s.calls ≡ past → list_any (is_past_deadline s) s.calls ≡ true
     → following s ≡ at_event o s past
@@ -91,5 +91,5 @@ ends_by o s (z ∷ zs) e some next =
     (c, passes, next)
 
 pub deadlines_end_calls : DeadlinesEndCalls
-deadlines_end_calls o s now at calm some =
-    ends_by o s (filter (is_past_deadline s) s.calls) refl some (comes o s now at calm)
+deadlines_end_calls o s now at quiescent some =
+    ends_by o s (filter (is_past_deadline s) s.calls) refl some (comes o s now at quiescent)

@@ -7,9 +7,9 @@ use Rattle.session_actions.specs.declared.action.Action.TheVariants as action
 use Rattle.session_actions.specs.declared.entry.OpenEntry.{OpenEntry}
 use Rattle.session_actions.specs.declared.seen.Seen.{Seen}
 use Rattle.session_order.specs.Laws.{Leaves}
-use Rattle.session_order.specs.Stirs.{AreNumbered}
+use Rattle.session_order.specs.Stirs.{CallsHaveTheirNumbers}
 
 abbrev pub ConfigsStir : Type 0
 ConfigsStir =
-    (call config : ℕ) (o : OpenEntry) (s : Seen) → s.current ≡ Some o → AreNumbered s → list_any (λ a. a.row.call == call) s.attempts ≡ false
+    (call config : ℕ) (o : OpenEntry) (s : Seen) → s.current ≡ Some o → CallsHaveTheirNumbers s → list_any (λ a. a.row.call == call) s.attempts ≡ false
     → Leaves (action.CallConfigured call config) o s

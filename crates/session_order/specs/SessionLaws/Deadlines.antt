@@ -9,19 +9,19 @@ use Rattle.session_actions.specs.Events.{event_action}
 use Rattle.session_actions.specs.declared.call.Call.{Call}
 use Rattle.session_actions.specs.declared.entry.OpenEntry.{OpenEntry}
 use Rattle.session_actions.specs.declared.seen.Seen.{Seen}
-use Rattle.session_order.specs.Calm.{IsCalm, NoneIs}
+use Rattle.session_order.specs.Quiescent.{IsQuiescent, NoneIs}
 use Rattle.session_actions.specs.declared.action.Action.TheVariants as action
 use Rattle.grpc_base.specs.declared.event.EndCause.TheVariants as ending
 use Rattle.session_actions.specs.declared.entry.Stage.TheVariants as stage
 
--- at its event, and calm, an entry applies it where the deadline of no open call has come
+-- at its event, and quiescent, an entry applies it where the deadline of no open call has come
 abbrev pub EventsFollowDeadlines : Type 0
 EventsFollowDeadlines =
-    (o : OpenEntry) (s : Seen) → s.current ≡ Some o → o.stage ≡ stage.Event → IsCalm o s → NoneIs (is_past_deadline s) s.calls
+    (o : OpenEntry) (s : Seen) → s.current ≡ Some o → o.stage ≡ stage.Event → IsQuiescent o s → NoneIs (is_past_deadline s) s.calls
     → following s ≡ event_action o.event s
 
 -- and else such a call ends
 abbrev pub DeadlinesEndCalls : Type 0
 DeadlinesEndCalls =
-    (o : OpenEntry) (s : Seen) → s.current ≡ Some o → o.stage ≡ stage.Event → IsCalm o s → list_any (is_past_deadline s) s.calls ≡ true
+    (o : OpenEntry) (s : Seen) → s.current ≡ Some o → o.stage ≡ stage.Event → IsQuiescent o s → list_any (is_past_deadline s) s.calls ≡ true
     → (c : Call) × (is_past_deadline s c ≡ true) × (following s ≡ Some (action.CallEnds c.number ending.Deadline))

@@ -3,7 +3,7 @@ use Rattle.attempt_cases.proofs.making_steps.one_is_made.Goals as goal
 
 pub returns : goal.returns
 returns c =
-    one_is_made c.calm_is_exact.ensures.calm c.attempts_stir.ensures c.subchannel_steps_are_actions.ensures.clock c.subchannel_steps_are_actions.ensures.rest
+    one_is_made c.quiescence_is_exact.ensures.quiescent c.attempts_stir.ensures c.subchannel_steps_are_actions.ensures.clock c.subchannel_steps_are_actions.ensures.rest
     c.policy_steps_are_actions.ensures.over c.subchannel_steps_are_actions.ensures.wish c.subchannel_steps_are_actions.ensures.no_wish
     (record {
       calls = c.calls_stay.ensures.all;

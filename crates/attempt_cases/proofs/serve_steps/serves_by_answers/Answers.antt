@@ -15,7 +15,7 @@ returns c =
       timed_out = λ moment s g. record { kept = kept.timed_out moment s g.kept; going = going.timed_out moment s g.kept g.going };
       placed = λ row at s e g. record { kept = kept.placed row at s g.kept; going = going.placed row at s e g.kept g.going };
       failed = λ row moment word s g. record { kept = kept.failed row moment word s g.kept; going = going.failed row moment word s g.kept g.going };
-      heard = λ row told moment word s g. record { kept = kept.heard row told moment word s g.kept; going = going.heard row told moment word s g.kept g.going };
+      handled = λ row reported moment word s g. record { kept = kept.handled row reported moment word s g.kept; going = going.handled row reported moment word s g.kept g.going };
       made = λ moment s g. record { kept = kept.made moment s g.kept; going = going.made moment s g.kept g.going };
       same = λ old new is g. record { kept = kept_same old new is g.kept; going = leaves.going old new is g.going };
       fed = leaves.fed;

@@ -1,5 +1,5 @@
 use Rattle.call_actions.proofs.Dues.{attempts_are_due, hedges_are_tested}
-use Rattle.call_actions.proofs.Told.{hedges_are_withheld, requests_finish}
+use Rattle.call_actions.proofs.Report.{hedges_are_withheld, requests_finish}
 use Rattle.call_actions.proofs.laws.calls_go_on_alike.Goals as goal
 
 pub returns-clause-finished : goal.returns-clause-finished

@@ -20,8 +20,8 @@ returns-clause-timed_out c = kept_timed_out
 pub returns-clause-placed : goal.returns-clause-placed
 returns-clause-placed c = kept_placed
 
-pub returns-clause-heard : goal.returns-clause-heard
-returns-clause-heard c = kept_news
+pub returns-clause-handled : goal.returns-clause-handled
+returns-clause-handled c = kept_news
 
 pub returns-clause-made : goal.returns-clause-made
 returns-clause-made c = kept_due

@@ -20,8 +20,8 @@ returns-clause-placed c = λ row at s e. (moved_placed row at s e).later
 pub returns-clause-failed : goal.returns-clause-failed
 returns-clause-failed c = λ row moment word s. (moved_ended_at row pick_end moment word s).later
 
-pub returns-clause-heard : goal.returns-clause-heard
-returns-clause-heard c = λ row told moment word s. (moved_news row told moment word s).later
+pub returns-clause-handled : goal.returns-clause-handled
+returns-clause-handled c = λ row reported moment word s. (moved_news row reported moment word s).later
 
 pub returns-clause-made : goal.returns-clause-made
 returns-clause-made c = λ moment s. (moved_due moment s).later

@@ -17,8 +17,8 @@ returns-clause-timed_out c = final_timed_out
 pub returns-clause-placed : goal.returns-clause-placed
 returns-clause-placed c = final_placed
 
-pub returns-clause-heard : goal.returns-clause-heard
-returns-clause-heard c = final_news
+pub returns-clause-handled : goal.returns-clause-handled
+returns-clause-handled c = final_news
 
 pub returns-clause-made : goal.returns-clause-made
 returns-clause-made c = final_due

@@ -1,8 +1,8 @@
-use Rattle.call_core.proofs.Delivery.{heard_behind, same_closed, same_configured, same_due, same_ended_at, same_placed, same_sent, same_timed_out, same_too_large}
+use Rattle.call_core.proofs.Delivery.{received_after, same_closed, same_configured, same_due, same_ended_at, same_placed, same_sent, same_timed_out, same_too_large}
 use Rattle.call_core.proofs.laws.messages_come_in_order.Goals as goal
 
 pub returns-clause-message : goal.returns-clause-message
-returns-clause-message c = heard_behind
+returns-clause-message c = received_after
 
 pub returns-clause-configured : goal.returns-clause-configured
 returns-clause-configured c = same_configured

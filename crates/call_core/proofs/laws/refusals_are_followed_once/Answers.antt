@@ -22,8 +22,8 @@ returns-clause-placed c = λ row at s e. chain_placed KeepsRefusal refusal_chain
 pub returns-clause-failed : goal.returns-clause-failed
 returns-clause-failed c = λ row moment word s. chain_ended_at KeepsRefusal refusal_chain row pick_end moment word s
 
-pub returns-clause-heard : goal.returns-clause-heard
-returns-clause-heard c = λ row told moment word s. chain_news KeepsRefusal refusal_chain row told moment word s
+pub returns-clause-handled : goal.returns-clause-handled
+returns-clause-handled c = λ row reported moment word s. chain_news KeepsRefusal refusal_chain row reported moment word s
 
 pub returns-clause-made : goal.returns-clause-made
 returns-clause-made c = λ moment s. chain_due KeepsRefusal refusal_chain moment s

@@ -1,4 +1,4 @@
-use Rattle.call_core.proofs.Marks.{due_as_marked, due_is_made, made_is_due, marked_begun, marked_closed, marked_configured, marked_due, marked_elsewhere, marked_failed, marked_heard, marked_placed, marked_sent, marked_timed}
+use Rattle.call_core.proofs.Marks.{due_as_marked, due_is_made, made_is_due, marked_begun, marked_closed, marked_configured, marked_due, marked_elsewhere, marked_failed, marked_received, marked_placed, marked_sent, marked_timed}
 use Rattle.call_core.proofs.outcomes.hedges_follow_their_marks.Goals as goal
 
 pub returns-clause-due : goal.returns-clause-due
@@ -34,8 +34,8 @@ returns-clause-placed c = marked_placed
 pub returns-clause-failed : goal.returns-clause-failed
 returns-clause-failed c = marked_failed
 
-pub returns-clause-heard : goal.returns-clause-heard
-returns-clause-heard c = marked_heard
+pub returns-clause-handled : goal.returns-clause-handled
+returns-clause-handled c = marked_received
 
 pub returns-clause-made : goal.returns-clause-made
 returns-clause-made c = marked_due

@@ -1,4 +1,4 @@
-use Rattle.call_core.specs.Outstanding.{AreHeld}
+use Rattle.call_core.specs.Outstanding.{RowsAreHeld}
 use Rattle.call_core.specs.Parts.{pick_end}
 use Rattle.call_core.specs.Rows.{IsApart}
 use Rattle.call_core.proofs.Outstanding.{held_elsewhere, held_moves, held_new}
@@ -12,25 +12,25 @@ pub returns-clause-elsewhere : goal.returns-clause-elsewhere
 returns-clause-elsewhere c = held_elsewhere
 
 pub returns-clause-configured : goal.returns-clause-configured
-returns-clause-configured c = λ chosen moment s apart old. moves_configured (λ chosen. Unit {0}) (λ s row told. Unit {0}) (λ moment s t. IsApart s → AreHeld s → AreHeld t) held_moves chosen moment s tt apart old
+returns-clause-configured c = λ chosen moment s apart old. moves_configured (λ chosen. Unit {0}) (λ s row reported. Unit {0}) (λ moment s t. IsApart s → RowsAreHeld s → RowsAreHeld t) held_moves chosen moment s tt apart old
 
 pub returns-clause-sent : goal.returns-clause-sent
-returns-clause-sent c = λ message moment s apart old. moves_sent (λ chosen. Unit {0}) (λ s row told. Unit {0}) (λ moment s t. IsApart s → AreHeld s → AreHeld t) held_moves message moment s apart old
+returns-clause-sent c = λ message moment s apart old. moves_sent (λ chosen. Unit {0}) (λ s row reported. Unit {0}) (λ moment s t. IsApart s → RowsAreHeld s → RowsAreHeld t) held_moves message moment s apart old
 
 pub returns-clause-closed : goal.returns-clause-closed
-returns-clause-closed c = λ why moment s by apart old. moves_closed_by (λ chosen. Unit {0}) (λ s row told. Unit {0}) (λ moment s t. IsApart s → AreHeld s → AreHeld t) held_moves why moment s by apart old
+returns-clause-closed c = λ why moment s by apart old. moves_closed_by (λ chosen. Unit {0}) (λ s row reported. Unit {0}) (λ moment s t. IsApart s → RowsAreHeld s → RowsAreHeld t) held_moves why moment s by apart old
 
 pub returns-clause-timed_out : goal.returns-clause-timed_out
-returns-clause-timed_out c = λ moment s apart old. moves_timed_out (λ chosen. Unit {0}) (λ s row told. Unit {0}) (λ moment s t. IsApart s → AreHeld s → AreHeld t) held_moves moment s apart old
+returns-clause-timed_out c = λ moment s apart old. moves_timed_out (λ chosen. Unit {0}) (λ s row reported. Unit {0}) (λ moment s t. IsApart s → RowsAreHeld s → RowsAreHeld t) held_moves moment s apart old
 
 pub returns-clause-placed : goal.returns-clause-placed
-returns-clause-placed c = λ row at s e apart old. moves_placed (λ chosen. Unit {0}) (λ s row told. Unit {0}) (λ moment s t. IsApart s → AreHeld s → AreHeld t) held_moves row at s e apart old
+returns-clause-placed c = λ row at s e apart old. moves_placed (λ chosen. Unit {0}) (λ s row reported. Unit {0}) (λ moment s t. IsApart s → RowsAreHeld s → RowsAreHeld t) held_moves row at s e apart old
 
 pub returns-clause-failed : goal.returns-clause-failed
-returns-clause-failed c = λ row moment word s apart old. moves_ended_at (λ chosen. Unit {0}) (λ s row told. Unit {0}) (λ moment s t. IsApart s → AreHeld s → AreHeld t) held_moves row pick_end moment word s (λ live e. tt) apart old
+returns-clause-failed c = λ row moment word s apart old. moves_ended_at (λ chosen. Unit {0}) (λ s row reported. Unit {0}) (λ moment s t. IsApart s → RowsAreHeld s → RowsAreHeld t) held_moves row pick_end moment word s (λ live e. tt) apart old
 
-pub returns-clause-heard : goal.returns-clause-heard
-returns-clause-heard c = λ row told moment word s apart old. moves_news (λ chosen. Unit {0}) (λ s row told. Unit {0}) (λ moment s t. IsApart s → AreHeld s → AreHeld t) held_moves row told moment word s (λ tag end live e f. tt) apart old
+pub returns-clause-handled : goal.returns-clause-handled
+returns-clause-handled c = λ row reported moment word s apart old. moves_news (λ chosen. Unit {0}) (λ s row reported. Unit {0}) (λ moment s t. IsApart s → RowsAreHeld s → RowsAreHeld t) held_moves row reported moment word s (λ tag end live e f. tt) apart old
 
 pub returns-clause-made : goal.returns-clause-made
-returns-clause-made c = λ moment s apart old. moves_due (λ chosen. Unit {0}) (λ s row told. Unit {0}) (λ moment s t. IsApart s → AreHeld s → AreHeld t) held_moves moment s apart old
+returns-clause-made c = λ moment s apart old. moves_due (λ chosen. Unit {0}) (λ s row reported. Unit {0}) (λ moment s t. IsApart s → RowsAreHeld s → RowsAreHeld t) held_moves moment s apart old

@@ -14,25 +14,25 @@ pub returns-clause-elsewhere : goal.returns-clause-elsewhere
 returns-clause-elsewhere c = reasons_elsewhere
 
 pub returns-clause-configured : goal.returns-clause-configured
-returns-clause-configured c = λ chosen moment s going numbered apart old. moves_configured (λ chosen. Unit {0}) (λ s row told. Unit {0}) (λ moment s t. IsGoing s.call → IsNumbered s → IsApart s → HasReasons s → HasReasons t) reasons_moves chosen moment s tt going numbered apart old
+returns-clause-configured c = λ chosen moment s going numbered apart old. moves_configured (λ chosen. Unit {0}) (λ s row reported. Unit {0}) (λ moment s t. IsGoing s.call → IsNumbered s → IsApart s → HasReasons s → HasReasons t) reasons_moves chosen moment s tt going numbered apart old
 
 pub returns-clause-sent : goal.returns-clause-sent
-returns-clause-sent c = λ message moment s going numbered apart old. moves_sent (λ chosen. Unit {0}) (λ s row told. Unit {0}) (λ moment s t. IsGoing s.call → IsNumbered s → IsApart s → HasReasons s → HasReasons t) reasons_moves message moment s going numbered apart old
+returns-clause-sent c = λ message moment s going numbered apart old. moves_sent (λ chosen. Unit {0}) (λ s row reported. Unit {0}) (λ moment s t. IsGoing s.call → IsNumbered s → IsApart s → HasReasons s → HasReasons t) reasons_moves message moment s going numbered apart old
 
 pub returns-clause-closed : goal.returns-clause-closed
-returns-clause-closed c = λ why moment s by going numbered apart old. moves_closed_by (λ chosen. Unit {0}) (λ s row told. Unit {0}) (λ moment s t. IsGoing s.call → IsNumbered s → IsApart s → HasReasons s → HasReasons t) reasons_moves why moment s by going numbered apart old
+returns-clause-closed c = λ why moment s by going numbered apart old. moves_closed_by (λ chosen. Unit {0}) (λ s row reported. Unit {0}) (λ moment s t. IsGoing s.call → IsNumbered s → IsApart s → HasReasons s → HasReasons t) reasons_moves why moment s by going numbered apart old
 
 pub returns-clause-timed_out : goal.returns-clause-timed_out
-returns-clause-timed_out c = λ moment s going numbered apart old. moves_timed_out (λ chosen. Unit {0}) (λ s row told. Unit {0}) (λ moment s t. IsGoing s.call → IsNumbered s → IsApart s → HasReasons s → HasReasons t) reasons_moves moment s going numbered apart old
+returns-clause-timed_out c = λ moment s going numbered apart old. moves_timed_out (λ chosen. Unit {0}) (λ s row reported. Unit {0}) (λ moment s t. IsGoing s.call → IsNumbered s → IsApart s → HasReasons s → HasReasons t) reasons_moves moment s going numbered apart old
 
 pub returns-clause-placed : goal.returns-clause-placed
-returns-clause-placed c = λ row at s e going numbered apart old. moves_placed (λ chosen. Unit {0}) (λ s row told. Unit {0}) (λ moment s t. IsGoing s.call → IsNumbered s → IsApart s → HasReasons s → HasReasons t) reasons_moves row at s e going numbered apart old
+returns-clause-placed c = λ row at s e going numbered apart old. moves_placed (λ chosen. Unit {0}) (λ s row reported. Unit {0}) (λ moment s t. IsGoing s.call → IsNumbered s → IsApart s → HasReasons s → HasReasons t) reasons_moves row at s e going numbered apart old
 
 pub returns-clause-failed : goal.returns-clause-failed
-returns-clause-failed c = λ row moment word s going numbered apart old. moves_ended_at (λ chosen. Unit {0}) (λ s row told. Unit {0}) (λ moment s t. IsGoing s.call → IsNumbered s → IsApart s → HasReasons s → HasReasons t) reasons_moves row pick_end moment word s (λ live e. tt) going numbered apart old
+returns-clause-failed c = λ row moment word s going numbered apart old. moves_ended_at (λ chosen. Unit {0}) (λ s row reported. Unit {0}) (λ moment s t. IsGoing s.call → IsNumbered s → IsApart s → HasReasons s → HasReasons t) reasons_moves row pick_end moment word s (λ live e. tt) going numbered apart old
 
-pub returns-clause-heard : goal.returns-clause-heard
-returns-clause-heard c = λ row told moment word s going numbered apart old. moves_news (λ chosen. Unit {0}) (λ s row told. Unit {0}) (λ moment s t. IsGoing s.call → IsNumbered s → IsApart s → HasReasons s → HasReasons t) reasons_moves row told moment word s (λ tag end live e f. tt) going numbered apart old
+pub returns-clause-handled : goal.returns-clause-handled
+returns-clause-handled c = λ row reported moment word s going numbered apart old. moves_news (λ chosen. Unit {0}) (λ s row reported. Unit {0}) (λ moment s t. IsGoing s.call → IsNumbered s → IsApart s → HasReasons s → HasReasons t) reasons_moves row reported moment word s (λ tag end live e f. tt) going numbered apart old
 
 pub returns-clause-made : goal.returns-clause-made
-returns-clause-made c = λ moment s going numbered apart old. moves_due (λ chosen. Unit {0}) (λ s row told. Unit {0}) (λ moment s t. IsGoing s.call → IsNumbered s → IsApart s → HasReasons s → HasReasons t) reasons_moves moment s going numbered apart old
+returns-clause-made c = λ moment s going numbered apart old. moves_due (λ chosen. Unit {0}) (λ s row reported. Unit {0}) (λ moment s t. IsGoing s.call → IsNumbered s → IsApart s → HasReasons s → HasReasons t) reasons_moves moment s going numbered apart old

@@ -212,10 +212,10 @@ module _ (f : Attempt → Attempt) (waits : (a : Attempt) → is_unfollowed (f a
 -- a new attempt
 past_more : (attempts : List Attempt) (a : Attempt) → past attempts ≤ past (attempts ++ a ∷ [])
 past_more [] a = omega arith
-past_more (x ∷ attempts) a = front_on (one_past x) (past attempts) (past (attempts ++ a ∷ [])) (past_more attempts a)
+past_more (x ∷ attempts) a = prefix_on (one_past x) (past attempts) (past (attempts ++ a ∷ [])) (past_more attempts a)
   where
-    front_on : (n m k : ℕ) → m ≤ k → n + m ≤ n + k
-    front_on n m k e = omega (arith, e)
+    prefix_on : (n m k : ℕ) → m ≤ k → n + m ≤ n + k
+    prefix_on n m k e = omega (arith, e)
 
 pending_more : (attempts : List Attempt) (a : Attempt) (n : ℕ) (k : Ask) (o : Option Attempt) → numbered attempts k.row ≡ o → pending attempts n k ≤ pending (attempts ++ a ∷ []) n k
 pending_more attempts a n k None e =
@@ -415,11 +415,11 @@ asking_along follow (a ∷ actions) s t in_order k does =
 -- attempts that wait no more are attempts
 past_few : (attempts : List Attempt) → past attempts ≤ length attempts
 past_few [] = itself 0
-past_few (a ∷ attempts) = front_on (is_unfollowed a) (past attempts) (length attempts) (past_few attempts)
+past_few (a ∷ attempts) = prefix_on (is_unfollowed a) (past attempts) (length attempts) (past_few attempts)
   where
-    front_on : (b : Bool) (n m : ℕ) → n ≤ m → (if b then 0 else 1) + n ≤ suc m
-    front_on true n m e = omega (arith, e)
-    front_on false n m e = omega (arith, e)
+    prefix_on : (b : Bool) (n m : ℕ) → n ≤ m → (if b then 0 else 1) + n ≤ suc m
+    prefix_on true n m e = omega (arith, e)
+    prefix_on false n m e = omega (arith, e)
 
 pub asks_are_few : PicksFollowState → AsksAreFew
 asks_are_few follow setup actions s does =

@@ -121,19 +121,19 @@ abbrev Unbegun : Option Action → Type 0
 Unbegun None = Unit {0}
 Unbegun (Some a) = is_begin a ≡ false
 
-narrow : (a : Action) → is_of_stage a ≡ false → is_begin a ≡ false
-narrow action.CallBegins e = absurd (cc)
-narrow (action.DialTaken sub again until) e = absurd (cc)
-narrow (action.LinkUp sub) e = absurd (cc)
-narrow (action.BytesArrive link) e = absurd (cc)
-narrow (action.EventRefused why) e = absurd (cc)
-narrow (action.EventAnswered r) e = absurd (cc)
-narrow (action.ItemTaken call item) e = absurd (cc)
-narrow a e = refl
+restricted : (a : Action) → is_of_stage a ≡ false → is_begin a ≡ false
+restricted action.CallBegins e = absurd (cc)
+restricted (action.DialTaken sub again until) e = absurd (cc)
+restricted (action.LinkUp sub) e = absurd (cc)
+restricted (action.BytesArrive link) e = absurd (cc)
+restricted (action.EventRefused why) e = absurd (cc)
+restricted (action.EventAnswered r) e = absurd (cc)
+restricted (action.ItemTaken call item) e = absurd (cc)
+restricted a e = refl
 
 unbegun_of : (o : Option Action) → Never o → Unbegun o
 unbegun_of None n = tt
-unbegun_of (Some a) n = narrow a n
+unbegun_of (Some a) n = restricted a n
 
 unbegun_or : (o p : Option Action) → Unbegun o → Unbegun p → Unbegun (option_or o p)
 unbegun_or None p f g = g

@@ -39,8 +39,8 @@ abbrev pub bringing : Option OpenEntry → ℕ
 bringing None = 0
 bringing (Some o) = brought o.event
 
-abbrev pub heard : Seen → ℕ
-heard s = length s.entries + done s.current
+abbrev pub handled : Seen → ℕ
+handled s = length s.entries + done s.current
 
 abbrev pub total : Seen → ℕ
 total s = came s.entries + come s.current
@@ -54,19 +54,19 @@ is_dialled n b = nat_le b.dials n
 abbrev pub is_filled : ℕ → Link → Bool
 is_filled n l = nat_le (length l.received) n
 
--- what a change keeps: no link more, and no subchannel and no link above any bound under which they were; and what was heard only grows
+-- what a change keeps: no link more, and no subchannel and no link above any bound under which they were; and what was handled only grows
 pub record Tallies (s t : Seen) : Type 0 where
   pub links : length t.links ≤ length s.links
   pub dials : (n : ℕ) → list_all (is_dialled n) s.subs ≡ true → list_all (is_dialled n) t.subs ≡ true
   pub received : (n : ℕ) → list_all (is_filled n) s.links ≡ true → list_all (is_filled n) t.links ≡ true
-  pub heard_more : heard s ≤ heard t
+  pub received_more : handled s ≤ handled t
   pub total_more : total s ≤ total t
   pub whole_less : whole t ≤ whole s
 
 -- what holds of every session
 pub record IsTallied (s : Seen) : Type 0 where
-  pub links : length s.links ≤ heard s
-  pub dials : list_all (is_dialled (heard s)) s.subs ≡ true
+  pub links : length s.links ≤ handled s
+  pub dials : list_all (is_dialled (handled s)) s.subs ≡ true
   pub received : list_all (is_filled (total s)) s.links ≡ true
   pub within : whole s ≤ 268435456
 
@@ -94,8 +94,8 @@ filled_more n m links less e = all_wide (is_filled n) (is_filled m) (λ l f. wid
 -- so what holds of every session is kept
 pub kept : (s t : Seen) → Tallies s t → IsTallied s → IsTallied t
 kept s t c k = record {
-  links = less_on (length t.links) (length s.links) (heard t) c.links (less_on (length s.links) (heard s) (heard t) k.links c.heard_more);
-  dials = c.dials (heard t) (dialled_more (heard s) (heard t) s.subs c.heard_more k.dials);
+  links = less_on (length t.links) (length s.links) (handled t) c.links (less_on (length s.links) (handled s) (handled t) k.links c.received_more);
+  dials = c.dials (handled t) (dialled_more (handled s) (handled t) s.subs c.received_more k.dials);
   received = c.received (total t) (filled_more (total s) (total t) s.links c.total_more k.received);
   within = less_on (whole t) (whole s) 268435456 c.whole_less k.within;
 }
@@ -105,18 +105,18 @@ joined s t u c d = record {
   links = less_on (length u.links) (length t.links) (length s.links) d.links c.links;
   dials = λ n e. d.dials n (c.dials n e);
   received = λ n e. d.received n (c.received n e);
-  heard_more = less_on (heard s) (heard t) (heard u) c.heard_more d.heard_more;
+  received_more = less_on (handled s) (handled t) (handled u) c.received_more d.received_more;
   total_more = less_on (total s) (total t) (total u) c.total_more d.total_more;
   whole_less = less_on (whole u) (whole t) (whole s) d.whole_less c.whole_less;
 }
 
 -- where subchannels and links are as before
-on : (s t : Seen) → t.subs ≡ s.subs → t.links ≡ s.links → heard s ≤ heard t → total s ≤ total t → whole t ≤ whole s → Tallies s t
+on : (s t : Seen) → t.subs ≡ s.subs → t.links ≡ s.links → handled s ≤ handled t → total s ≤ total t → whole t ≤ whole s → Tallies s t
 on s t subs links more bytes fewer = record {
   links = same_less (length t.links) (length s.links) (sym (ap length links));
   dials = λ n e. ap (list_all (is_dialled n)) subs ∙ e;
   received = λ n e. ap (list_all (is_filled n)) links ∙ e;
-  heard_more = more;
+  received_more = more;
   total_more = bytes;
   whole_less = fewer;
 }
@@ -160,7 +160,7 @@ pub entered : (f : OpenEntry → OpenEntry) → ((o : OpenEntry) → (f o).event
     → Tallies s (record s { current = option_map f s.current })
 entered f event_same same s =
     on s (record s { current = option_map f s.current }) refl refl
-    (same_less (heard s) (length s.entries + done (option_map f s.current)) (ap (λ (n : ℕ). length s.entries + n) (done_same f same s.current)))
+    (same_less (handled s) (length s.entries + done (option_map f s.current)) (ap (λ (n : ℕ). length s.entries + n) (done_same f same s.current)))
     (same_less (total s) (came s.entries + come (option_map f s.current)) (ap (λ (n : ℕ). came s.entries + n) (come_same f event_same same s.current)))
     (same_less (came s.entries + bringing (option_map f s.current)) (whole s) (sym (ap (λ (n : ℕ). came s.entries + n) (bringing_same f event_same s.current))))
 
@@ -175,7 +175,7 @@ applied f event_same past s =
 pub beside : (s t : Seen) → t.entries ≡ s.entries → t.current ≡ s.current → t.subs ≡ s.subs → t.links ≡ s.links → Tallies s t
 beside s t entries current subs links =
     on s t subs links
-    (same_less (heard s) (heard t) (ap (λ (es : List Entry). length es + done t.current) entries ∙ ap (λ (c : Option OpenEntry). length s.entries + done c) current))
+    (same_less (handled s) (handled t) (ap (λ (es : List Entry). length es + done t.current) entries ∙ ap (λ (c : Option OpenEntry). length s.entries + done c) current))
     (same_less (total s) (total t) (ap (λ (es : List Entry). came es + come t.current) entries ∙ ap (λ (c : Option OpenEntry). came s.entries + come c) current))
     (same_less (whole t) (whole s) (sym (ap (λ (es : List Entry). came es + bringing t.current) entries ∙ ap (λ (c : Option OpenEntry). came s.entries + bringing c) current)))
 
@@ -189,7 +189,7 @@ link_now f same n s = record {
   links = same_less (length (changed f n s.links)) (length s.links) (sym (long_by f n s.links (numbered s.links n)));
   dials = λ m e. e;
   received = λ m e. all_changed (is_filled m) f n s.links e (λ l there g. ap (λ (bytes : List ℕ). nat_le (length bytes) m) (same l) ∙ g);
-  heard_more = itself (heard s);
+  received_more = itself (handled s);
   total_more = itself (total s);
   whole_less = itself (whole s);
 }
@@ -199,7 +199,7 @@ subs_now f less n s = record {
   links = itself (length s.links);
   dials = λ m e. all_changed (is_dialled m) f n s.subs e (λ b there g. le-leb (f b).dials m (less_on (f b).dials b.dials m (less b) (leb-true b.dials m g)));
   received = λ m e. e;
-  heard_more = itself (heard s);
+  received_more = itself (handled s);
   total_more = itself (total s);
   whole_less = itself (whole s);
 }

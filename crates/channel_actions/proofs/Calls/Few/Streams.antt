@@ -2,13 +2,13 @@
 use Rattle.attempt_ledger.specs.declared.row.Placed.{Placed}
 use Rattle.attempt_ledger.specs.declared.row.RowKind.{RowKind}
 use Rattle.channel_actions.proofs.Changes.{Small, asked_in, noted_now, placed_in, read_in, small_in, sub_now, taken_in}
-use Rattle.channel_actions.proofs.Links.Greeted.Along.{greeted_begins, greeted_stays}
+use Rattle.channel_actions.proofs.Links.Prefaced.Along.{prefaced_begins, prefaced_stays}
 use Rattle.channel_actions.proofs.KeptSessions.Along.{kept_begins, kept_stays}
 use Rattle.channel_actions.proofs.KeptSessions.Lists.{all_at, all_changed, all_each, all_filter, all_get, all_mapped, all_more, all_wide, own_number}
 use Rattle.channel_actions.proofs.Streams.Own.Along.{frames_are_sendable}
 use Rattle.channel_actions.proofs.Streams.Own.Frames.{control_by, counted, is_opening, opening, total}
 use Rattle.channel_actions.specs.FewCalls.Laws.{StreamsAreOfAttempts, is_streaming}
-use Rattle.channel_actions.specs.GreetedLinks.Greeted.{AreGreeted}
+use Rattle.channel_actions.specs.PrefacedLinks.Prefaced.{LinksArePrefaced}
 use Rattle.channel_actions.specs.KeptSessions.Kept.{IsKept}
 use Rattle.grpc_base.specs.declared.address.Address.{Address}
 use Rattle.grpc_base.specs.declared.event.Event.TheVariants as event
@@ -130,10 +130,10 @@ module _ (f : Attempt → Attempt) (has : (a : Attempt) → is_some a.row.stream
 
 more_last : (attempts : List Attempt) (a : Attempt) → streamed attempts ≤ streamed (attempts ++ a ∷ [])
 more_last [] a = omega arith
-more_last (x ∷ attempts) a = front_on (one_with x) (streamed attempts) (streamed (attempts ++ a ∷ [])) (more_last attempts a)
+more_last (x ∷ attempts) a = prefix_on (one_with x) (streamed attempts) (streamed (attempts ++ a ∷ [])) (more_last attempts a)
   where
-    front_on : (n m k : ℕ) → m ≤ k → n + m ≤ n + k
-    front_on n m k e = omega (arith, e)
+    prefix_on : (n m k : ℕ) → m ≤ k → n + m ≤ n + k
+    prefix_on n m k e = omega (arith, e)
 
 -- one link, changed
 link_now : (f : Link → Link) → ((l : Link) → length (opened_streams (f l)) ≡ length (opened_streams l)) → (n : ℕ) (s : Seen) → Opens s (with_link f n s)
@@ -334,11 +334,11 @@ module _ (l : Link) (s : Seen) (in_order : IsKept s) (k : AreOpened s) where
   frame_written sent.Preface e = finish sent.Preface l.number s s.attempts k (no_more s.attempts 0 refl)
   frame_written (sent.Frame f) e = kind_written f (f.kind == headers_type) refl e
 
-written_by : (link : ℕ) (x : Sent) (s : Seen) → IsKept s → AreGreeted s → IsNext (action.FrameWritten link x) s → AreOpened s → (o : Option Link) → numbered s.links link ≡ o
+written_by : (link : ℕ) (x : Sent) (s : Seen) → IsKept s → LinksArePrefaced s → IsNext (action.FrameWritten link x) s → AreOpened s → (o : Option Link) → numbered s.links link ≡ o
     → AreOpened (option_map_or (frame_written_on x s) o s)
-written_by link x s in_order greeted next k None got = k
-written_by link x s in_order greeted next k (Some l) got =
-    frame_written l s in_order k x (sent_for l s x (all_at (λ (q : Link). list_all is_control q.owed) s.links link l in_order.queued got) (frames_are_sendable s link x l in_order greeted next got))
+written_by link x s in_order prefaced next k None got = k
+written_by link x s in_order prefaced next k (Some l) got =
+    frame_written l s in_order k x (sent_for l s x (all_at (λ (q : Link). list_all is_control q.owed) s.links link l in_order.queued got) (frames_are_sendable s link x l in_order prefaced next got))
 
 -- what events alone do
 begun_now : (e : Event) (s : Seen) → Opens s (call_begun_by e s)
@@ -389,34 +389,34 @@ closed_now o s = record {
 }
 
 -- each action
-opened_in : (o : OpenEntry) (a : Action) (s : Seen) → IsKept s → AreGreeted s → IsNext a s → AreOpened s → AreOpened (after_in o a s)
-opened_in o action.EntryCloses s in_order greeted next k = kept s (entry_made o s) (closed_now o s) k
-opened_in o action.CallBegins s in_order greeted next k = kept s (call_begun_by o.event s) (begun_now o.event s) k
-opened_in o (action.DialTaken sub again until) s in_order greeted next k = kept s (after_in o (action.DialTaken sub again until) s) (dial_by again until s (numbered s.subs sub)) k
-opened_in o (action.LinkUp sub) s in_order greeted next k = kept s (link_up sub s) (up_now sub s) k
-opened_in o (action.BytesArrive link) s in_order greeted next k = kept s (after_in o (action.BytesArrive link) s) (come_now o.event link s) k
-opened_in o action.SettlingBegins s in_order greeted next k = k
-opened_in o (action.PickRequested row generation answer) s in_order greeted next k =
+opened_in : (o : OpenEntry) (a : Action) (s : Seen) → IsKept s → LinksArePrefaced s → IsNext a s → AreOpened s → AreOpened (after_in o a s)
+opened_in o action.EntryCloses s in_order prefaced next k = kept s (entry_made o s) (closed_now o s) k
+opened_in o action.CallBegins s in_order prefaced next k = kept s (call_begun_by o.event s) (begun_now o.event s) k
+opened_in o (action.DialTaken sub again until) s in_order prefaced next k = kept s (after_in o (action.DialTaken sub again until) s) (dial_by again until s (numbered s.subs sub)) k
+opened_in o (action.LinkUp sub) s in_order prefaced next k = kept s (link_up sub s) (up_now sub s) k
+opened_in o (action.BytesArrive link) s in_order prefaced next k = kept s (after_in o (action.BytesArrive link) s) (come_now o.event link s) k
+opened_in o action.SettlingBegins s in_order prefaced next k = k
+opened_in o (action.PickRequested row generation answer) s in_order prefaced next k =
     kept s (after_in o (action.PickRequested row generation answer) s) (asked_in Opens small (λ ask v. aside v (record v { asks = v.asks ++ ask ∷ [] }) refl refl) row generation answer s) k
-opened_in o (action.AttemptPlaced row on_link) s in_order greeted next k =
+opened_in o (action.AttemptPlaced row on_link) s in_order prefaced next k =
     kept s (after_in o (action.AttemptPlaced row on_link) s) (placed_in Opens small placed_now row on_link s) k
-opened_in o (action.FrameRead link r) s in_order greeted next k =
+opened_in o (action.FrameRead link r) s in_order prefaced next k =
     kept s (after_in o (action.FrameRead link r) s) (read_in Opens small (λ q frames n v. link_now (with_frame_read q frames) (read_same q frames) n v) link r s) k
-opened_in o (action.FrameWritten link x) s in_order greeted next k = written_by link x s in_order greeted next k (numbered s.links link) refl
-opened_in o (action.EventRefused why) s in_order greeted next k = kept s (replied (reply.Refused why) s) (replies (reply.Refused why) s) k
-opened_in o (action.EventAnswered r) s in_order greeted next k = kept s (replied r s) (replies r s) k
-opened_in o (action.ItemTaken call item) s in_order greeted next k = kept s (item_taken call item s) (taken_in Opens small replies call item s) k
-opened_in o a s in_order greeted next k = kept s (after_in o a s) (small_in Opens small o a s refl) k
+opened_in o (action.FrameWritten link x) s in_order prefaced next k = written_by link x s in_order prefaced next k (numbered s.links link) refl
+opened_in o (action.EventRefused why) s in_order prefaced next k = kept s (replied (reply.Refused why) s) (replies (reply.Refused why) s) k
+opened_in o (action.EventAnswered r) s in_order prefaced next k = kept s (replied r s) (replies r s) k
+opened_in o (action.ItemTaken call item) s in_order prefaced next k = kept s (item_taken call item s) (taken_in Opens small replies call item s) k
+opened_in o a s in_order prefaced next k = kept s (after_in o a s) (small_in Opens small o a s refl) k
 
-opened_if : (o : Option OpenEntry) (a : Action) (s : Seen) → IsKept s → AreGreeted s → IsNext a s → AreOpened s → AreOpened (after_if o a s)
-opened_if (Some o) a s in_order greeted next k = opened_in o a s in_order greeted next k
-opened_if None (action.EntryOpens posted word e) s in_order greeted next k = k
-opened_if None a s in_order greeted next k = k
+opened_if : (o : Option OpenEntry) (a : Action) (s : Seen) → IsKept s → LinksArePrefaced s → IsNext a s → AreOpened s → AreOpened (after_if o a s)
+opened_if (Some o) a s in_order prefaced next k = opened_in o a s in_order prefaced next k
+opened_if None (action.EntryOpens posted word e) s in_order prefaced next k = k
+opened_if None a s in_order prefaced next k = k
 
-opened_along : (actions : List Action) (s t : Seen) → IsKept s → AreGreeted s → AreOpened s → Does actions s t → AreOpened t
-opened_along [] s t in_order greeted k does = subst AreOpened (sym does) k
-opened_along (a ∷ actions) s t in_order greeted k does =
-    opened_along actions (after a s) t (kept_stays s a in_order does.0) (greeted_stays s a in_order greeted does.0) (opened_if s.current a s in_order greeted does.0 k) does.1
+opened_along : (actions : List Action) (s t : Seen) → IsKept s → LinksArePrefaced s → AreOpened s → Does actions s t → AreOpened t
+opened_along [] s t in_order prefaced k does = subst AreOpened (sym does) k
+opened_along (a ∷ actions) s t in_order prefaced k does =
+    opened_along actions (after a s) t (kept_stays s a in_order does.0) (prefaced_stays s a in_order prefaced does.0) (opened_if s.current a s in_order prefaced does.0 k) does.1
 
 -- attempts that wait for a stream have none
 sum_one : (o : Option ℕ) → (if is_some o then 1 else 0) + (if is_none o then 1 else 0) ≡ 1
@@ -465,7 +465,7 @@ waiting_few l (a ∷ attempts) = by (is_outstanding_on l a) refl (waiting_few l 
 
 pub streams_are_of_attempts : StreamsAreOfAttempts
 streams_are_of_attempts setup actions s does link l there =
-    let k : AreOpened s = opened_along actions (new_session setup) s (kept_begins setup) (greeted_begins setup) refl does in
+    let k : AreOpened s = opened_along actions (new_session setup) s (kept_begins setup) (prefaced_begins setup) refl does in
     let few : length (opened_streams l) ≤ streamed s.attempts = leb-true (length (opened_streams l)) (streamed s.attempts) (all_at (is_open (streamed s.attempts)) s.links link l k there) in
     all_on (length (opened_streams l)) (streamed s.attempts) (length (waiting_on l s)) (length (filter is_streaming s.attempts)) (count_by is_streaming s.attempts) few
     (waiting_few l s.attempts) (length-filter is_streaming s.attempts)

@@ -42,7 +42,7 @@ use Rattle.std.proofs.lemmas.List.Sums.{sum_by-cons}
 use Rattle.std.proofs.lemmas.List.{length-append, length-map}
 use Rattle.std.specs.List.{list_all}
 use Rattle.std.specs.Option.{option_map_or}
-use Rattle.channel_actions.proofs.Calls.Few.Counts.{brought, came, done, come, bringing, heard, total, whole, is_dialled, is_filled, Tallies, IsTallied, less_on, itself, same_less, plus_less, dialled_more, filled_more, kept, joined, done_by, come_by, entered, applied, beside, long_by, link_now, subs_now}
+use Rattle.channel_actions.proofs.Calls.Few.Counts.{brought, came, done, come, bringing, handled, total, whole, is_dialled, is_filled, Tallies, IsTallied, less_on, itself, same_less, plus_less, dialled_more, filled_more, kept, joined, done_by, come_by, entered, applied, beside, long_by, link_now, subs_now}
 
 none_yet : (n : ℕ) → nat_le 0 n ≡ true
 none_yet n = le-leb 0 n (omega arith)
@@ -52,7 +52,7 @@ added_now address s = record {
   links = itself (length s.links);
   dials = λ m e. all_more (is_dialled m) s.subs (new_sub address (length s.subs + 1) ∷ []) e (ap (λ (b : Bool). b && true) (none_yet m));
   received = λ m e. e;
-  heard_more = itself (heard s);
+  received_more = itself (handled s);
   total_more = itself (total s);
   whole_less = itself (whole s);
 }
@@ -74,9 +74,9 @@ small = record {
   replied = λ r e s. replies r s;
 }
 
--- an event is answered: of an entry that was at it, one more was heard then, and its bytes came
-more_heard : (r : Reply) (w : Seen) (o : OpenEntry) → w.current ≡ Some o → is_at_event o.stage ≡ true → heard w + 1 ≤ heard (replied r w)
-more_heard r w o at first =
+-- an event is answered: of an entry that was at it, one more was handled then, and its bytes came
+more_received : (r : Reply) (w : Seen) (o : OpenEntry) → w.current ≡ Some o → is_at_event o.stage ≡ true → handled w + 1 ≤ handled (replied r w)
+more_received r w o at first =
     let a : done w.current ≡ 0 = ap done at ∙ ap (λ (b : Bool). if b then 0 else 1) first in
     let b : done (replied r w).current ≡ 1 = ap (λ (c : Option OpenEntry). done (option_map (λ (q : OpenEntry). record q { stage = stage.Replied; reply = Some r }) c)) at in
     one_on (length w.entries) (done w.current) (done (replied r w).current) a b
@@ -117,12 +117,12 @@ up_now sub o s at first k =
     let d : Tallies w t = replies (reply.Link n) w in
     let both : Tallies v t = joined v w t c d in
     let at_w : w.current ≡ Some o = noted_current (record v { subs = changed f sub v.subs }) (numbered (changed f sub v.subs) sub) ∙ at in
-    let more : heard w + 1 ≤ heard t = more_heard (reply.Link n) w o at_w first in
-    let start : heard s ≤ heard w = c.heard_more in
+    let more : handled w + 1 ≤ handled t = more_received (reply.Link n) w o at_w first in
+    let start : handled s ≤ handled w = c.received_more in
     let long : length v.links ≡ length s.links + 1 = length-append s.links (new_link n sub s ∷ []) in
     record {
-      links = up_links (length t.links) (length v.links) (length s.links) (heard s) (heard w) (heard t) both.links long k.links start more;
-      dials = both.dials (heard t) (dialled_more (heard s) (heard t) s.subs both.heard_more k.dials);
+      links = up_links (length t.links) (length v.links) (length s.links) (handled s) (handled w) (handled t) both.links long k.links start more;
+      dials = both.dials (handled t) (dialled_more (handled s) (handled t) s.subs both.received_more k.dials);
       received = both.received (total t)
           (filled_more (total s) (total t) (s.links ++ new_link n sub s ∷ []) both.total_more
           (all_more (is_filled (total s)) s.links (new_link n sub s ∷ []) k.received (ap (λ (b : Bool). b && true) (none_yet (total s)))));
@@ -150,14 +150,14 @@ dial_by again until o s at first k (Some b) =
     let all : Tallies u t = joined u v t c (joined v w t d g) in
     let at_v : v.current ≡ Some o = noted_current u (numbered u.subs b.number) ∙ at in
     let at_w : w.current ≡ Some (draw o) = ap (option_map draw) at_v in
-    let more : heard w + 1 ≤ heard t = more_heard r w (draw o) at_w first in
-    let start : heard s ≤ heard w = less_on (heard s) (heard v) (heard w) c.heard_more d.heard_more in
-    let dialled : list_all (is_dialled (heard s + 1)) u.subs ≡ true
-    = all_changed (is_dialled (heard s + 1)) f b.number s.subs (dialled_more (heard s) (heard s + 1) s.subs (omega arith) k.dials)
-    (λ a there e. le-leb (a.dials + 1) (heard s + 1) (one_up a.dials (heard s) (leb-true a.dials (heard s) (all_at (is_dialled (heard s)) s.subs b.number a k.dials there)))) in
+    let more : handled w + 1 ≤ handled t = more_received r w (draw o) at_w first in
+    let start : handled s ≤ handled w = less_on (handled s) (handled v) (handled w) c.received_more d.received_more in
+    let dialled : list_all (is_dialled (handled s + 1)) u.subs ≡ true
+    = all_changed (is_dialled (handled s + 1)) f b.number s.subs (dialled_more (handled s) (handled s + 1) s.subs (omega arith) k.dials)
+    (λ a there e. le-leb (a.dials + 1) (handled s + 1) (one_up a.dials (handled s) (leb-true a.dials (handled s) (all_at (is_dialled (handled s)) s.subs b.number a k.dials there)))) in
     record {
-      links = less_on (length t.links) (length s.links) (heard t) all.links (less_on (length s.links) (heard s) (heard t) k.links all.heard_more);
-      dials = all.dials (heard t) (dialled_more (heard s + 1) (heard t) u.subs (up_on (heard s) (heard w) (heard t) start more) dialled);
+      links = less_on (length t.links) (length s.links) (handled t) all.links (less_on (length s.links) (handled s) (handled t) k.links all.received_more);
+      dials = all.dials (handled t) (dialled_more (handled s + 1) (handled t) u.subs (up_on (handled s) (handled w) (handled t) start more) dialled);
       received = all.received (total t) (filled_more (total s) (total t) s.links all.total_more k.received);
       within = less_on (whole t) (whole s) 268435456 all.whole_less k.within;
     }
@@ -181,9 +181,9 @@ come_now link o s at first k =
     let bytes : total t ≡ total s + brought o.event = all_came reply.Done w o at first in
     record {
       links =
-          less_on (length t.links) (length s.links) (heard t) (same_less (length w.links) (length s.links) (sym (long_by (with_piece o.event) link s.links (numbered s.links link))))
-          (less_on (length s.links) (heard s) (heard t) k.links d.heard_more);
-      dials = dialled_more (heard s) (heard t) s.subs d.heard_more k.dials;
+          less_on (length t.links) (length s.links) (handled t) (same_less (length w.links) (length s.links) (sym (long_by (with_piece o.event) link s.links (numbered s.links link))))
+          (less_on (length s.links) (handled s) (handled t) k.links d.received_more);
+      dials = dialled_more (handled s) (handled t) s.subs d.received_more k.dials;
       received =
           all_changed (is_filled (total t)) (with_piece o.event) link s.links (filled_more (total s) (total t) s.links d.total_more k.received)
           (λ l there e. le-leb (length (with_piece o.event l).received) (total t)
@@ -216,11 +216,11 @@ closed_now o s at k =
     let bytes : came t.entries ≡ came s.entries + brought o.event = came_more s.entries (made_entry o s) in
     let some : come s.current ≤ brought o.event = subst (λ (c : Option OpenEntry). come c ≤ brought o.event) (sym at) (come_by (is_at_event o.stage) (brought o.event)) in
     let brings : bringing s.current ≡ brought o.event = ap bringing at in
-    let more : heard s ≤ heard t = more_on (length s.entries) (done s.current) (length t.entries) long one in
+    let more : handled s ≤ handled t = more_on (length s.entries) (done s.current) (length t.entries) long one in
     let all : total s ≤ total t = bytes_on (came s.entries) (come s.current) (came t.entries) (brought o.event) bytes some in
     record {
-      links = up_on (length t.links) (length s.links) (heard s) (heard t) links k.links more;
-      dials = dialled_more (heard s) (heard t) s.subs more k.dials;
+      links = up_on (length t.links) (length s.links) (handled s) (handled t) links k.links more;
+      dials = dialled_more (handled s) (handled t) s.subs more k.dials;
       received =
           all_mapped (is_filled (total t)) (noted_gone s)
           (λ l e. ap (λ (bytes : List ℕ). nat_le (length bytes) (total t)) (noted_bytes s l (is_none l.gone && is_gone l s) (entry s)) ∙ e) s.links
@@ -262,11 +262,11 @@ opened_now posted word e s none room k =
     let t : Seen = opened posted word e s in
     let fits : journal_bytes s.entries + event_bytes e ≤ 268435456
     = leb-true (journal_bytes s.entries + event_bytes e) 268435456 (and_parts (nat_lt (length s.entries) 1048576) (nat_le (journal_bytes s.entries + event_bytes e) 268435456) room).1 in
-    let same : heard s ≡ heard t = ap (λ (c : Option OpenEntry). length s.entries + done c) none in
+    let same : handled s ≡ handled t = ap (λ (c : Option OpenEntry). length s.entries + done c) none in
     let bytes : total s ≡ total t = ap (λ (c : Option OpenEntry). came s.entries + come c) none in
     record {
-      links = less_on (length s.links) (heard s) (heard t) k.links (same_less (heard s) (heard t) (sym same));
-      dials = dialled_more (heard s) (heard t) s.subs (same_less (heard s) (heard t) (sym same)) k.dials;
+      links = less_on (length s.links) (handled s) (handled t) k.links (same_less (handled s) (handled t) (sym same));
+      dials = dialled_more (handled s) (handled t) s.subs (same_less (handled s) (handled t) (sym same)) k.dials;
       received = filled_more (total s) (total t) s.links (same_less (total s) (total t) (sym bytes)) k.received;
       within = within_on (came s.entries) (journal_bytes s.entries) (brought e) (event_bytes e) (came_less s.entries) (event_less e) fits;
     }
@@ -311,19 +311,19 @@ tallied : (setup : Setup) (actions : List Action) (s : Seen) → Does actions (n
 tallied setup actions s does =
     tallied_along actions (new_session setup) s (record { links = itself 0; dials = refl; received = refl; within = (let none : 0 ≤ 268435456 = omega arith in none) }) does
 
--- what was heard is no more than the entries, with the one that is being made
+-- what was handled is no more than the entries, with the one that is being made
 done_some : (c : Option OpenEntry) → done c ≤ (if is_some c then 1 else 0)
 done_some None = itself 0
 done_some (Some o) = done_by (is_at_event o.stage)
 
-heard_less : (s : Seen) → heard s ≤ entry s
-heard_less s = plus_less (length s.entries) (done s.current) (if is_some s.current then 1 else 0) (done_some s.current)
+received_less : (s : Seen) → handled s ≤ entry s
+received_less s = plus_less (length s.entries) (done s.current) (if is_some s.current then 1 else 0) (done_some s.current)
 
 pub links_are_few : LinksAreFew
-links_are_few setup actions s does = less_on (length s.links) (heard s) (entry s) (tallied setup actions s does).links (heard_less s)
+links_are_few setup actions s does = less_on (length s.links) (handled s) (entry s) (tallied setup actions s does).links (received_less s)
 
 pub dials_are_few : DialsAreFew
-dials_are_few setup actions s does = dialled_more (heard s) (entry s) s.subs (heard_less s) (tallied setup actions s does).dials
+dials_are_few setup actions s does = dialled_more (handled s) (entry s) s.subs (received_less s) (tallied setup actions s does).dials
 
 pub bytes_are_few : BytesAreFew
 bytes_are_few setup actions s does o at first link piece is l there =

@@ -23,7 +23,7 @@ pub record CallLaws : Type 0 where
   pub timed_out : (moment : ℕ) (s : Stepped) → GoesOn s.call → GoesOn (step.timed_out moment s).call
   pub placed : (row : ℕ) (at : Placed) (s : Stepped) → at.entry ≡ s.ledger.entry → GoesOn s.call → GoesOn (step.placed_at row at s).call
   pub failed : (row moment word : ℕ) (s : Stepped) → GoesOn s.call → GoesOn (step.pick_failed row moment word s).call
-  pub heard : (row : ℕ) (told : News) (moment word : ℕ) (s : Stepped) → GoesOn s.call → GoesOn (step.heard_news row told moment word s).call
+  pub handled : (row : ℕ) (reported : News) (moment word : ℕ) (s : Stepped) → GoesOn s.call → GoesOn (step.received_news row reported moment word s).call
   pub made : (moment : ℕ) (s : Stepped) → GoesOn s.call → GoesOn (step.made_due moment s).call
   -- what changes neither its attempts nor its config nor its end
   pub same : (old new : CallState) → IsSameCall old new → GoesOn old → GoesOn new

@@ -6,12 +6,12 @@ use Rattle.attempt_ledger.specs.declared.news.EndNews.{EndNews}
 use Rattle.attempt_ledger.specs.declared.news.News.{News}
 use Rattle.attempt_ledger.specs.declared.news.News.TheVariants as news
 use Rattle.call_core.specs.Steps as call
-use Rattle.channel_core.proofs.Carrying.{Carried, Carries, Configures, after_book, overdue}
+use Rattle.channel_core.proofs.Carrying.{Carried, IsActionInvariant, Configures, after_book, overdue}
 use Rattle.channel_core.proofs.CarryingSteps.{answered, settle, carried}
 use Rattle.channel_core.specs.Arrivals.{ended_on, sealed_if}
 use Rattle.channel_core.specs.Books.{BookActs, book_acted, bucket_set, call_of, has_drawn, has_ended, row_at, slot_at}
 use Rattle.channel_core.specs.States.{StateSeen}
-use Rattle.channel_core.specs.Steps.{chosen_in, drawn_if, is_gone, left_behind, links_sealed, loss_of, next_word, resets_taken, sealed_one, stamped_gone, told, with_ledger_links}
+use Rattle.channel_core.specs.Steps.{chosen_in, drawn_if, is_gone, left_after, links_sealed, loss_of, next_word, resets_taken, sealed_one, stamped_gone, reported, with_ledger_links}
 use Rattle.channel_core.specs.Tables.{fed_call, last_run, with_bucket, with_timers, without_due}
 use Rattle.channel_core.specs.declared.state.slots.CallSlot.{CallSlot}
 use Rattle.channel_actions.proofs.Calls.Going.Arms.{CallLaws}
@@ -47,7 +47,7 @@ bucketed : (bucket : ℕ) (slot : CallSlot) → (with_bucket bucket slot).call �
 bucketed bucket slot = refl
 
 module _ (laws : CallLaws) where
-  go_carries : Carries GoOn
+  go_carries : IsActionInvariant GoOn
   go_carries = record {
     joined = λ s t u first second g. second (first g);
     beside = λ s t book held links shut. left s t (ap (λ b. b.calls) book) held;
@@ -55,7 +55,7 @@ module _ (laws : CallLaws) where
     closed = λ why number s by. into s _ refl (all_acted (call.closed_by why s.book.moment) s.book.ledger _ (λ c. laws.closed why s.book.moment _ by) s.book.calls number);
     sent = λ message number s. into s _ refl (all_acted (call.sent message s.book.moment) s.book.ledger _ (λ c. laws.sent message s.book.moment _) s.book.calls number);
     made = λ number s. into s _ refl (all_acted (call.made_due s.book.moment) s.book.ledger _ (λ c. laws.made s.book.moment _) s.book.calls number);
-    heard = λ row told number s fair. into s _ refl (all_acted (call.heard_news row told s.book.moment (next_word s)) s.book.ledger _ (λ c. laws.heard row told s.book.moment (next_word s) _) s.book.calls number);
+    handled = λ row reported number s fair. into s _ refl (all_acted (call.received_news row reported s.book.moment (next_word s)) s.book.ledger _ (λ c. laws.handled row reported s.book.moment (next_word s) _) s.book.calls number);
     failed = λ row number s. into s _ refl (all_acted (call.pick_failed row s.book.moment (next_word s)) s.book.ledger _ (λ c. laws.failed row s.book.moment (next_word s) _) s.book.calls number);
     placed = λ row at number s entry moment. into s _ refl (all_acted (call.placed_at row at) s.book.ledger None (λ c. laws.placed row at _ entry) s.book.calls number);
     finished = λ number s. into s _ refl (all_changed call.finished (λ c g. laws.same c _ (laws.finished c) g) s.book.calls number);
@@ -120,24 +120,24 @@ module _ (laws : CallLaws) where
   each_goes_on x number slot g e = all_numbered x.book.calls number slot g.calls e
 
   -- an attempt that is lost with its link
-  told_goes : (row : ℕ) (n : News) (s : StateSeen) → GoOn s (told row n s)
-  told_goes row n s =
+  reported_goes : (row : ℕ) (n : News) (s : StateSeen) → GoOn s (reported row n s)
+  reported_goes row n s =
       let number : ℕ = call_of (row_at s.book row) in
-      let b : BookActs = book_acted (call.heard_news row n s.book.moment (next_word s)) number s.book in
+      let b : BookActs = book_acted (call.received_news row n s.book.moment (next_word s)) number s.book in
       after_book GoOn go_carries b number s (drawn_if (has_drawn (row_at b.book row)) s) refl refl (λ e. e)
-      (into s _ refl (all_acted (call.heard_news row n s.book.moment (next_word s)) s.book.ledger _ (λ c. laws.heard row n s.book.moment (next_word s) _) s.book.calls number))
+      (into s _ refl (all_acted (call.received_news row n s.book.moment (next_word s)) s.book.ledger _ (λ c. laws.handled row n s.book.moment (next_word s) _) s.book.calls number))
 
   stamped_goes : (ls : List LinkSeen) (b : Bool) (s : StateSeen) → GoOn s (if b then with_ledger_links ls s else s)
   stamped_goes ls true s g = left s (with_ledger_links ls s) refl refl g
   stamped_goes ls false s g = g
 
   ended_goes : (link row : ℕ) (end : EndNews) (s : StateSeen) (b : Bool)
-      → GoOn s (if b then s else stamped_gone link (told row (news.Ended row end) (left_behind link row s)))
+      → GoOn s (if b then s else stamped_gone link (reported row (news.Ended row end) (left_after link row s)))
   ended_goes link row end s true g = g
   ended_goes link row end s false g =
-      let t : StateSeen = told row (news.Ended row end) (left_behind link row s) in
+      let t : StateSeen = reported row (news.Ended row end) (left_after link row s) in
       stamped_goes (changed_at (gone_link t.book.ledger.entry) t.book.ledger.links link) (is_gone link t) t
-      (told_goes row (news.Ended row end) (left_behind link row s) (left s (left_behind link row s) refl refl g))
+      (reported_goes row (news.Ended row end) (left_after link row s) (left s (left_after link row s) refl refl g))
 
   sealed_goes : (links : List ℕ) (s : StateSeen) → GoOn s (links_sealed links s)
   sealed_goes [] s g = g

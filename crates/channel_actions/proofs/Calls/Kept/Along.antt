@@ -4,7 +4,7 @@ use Rattle.channel_actions.proofs.Calls.Kept.Lines.{next_fits}
 use Rattle.channel_actions.proofs.Calls.Kept.Parts.{Early}
 use Rattle.channel_actions.proofs.Calls.Kept.Steps.{early_after}
 use Rattle.channel_actions.specs.KeptCalls.Early.{IsEarlyKept, has_none, is_early, is_past}
-use Rattle.channel_actions.specs.KeptCalls.Laws.{CallsAreBare, EarlyAlong, EarlyBegins, EarlyStays}
+use Rattle.channel_actions.specs.KeptCalls.Laws.{CallsAreUnconfigured, EarlyAlong, EarlyBegins, EarlyStays}
 use Rattle.channel_actions.proofs.KeptSessions.Along.{kept_stays}
 use Rattle.channel_actions.proofs.KeptSessions.Lines.{next_sound}
 use Rattle.channel_actions.proofs.KeptSessions.Lists.{all_at, counted_places}
@@ -24,7 +24,7 @@ use Rattle.std.proofs.lemmas.Bool.{and_parts, or_from}
 use Rattle.std.specs.List.{list_all, list_any}
 
 pub early_begins : EarlyBegins
-early_begins setup = record { resets = refl; saw = refl; made = refl; bare = refl; boards = refl }
+early_begins setup = record { resets = refl; saw = refl; made = refl; awaiting_config = refl; boards = refl }
 
 reads_so : (s : Seen) (a : Action) → IsKept s → IsNext a s → ReadsOn a s
 reads_so s (action.FrameRead link r) kept next = next_sound s (action.FrameRead link r) kept next
@@ -34,8 +34,8 @@ pub early_stays : EarlyStays
 early_stays s a kept early next =
     let h : Early (after a s)
     = early_after s a (next_fits s a kept early next) (reads_so s a kept next)
-    (record { resets = early.resets; saw = early.saw; made = early.made; bare = early.bare; boards = early.boards }) in
-    record { resets = h.resets; saw = h.saw; made = h.made; bare = h.bare; boards = h.boards }
+    (record { resets = early.resets; saw = early.saw; made = early.made; awaiting_config = early.awaiting_config; boards = early.boards }) in
+    record { resets = h.resets; saw = h.saw; made = h.made; awaiting_config = h.awaiting_config; boards = h.boards }
 
 pub early_along : EarlyAlong
 early_along [] s t kept early does = subst IsEarlyKept (sym does) early
@@ -68,10 +68,10 @@ none_of s c k (a ∷ attempts) own early made =
     or_from (a.row.call == k) (list_any (λ (q : Attempt). q.row.call == k) attempts) (not_own s c k a (a.row.call == k) own refl early both.0)
     (none_of s c k attempts own early both.1)
 
-pub calls_are_bare : CallsAreBare
-calls_are_bare s number c kept early own end config =
+pub calls_are_unconfigured : CallsAreUnconfigured
+calls_are_unconfigured s number c kept early own end config =
     let past : is_past c ≡ false = not_past c end config in
-    let sound : (is_past c || is_early c) ≡ true = all_at (λ (d : Call). is_past d || is_early d) s.calls number c early.bare own in
+    let sound : (is_past c || is_early c) ≡ true = all_at (λ (d : Call). is_past d || is_early d) s.calls number c early.awaiting_config own in
     let first : is_early c ≡ true = sym (ap (λ (b : Bool). b || is_early c) past) ∙ sound in
     let both : (is_none c.configured ≡ true) × (has_none c.marks ≡ true) = and_parts (is_none c.configured) (has_none c.marks) first in
     let here : c.number ≡ number = counted_places (λ (d : Call). d.number) s.calls kept.calls number c own in

@@ -1,4 +1,4 @@
--- The frame that a link shows next ends behind all that the ends of attempts saw of the link.
+-- The frame that a link shows next ends after all that the ends of attempts saw of the link.
 use Rattle.attempt_ledger.specs.declared.row.Placed.{Placed}
 use Rattle.attempt_ledger.specs.declared.row.RowEnd.{RowEnd}
 use Rattle.grpc_base.specs.ErrorCodes.{enhance_your_calm}

@@ -337,7 +337,7 @@ module _ (s : Seen) (kept : IsKept s) (early : IsEarlyKept s) where
   due_if : (i : ℕ) (c : Call) (past : Bool) → slice_get s.calls i ≡ Some c → is_past c ≡ past → FitsIf s (due_action s c)
   due_if i c true got e = due_sound c (ap (holds is_past) (own_number (λ (d : Call). d.number) s.calls i c kept.calls got) ∙ e)
   due_if i c false got e =
-      let sound : (is_past c || is_early c) ≡ true = all_at (λ (d : Call). is_past d || is_early d) s.calls (suc i) c early.bare got in
+      let sound : (is_past c || is_early c) ≡ true = all_at (λ (d : Call). is_past d || is_early d) s.calls (suc i) c early.awaiting_config got in
       let first : is_early c ≡ true = sym (ap (λ (b : Bool). b || is_early c) e) ∙ sound in
       let none : next_due c s ≡ None
       = undue (plan_of c s) (attempts_made c s) (due_state c s) (unmarked c s c.marks (and_parts (is_none c.configured) (has_none c.marks) first).1) in

@@ -34,7 +34,7 @@ pub record EarlyOf (calls : List Call) (attempts : List Attempt) (subs : List Su
   pub resets : list_all is_reset_late attempts ≡ true
   pub saw : list_all (saw_less links) attempts ≡ true
   pub made : list_all (λ a. holds is_past (numbered calls a.row.call)) attempts ≡ true
-  pub bare : list_all is_sound_call calls ≡ true
+  pub awaiting_config : list_all is_sound_call calls ≡ true
   pub boards : list_all is_linked_up subs ≡ true
 
 abbrev pub Early : Seen → Type 0
@@ -78,13 +78,13 @@ calls_now s cs stay sound h = record {
   resets = h.resets;
   saw = h.saw;
   made = all_wide (λ (a : Attempt). holds is_past (numbered s.calls a.row.call)) (λ (a : Attempt). holds is_past (numbered cs a.row.call)) (λ a e. stay a.row.call e) s.attempts h.made;
-  bare = sound;
+  awaiting_config = sound;
   boards = h.boards;
 }
 
 pub call_now : (f : Call → Call) (n : ℕ) (s : Seen) → ((c : Call) → is_past c ≡ true → is_past (f c) ≡ true)
     → ((c : Call) → numbered s.calls n ≡ Some c → is_sound_call c ≡ true → is_sound_call (f c) ≡ true) → Early s → Early (record s { calls = changed f n s.calls })
-call_now f n s keeps sound h = calls_now s (changed f n s.calls) (past_changed f keeps n s.calls) (all_changed is_sound_call f n s.calls h.bare sound) h
+call_now f n s keeps sound h = calls_now s (changed f n s.calls) (past_changed f keeps n s.calls) (all_changed is_sound_call f n s.calls h.awaiting_config sound) h
 
 -- something is marked of a call that has its config, or has ended
 pub marked_now : (what : MarkKind) (n : ℕ) (s : Seen) → holds is_past (numbered s.calls n) ≡ true → Early s → Early (marked what n s)
@@ -116,7 +116,7 @@ attempt_now f place s call late less h = record {
   saw = all_changed (saw_less s.links) f place s.attempts h.saw less;
   made = all_changed (λ (a : Attempt). holds is_past (numbered s.calls a.row.call)) f place s.attempts h.made
       (λ a got e. ap (λ (k : ℕ). holds is_past (numbered s.calls k)) (call a) ∙ e);
-  bare = h.bare;
+  awaiting_config = h.awaiting_config;
   boards = h.boards;
 }
 
@@ -127,21 +127,21 @@ attempts_more a s late less past h = record {
   saw = all_more (saw_less s.links) s.attempts (a ∷ []) h.saw (and_from (saw_less s.links a) true less refl);
   made = all_more (λ (q : Attempt). holds is_past (numbered s.calls q.row.call)) s.attempts (a ∷ []) h.made
       (and_from (holds is_past (numbered s.calls a.row.call)) true past refl);
-  bare = h.bare;
+  awaiting_config = h.awaiting_config;
   boards = h.boards;
 }
 
 -- subchannels
 pub sub_now : (f : Subchannel → Subchannel) (n : ℕ) (s : Seen) → ((b : Subchannel) → numbered s.subs n ≡ Some b → is_linked_up b ≡ true → is_linked_up (f b) ≡ true)
     → Early s → Early (record s { subs = changed f n s.subs })
-sub_now f n s sound h = record { resets = h.resets; saw = h.saw; made = h.made; bare = h.bare; boards = all_changed is_linked_up f n s.subs h.boards sound }
+sub_now f n s sound h = record { resets = h.resets; saw = h.saw; made = h.made; awaiting_config = h.awaiting_config; boards = all_changed is_linked_up f n s.subs h.boards sound }
 
 pub subs_more : (b : Subchannel) (s : Seen) → is_linked_up b ≡ true → Early s → Early (record s { subs = s.subs ++ b ∷ [] })
 subs_more b s sound h = record {
   resets = h.resets;
   saw = h.saw;
   made = h.made;
-  bare = h.bare;
+  awaiting_config = h.awaiting_config;
   boards = all_more is_linked_up s.subs (b ∷ []) h.boards (and_from (is_linked_up b) true sound refl);
 }
 
@@ -163,7 +163,7 @@ links_now s ls grow h = record {
   resets = h.resets;
   saw = all_wide (saw_less s.links) (saw_less ls) (λ a e. ended_more s.links ls grow a.row.placed a.row.ended e) s.attempts h.saw;
   made = h.made;
-  bare = h.bare;
+  awaiting_config = h.awaiting_config;
   boards = h.boards;
 }
 

@@ -104,16 +104,16 @@ begun_now (event.Begin request) s h =
     let c : Call = begun_call (length s.calls + 1) (entry s) (now s) request in
     let u : Seen = record s { calls = s.calls ++ c ∷ [] } in
     same_calls u (call_begun_by (event.Begin request) s) refl refl refl refl
-    (calls_now s (s.calls ++ c ∷ []) (past_more s.calls (c ∷ [])) (all_more is_sound_call s.calls (c ∷ []) h.bare refl) h)
+    (calls_now s (s.calls ++ c ∷ []) (past_more s.calls (c ∷ [])) (all_more is_sound_call s.calls (c ∷ []) h.awaiting_config refl) h)
 begun_now _ s h = h
 
-told : (e : Event) (c : Call) → is_past c ≡ true → is_past (with_message e c) ≡ true
-told (event.Send call message) c h = h
-told _ c h = h
+reported : (e : Event) (c : Call) → is_past c ≡ true → is_past (with_message e c) ≡ true
+reported (event.Send call message) c h = h
+reported _ c h = h
 
-told_sound : (e : Event) (c : Call) → is_sound_call c ≡ true → is_sound_call (with_message e c) ≡ true
-told_sound (event.Send call message) c h = h
-told_sound _ c h = h
+reported_sound : (e : Event) (c : Call) → is_sound_call c ≡ true → is_sound_call (with_message e c) ≡ true
+reported_sound (event.Send call message) c h = h
+reported_sound _ c h = h
 
 -- configs
 throttled_now : (config : Config) (t : Throttle) (run : Option ℕ) (s : Seen) → Early s → Early (with_throttled config t run s)
@@ -314,7 +314,7 @@ module _ (o : OpenEntry) (s : Seen) (h : Early s) where
   act action.CallBegins fits on = begun_now o.event s h
   act (action.MessageAccepted call) fits on =
       same_calls (with_call (with_message o.event) call s) (message_accepted call o.event s) refl refl refl refl
-      (call_now (with_message o.event) call s (told o.event) (λ c got ok. told_sound o.event c ok) h)
+      (call_now (with_message o.event) call s (reported o.event) (λ c got ok. reported_sound o.event c ok) h)
   act (action.RequestFinished call) fits on =
       let f : Call → Call = λ (c : Call). record c { finished = true } in
       same_calls (with_call f call s) (request_finished call s) refl refl refl refl (call_now f call s (λ c e. e) (λ c got ok. ok) h)

@@ -3,8 +3,8 @@ use Rattle.std.proofs.Common.{◌≡◌, inl, inr, ◌∷◌, ◌||◌, ◌&&◌
 use Rattle.std.specs.List.{list_all}
 use Rattle.std.specs.Option.{option_map, option_map_or}
 use Rattle.attempt_buffer.specs.Buffers.{Buffered, taken_by, text_of}
-use Rattle.call_actions.specs.Order.{AreNumbered, IsInOrder, IsInTurn, goes_on_followed, goes_on_older, has_ended, is_beyond, is_own_mark, is_retried}
-use Rattle.call_actions.specs.Sees.{AreAttempts, AreDue, Sees, bucket_of, is_live, live_row, live_rows}
+use Rattle.call_actions.specs.Order.{AttemptsAreNumbered, IsInOrder, IsInTurn, goes_on_followed, goes_on_older, has_ended, is_beyond, is_own_mark, is_retried}
+use Rattle.call_actions.specs.Sees.{AttemptsAgree, DuesAgree, Sees, bucket_of, is_live, live_row, live_rows}
 use Rattle.call_core.specs.Laws as channel
 use Rattle.call_core.specs.Steps.{Stepped}
 use Rattle.grpc_base.specs.declared.event.Reply.{Reply}
@@ -31,10 +31,10 @@ use Rattle.session_actions.specs.declared.seen.Seen.{Seen}
 use Rattle.session_order.proofs.Changed.{any_changed, lookup}
 use Rattle.session_order.proofs.Lists.{any_same}
 use Rattle.call_actions.specs.TakeActions.Serves as serves
-use Rattle.call_actions.specs.TakeActions.Serves.{ArePlaced, Holds, IsAt, IsLeft, Serves, came, is_ended_at, passed}
+use Rattle.call_actions.specs.TakeActions.Serves.{AttemptsStandInPlace, Holds, IsAt, IsLeft, Serves, came, is_ended_at, passed}
 
 -- each attempt stands at its place
-placed_by : (k : ℕ) (f : Attempt → Attempt) → ((a : Attempt) → (f a).place ≡ a.place) → (xs ys : List Attempt) → Alike f xs ys → ArePlaced k xs → ArePlaced k ys
+placed_by : (k : ℕ) (f : Attempt → Attempt) → ((a : Attempt) → (f a).place ≡ a.place) → (xs ys : List Attempt) → Alike f xs ys → AttemptsStandInPlace k xs → AttemptsStandInPlace k ys
 placed_by k f same [] [] h p = tt
 placed_by k f same (x ∷ xs) (y ∷ ys) h p = (place_is f same x y h.0 ∙ p.0, placed_by (suc k) f same xs ys h.1 p.1)
   where
@@ -78,10 +78,10 @@ module _ (s : Seen) (n : ℕ) where
   bucket_same run = ap (λ (k : ℕ). record { start = run.throttle.start; ratio = run.throttle.ratio; count = k }) (tokens_same run)
 
   -- attempts
-  attempts_left : (c : Call) (x : Stepped) → AreAttempts s c x.call.attempts → AreAttempts u c x.call.attempts
+  attempts_left : (c : Call) (x : Stepped) → AttemptsAgree s c x.call.attempts → AttemptsAgree u c x.call.attempts
   attempts_left c x k = record {
     sent = made_same s n c ∙ k.sent;
-    due = subst (λ (d : DueState). AreDue d x.call.attempts) (sym (due_same s n c)) k.due;
+    due = subst (λ (d : DueState). DuesAgree d x.call.attempts) (sym (due_same s n c)) k.due;
     unplaced = k.unplaced;
     delayed = λ keeps none. delayed_same s n c x.call.attempts.sent ∙ k.delayed keeps none;
     last = λ none. last_same s n c ∙ k.last none;
@@ -148,7 +148,7 @@ module _ (s : Seen) (n : ℕ) where
   }
 
   -- what the session keeps in order
-  numbers_by : (k : ℕ) (as_ bs : List Attempt) → Alike f as_ bs → AreNumbered k as_ → AreNumbered k bs
+  numbers_by : (k : ℕ) (as_ bs : List Attempt) → Alike f as_ bs → AttemptsAreNumbered k as_ → AttemptsAreNumbered k bs
   numbers_by k [] [] h p = tt
   numbers_by k (a ∷ as_) (b ∷ bs) h p = (place_is a b h.0 ∙ p.0, numbers_by (suc k) as_ bs h.1 p.1)
     where

@@ -9,12 +9,12 @@ use Rattle.call_core.specs.Steps as call
 use Rattle.call_core.specs.Steps.{Stepped, lent}
 use Rattle.call_core.specs.declared.state.CallState.{CallState}
 use Rattle.channel_actions.proofs.Calls.Going.Arms.{CallLaws}
-use Rattle.channel_actions.proofs.Calls.Sound.Spends.{fed_same, finished_same, goes_heard, goes_sent, spends_by, spends_configured, spends_made, taken_same}
+use Rattle.channel_actions.proofs.Calls.Sound.Spends.{fed_same, finished_same, goes_received, goes_sent, spends_by, spends_configured, spends_made, taken_same}
 use Rattle.channel_actions.proofs.Calls.Sound.Steps.{leaves_closed, leaves_failed, leaves_placed, leaves_timed}
 use Rattle.channel_actions.proofs.Calls.Sound.Tables.{Acts, AllSound, SoundCall, Spending, Spent, Well, acted_spent, acted_well, changed_spent, slot_spent, spent_by, well_by}
 use Rattle.channel_actions.specs.SoundCalls.Sound.{AllowsPlans, IsPlanned, all_attempts, to_come}
-use Rattle.channel_core.proofs.Carrying.{Carries}
-use Rattle.channel_core.proofs.Resting.{Configures, Rests, changed_length}
+use Rattle.channel_core.proofs.Carrying.{IsActionInvariant}
+use Rattle.channel_core.proofs.Resting.{Configures, IsQuietActionInvariant, changed_length}
 use Rattle.channel_core.specs.Books.{bucket_set, slot_at}
 use Rattle.channel_core.specs.States.{StateSeen}
 use Rattle.channel_core.specs.Steps.{chosen_in, next_word}
@@ -157,14 +157,14 @@ module _ (laws : CallLaws) where
   sent message moment ledger tokens c k =
       let s : Stepped = lent c ledger tokens [] in well_by c ledger tokens (call.sent message moment s) (laws.sent message moment s k.goes) (goes_sent message moment s) k
 
-  heard : (row : ℕ) (told : News) (moment word : ℕ) (ledger : Ledger) (tokens : Option Bucket) (c : CallState) → SoundCall (length ledger.rows) c
-      → Well (length ledger.rows) c (call.heard_news row told moment word (lent c ledger tokens []))
-  heard row told moment word ledger tokens c k =
+  handled : (row : ℕ) (reported : News) (moment word : ℕ) (ledger : Ledger) (tokens : Option Bucket) (c : CallState) → SoundCall (length ledger.rows) c
+      → Well (length ledger.rows) c (call.received_news row reported moment word (lent c ledger tokens []))
+  handled row reported moment word ledger tokens c k =
       let s : Stepped = lent c ledger tokens [] in
-      well_by c ledger tokens (call.heard_news row told moment word s) (laws.heard row told moment word s k.goes) (goes_heard row told moment word s) k
+      well_by c ledger tokens (call.received_news row reported moment word s) (laws.handled row reported moment word s k.goes) (goes_received row reported moment word s) k
 
   -- in a settling
-  pub rests : Rests Settles
+  pub rests : IsQuietActionInvariant Settles
   rests = record {
     joined = settles_joined;
     beside = λ s t book held links shut. beside s t book held;
@@ -202,7 +202,7 @@ module _ (laws : CallLaws) where
       settles s _ refl (λ all. both chosen number s (plan_of s.held (slot_at s.book number) chosen sound.plans e) all) sound
 
   -- and along whole steps
-  pub carries : Carries Keeps
+  pub carries : IsActionInvariant Keeps
   carries = record {
     joined = keeps_joined;
     beside = λ s t book held links shut sound. (rests.beside s t book held links shut sound).kept;
@@ -210,7 +210,7 @@ module _ (laws : CallLaws) where
     closed = λ why number s by sound. (rests.closed why number s by sound).kept;
     sent = λ message number s. keeps s _ refl (λ all. acted_well (call.sent message s.book.moment) s.book.ledger _ s.book.calls all (sent message s.book.moment s.book.ledger _) number);
     made = λ number s sound. (rests.made number s sound).kept;
-    heard = λ row told number s fair. keeps s _ refl (λ all. acted_well (call.heard_news row told s.book.moment (next_word s)) s.book.ledger _ s.book.calls all (heard row told s.book.moment (next_word s) s.book.ledger _) number);
+    handled = λ row reported number s fair. keeps s _ refl (λ all. acted_well (call.received_news row reported s.book.moment (next_word s)) s.book.ledger _ s.book.calls all (handled row reported s.book.moment (next_word s) s.book.ledger _) number);
     failed = λ row number s sound. (rests.failed row number s sound).kept;
     placed = λ row at number s entry moment sound. (rests.placed row at number s entry moment sound).kept;
     finished = λ number s. keeps s _ refl (λ all. (changed_spent call.finished finished_same (λ c g. laws.same c _ (laws.finished c) g) s.book.ledger s.book.calls all number).acts);

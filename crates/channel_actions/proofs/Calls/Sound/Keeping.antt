@@ -5,7 +5,7 @@ use Rattle.channel_actions.proofs.Calls.Sound.Carried.{AreSound, Keeps, Kept, Se
 use Rattle.channel_actions.proofs.Calls.Sound.Tables.{AllSound, of_slot, sound_each, sound_last, sound_numbered, to_slot}
 use Rattle.channel_actions.specs.SoundCalls.Laws.{AnswersKeepCalls, DeadlinesKeepCalls, NewCallsAreSound, SettlingsKeepCalls, StepsKeepCalls}
 use Rattle.channel_actions.specs.GoingCalls.Going.{AllowsAttempts, CallsGoOn, GoesOn}
-use Rattle.channel_actions.specs.SoundCalls.Sound.{AllowsPlans, AreSoundCalls}
+use Rattle.channel_actions.specs.SoundCalls.Sound.{AllowsPlans, CallsAreSound}
 use Rattle.service_config.specs.declared.config.Config.{Config}
 use Rattle.std.specs.List.{AllByRecursion}
 use Rattle.channel_core.proofs.Carrying.{Carried, overdue}
@@ -26,13 +26,13 @@ use Rattle.grpc_base.specs.declared.event.Refusal.{Refusal}
 use Rattle.grpc_base.specs.declared.event.Reply.{Reply}
 use Rattle.channel_actions.proofs.ReadConfigs.{allowed}
 
-pub sound_of : (x : StateSeen) → AreSoundCalls x → AreSound x
+pub sound_of : (x : StateSeen) → CallsAreSound x → AreSound x
 sound_of x k = record {
   calls = sound_each (length x.book.ledger.rows) x.book.calls (λ i slot e. of_slot (length x.book.ledger.rows) slot (k.slots (suc i) slot e));
   plans = k.plans;
 }
 
-pub sound_to : (x : StateSeen) → AreSound x → AreSoundCalls x
+pub sound_to : (x : StateSeen) → AreSound x → CallsAreSound x
 sound_to x k = record {
   slots = λ number slot e. to_slot (length x.book.ledger.rows) slot (sound_numbered (length x.book.ledger.rows) x.book.calls number slot k.calls e);
   plans = k.plans;
@@ -47,7 +47,7 @@ allows_by : (held : Option Config) → AllowsPlans held → AllowsAttempts held
 allows_by None plans = tt
 allows_by (Some config) plans = λ path. (plans path).least
 
-pub goes_on : (x : StateSeen) → AreSoundCalls x → CallsGoOn x
+pub goes_on : (x : StateSeen) → CallsAreSound x → CallsGoOn x
 goes_on x k = record { calls = goes_all (length x.book.ledger.rows) x.book.calls (sound_of x k).calls; allows = allows_by x.held k.plans }
 
 -- along whole steps
@@ -97,19 +97,19 @@ module _ (laws : CallLaws) where
   pub deadlines_keep : DeadlinesKeepCalls
   deadlines_keep x k = sound_to (overdue_ended x) (overdue Keeps (carries laws) x (sound_of x k)).sound
 
-  answers_kept : (refused : Option Refusal) (e : Event) (x y : StateSeen) (r : Reply) → AnswersBy refused e x y r → AreSoundCalls x → Kept x y
+  answers_kept : (refused : Option Refusal) (e : Event) (x y : StateSeen) (r : Reply) → AnswersBy refused e x y r → CallsAreSound x → Kept x y
   answers_kept refused e x y r by k = answered Keeps (carries laws) refused e x y r (events e) by (sound_of x k)
 
   pub answers_keep : AnswersKeepCalls
   answers_keep refused e x y r by k = sound_to y (answers_kept refused e x y r by k).sound
 
-  settlings_kept : (x : StateSeen) → AreSoundCalls x → Kept x (settled x)
+  settlings_kept : (x : StateSeen) → CallsAreSound x → Kept x (settled x)
   settlings_kept x k = (settle Settles (rests laws) x (configures laws) (sound_of x k)).kept
 
   pub settlings_keep : SettlingsKeepCalls
   settlings_keep x k = sound_to (settled x) (settlings_kept x k).sound
 
-  steps_kept : (entry moment word : ℕ) (e : Event) (old new : StateSeen) (r : Reply) → Stepped entry moment word e old new r → AreSoundCalls old → Kept (begun_at entry moment word old) new
+  steps_kept : (entry moment word : ℕ) (e : Event) (old new : StateSeen) (r : Reply) → Stepped entry moment word e old new r → CallsAreSound old → Kept (begun_at entry moment word old) new
   steps_kept entry moment word e old new r steps k =
       carried Keeps (carries laws) entry moment word e old new r (λ chosen number s is sound. (configures laws chosen number s is sound).kept) (events e) steps
       (sound_of (begun_at entry moment word old) (record { slots = k.slots; plans = k.plans }))

@@ -37,20 +37,20 @@ use Rattle.hedge_core.specs.DueMoments as hedging
 use Rattle.channel_actions.proofs.Calls.Sound.Steps.{Leaves, Sized, Within, committed_if, counts, is_held, is_there, leaves_committed, leaves_ended, leaves_if, leaves_on, leaves_refused, leaves_same, left_live, less_self, row_ended, to_held, waiting, within_more}
 
 -- a step that may make an attempt
-pub record Goes (s t : Stepped) : Type 0 where
+pub record Continues (s t : Stepped) : Type 0 where
   pub rows : length s.ledger.rows ≤ length t.ledger.rows
   pub within : Within (length s.ledger.rows) s.call → Within (length t.ledger.rows) t.call
   pub sized : Sized s.call → Sized t.call
 
 -- which is one of those to come
 pub record Spends (s t : Stepped) : Type 0 where
-  pub goes : Goes s t
+  pub goes : Continues s t
   pub all : Sized s.call → length t.ledger.rows + (5 - t.call.attempts.sent) ≤ length s.ledger.rows + (5 - s.call.attempts.sent)
 
 same_or_more : (n m : ℕ) → m ≡ n → n ≤ m
 same_or_more n m e = omega (arith, e)
 
-pub goes_by : (s t : Stepped) → Leaves s t → Goes s t
+pub goes_by : (s t : Stepped) → Leaves s t → Continues s t
 goes_by s t l = record {
   rows = same_or_more (length s.ledger.rows) (length t.ledger.rows) l.rows;
   within = λ w. within_more (length s.ledger.rows) (length t.ledger.rows) t.call (same_or_more (length s.ledger.rows) (length t.ledger.rows) l.rows) (l.within (length s.ledger.rows) w);
@@ -70,11 +70,11 @@ spends_by s t l = record {
       omega (arith, rows, count));
 }
 
-goes_if : (b : Bool) (s t u : Stepped) → Goes s t → Goes s u → Goes s (if b then t else u)
+goes_if : (b : Bool) (s t u : Stepped) → Continues s t → Continues s u → Continues s (if b then t else u)
 goes_if true s t u a b = a
 goes_if false s t u a b = b
 
-goes_on : (s t u : Stepped) → Goes s t → Goes t u → Goes s u
+goes_on : (s t u : Stepped) → Continues s t → Continues t u → Continues s u
 goes_on s t u a b = record {
   rows = (let first : length s.ledger.rows ≤ length t.ledger.rows = a.rows in
       let second : length t.ledger.rows ≤ length u.ledger.rows = b.rows in
@@ -214,31 +214,31 @@ spends_configured chosen moment s few fresh =
     (λ e. fresh (none_of s.call.chosen (neither (is_some s.call.ended) (is_some s.call.chosen) e)))
 
 -- an end that a transparent retry follows takes none of those to come
-followed : (row : LiveRow) (told : EndNews) (moment : ℕ) (s : Stepped) → Goes s (step.followed row told moment s)
-followed row told moment s =
-    let end = parts.row_end told s.ledger.entry moment (parts.count_of s.tokens) in
+followed : (row : LiveRow) (reported : EndNews) (moment : ℕ) (s : Stepped) → Continues s (step.followed row reported moment s)
+followed row reported moment s =
+    let end = parts.row_end reported s.ledger.entry moment (parts.count_of s.tokens) in
     let t : Stepped = step.row_ended row.place end s in
     let committed : Option ℕ = step.stamp_if (parts.names row.place s.call.attempts.committed) s.ledger.entry in
-    let first : Goes s t = goes_by s t (row_ended row.place end s) in
+    let first : Continues s t = goes_by s t (row_ended row.place end s) in
     let rows : length (added row.number kind.Transparent moment committed t).ledger.rows ≡ length t.ledger.rows + 1 = added_rows row.number kind.Transparent moment committed t in
-    let second : Goes t (step.followed row told moment s) = record {
+    let second : Continues t (step.followed row reported moment s) = record {
       rows = omega (arith, rows);
       within = λ w. (let v : Within (length (added row.number kind.Transparent moment committed t).ledger.rows) (added row.number kind.Transparent moment committed t).call
           = added_within row.number kind.Transparent moment committed t w in
           record { live = v.live; held = v.held });
       sized = λ k. record { range = k.range; sent = k.sent };
     } in
-    goes_on s t (step.followed row told moment s) first second
+    goes_on s t (step.followed row reported moment s) first second
 
-ended_if_live : (o : Option LiveRow) (told : EndNews) (moment word : ℕ) (s : Stepped) → Goes s (step.ended_if_live o told moment word s)
-ended_if_live None told moment word s = goes_by s s (leaves_same s)
-ended_if_live (Some row) told moment word s =
+ended_if_live : (o : Option LiveRow) (reported : EndNews) (moment word : ℕ) (s : Stepped) → Continues s (step.ended_if_live o reported moment word s)
+ended_if_live None reported moment word s = goes_by s s (leaves_same s)
+ended_if_live (Some row) reported moment word s =
     let t : Stepped = step.left_live row.place s in
-    goes_if (is_followed s.call.attempts told.cause told.unseen) s (step.followed row told moment t) (step.counted row told moment word (step.settled told t))
-    (goes_on s t (step.followed row told moment t) (goes_by s t (left_live row.place s)) (followed row told moment t))
-    (goes_by s (step.counted row told moment word (step.settled told t)) (counts row told moment word s))
+    goes_if (is_followed s.call.attempts reported.cause reported.unseen) s (step.followed row reported moment t) (step.counted row reported moment word (step.settled reported t))
+    (goes_on s t (step.followed row reported moment t) (goes_by s t (left_live row.place s)) (followed row reported moment t))
+    (goes_by s (step.counted row reported moment word (step.settled reported t)) (counts row reported moment word s))
 
--- what a call hears
+-- what a call receives
 head_commits : (b : Bool) (row moment : ℕ) (s : Stepped)
     → Leaves s (if b then s else step.committed row moment (record s { call = record s.call { buffer = parts.committed_buffer row s.call.buffer } }))
 head_commits true row moment s = leaves_same s
@@ -264,8 +264,8 @@ with_head meta s t l = record {
   stopped = l.stopped;
 }
 
-heard_head : (row : ℕ) (meta : List Field) (moment : ℕ) (s : Stepped) → Leaves s (step.heard_head row meta moment s)
-heard_head row meta moment s =
+received_head : (row : ℕ) (meta : List Field) (moment : ℕ) (s : Stepped) → Leaves s (step.received_head row meta moment s)
+received_head row meta moment s =
     let t : Stepped = step.commit_by_head row moment s in
     leaves_if (is_some (find_live row s.call.live)) s (step.with_head meta t) s
     (with_head meta s t (head_commits (is_some s.call.attempts.committed) row moment s)) (leaves_same s)
@@ -285,16 +285,16 @@ message_if false octets s = leaves_same s
 large_if : (b : Bool) (moment : ℕ) (s : Stepped) → Leaves s (step.ended_if b ends.Response moment s)
 large_if b moment s = leaves_if b s (step.ended_as ends.Response moment s) s (leaves_ended ends.Response moment s) (leaves_same s)
 
-pub goes_heard : (row : ℕ) (told : News) (moment word : ℕ) (s : Stepped) → Goes s (step.heard_news row told moment word s)
-goes_heard row (news.Head tag meta seen) moment word s = goes_by s (step.heard_head row meta moment s) (heard_head row meta moment s)
-goes_heard row (news.Message tag octets seen) moment word s =
-    goes_by s (record s { call = step.heard_message row octets s.call }) (message_if (step.is_committed_live row s.call) octets s)
-goes_heard row (news.TooLarge tag seen) moment word s =
-    goes_by s (step.heard_too_large row moment s) (large_if (step.is_committed_live row s.call) moment s)
-goes_heard row (news.Ended tag end) moment word s = ended_if_live (find_live row s.call.live) end moment word s
-goes_heard row news.Ready moment word s = goes_by s s (leaves_same s)
-goes_heard row news.Retiring moment word s = goes_by s s (leaves_same s)
-goes_heard row (news.Broken code) moment word s = goes_by s s (leaves_same s)
+pub goes_received : (row : ℕ) (reported : News) (moment word : ℕ) (s : Stepped) → Continues s (step.received_news row reported moment word s)
+goes_received row (news.Head tag meta seen) moment word s = goes_by s (step.received_head row meta moment s) (received_head row meta moment s)
+goes_received row (news.Message tag octets seen) moment word s =
+    goes_by s (record s { call = step.received_message row octets s.call }) (message_if (step.is_committed_live row s.call) octets s)
+goes_received row (news.TooLarge tag seen) moment word s =
+    goes_by s (step.received_too_large row moment s) (large_if (step.is_committed_live row s.call) moment s)
+goes_received row (news.Ended tag end) moment word s = ended_if_live (find_live row s.call.live) end moment word s
+goes_received row news.Ready moment word s = goes_by s s (leaves_same s)
+goes_received row news.Retiring moment word s = goes_by s s (leaves_same s)
+goes_received row (news.Broken code) moment word s = goes_by s s (leaves_same s)
 
 -- what its application sends
 appended_held : (b : Bool) (n : ℕ) (text : List ℕ) (c : Buffered) → list_all (is_held n) c.cursors ≡ true
@@ -345,7 +345,7 @@ sent_by None message moment s =
     leaves_if (parts.is_too_long s.call.chosen (length message)) s (step.ended_as ends.Request moment s) (step.accepted_if (step.full_with (length message) s.call) message moment s)
     (leaves_ended ends.Request moment s) (accepted_by (step.full_with (length message) s.call) message moment s)
 
-pub goes_sent : (message : List ℕ) (moment : ℕ) (s : Stepped) → Goes s (step.sent message moment s)
+pub goes_sent : (message : List ℕ) (moment : ℕ) (s : Stepped) → Continues s (step.sent message moment s)
 goes_sent message moment s = goes_by s (step.sent message moment s) (sent_by (step.send_refusal s.call) message moment s)
 
 -- what is written for an attempt, and what its application takes, of what a call holds for its attempts

@@ -285,22 +285,22 @@ free row end moment word s =
     (judged_stopped (call_plan s.call) s.call.attempts row.number (has_none s.call.live) end (is_above s.tokens) word)))
     (closed_if after.closes row.place moment u)
 
-pub counted : (row : LiveRow) (told : EndNews) (moment word : ℕ) (s : Stepped) → Leaves s (step.counted row told moment word s)
-counted row told moment word s =
-    let end : RowEnd = parts.row_end told s.ledger.entry moment (count_of s.tokens) in
+pub counted : (row : LiveRow) (reported : EndNews) (moment word : ℕ) (s : Stepped) → Leaves s (step.counted row reported moment word s)
+counted row reported moment word s =
+    let end : RowEnd = parts.row_end reported s.ledger.entry moment (count_of s.tokens) in
     let t : Stepped = step.row_ended row.place end s in
     leaves_if (is_some s.call.attempts.committed) s (step.ended_as ends.Row moment t) (step.counted_free row end moment word s)
     (leaves_on s t (step.ended_as ends.Row moment t) (row_ended row.place end s) (leaves_ended ends.Row moment t)) (free row end moment word s)
 
-pub settled : (told : EndNews) (s : Stepped) → Leaves s (step.settled told s)
-settled told s = record { rows = refl; within = λ n w. w; chosen = refl; sent = refl; waiting = less_self (waiting s.ledger.rows); stopped = λ e. e }
+pub settled : (reported : EndNews) (s : Stepped) → Leaves s (step.settled reported s)
+settled reported s = record { rows = refl; within = λ n w. w; chosen = refl; sent = refl; waiting = less_self (waiting s.ledger.rows); stopped = λ e. e }
 
-pub counts : (row : LiveRow) (told : EndNews) (moment word : ℕ) (s : Stepped) → Leaves s (step.counted row told moment word (step.settled told (step.left_live row.place s)))
-counts row told moment word s =
+pub counts : (row : LiveRow) (reported : EndNews) (moment word : ℕ) (s : Stepped) → Leaves s (step.counted row reported moment word (step.settled reported (step.left_live row.place s)))
+counts row reported moment word s =
     let t : Stepped = step.left_live row.place s in
-    let u : Stepped = step.settled told t in
-    leaves_on s t (step.counted row told moment word u) (left_live row.place s)
-    (leaves_on t u (step.counted row told moment word u) (settled told t) (counted row told moment word u))
+    let u : Stepped = step.settled reported t in
+    leaves_on s t (step.counted row reported moment word u) (left_live row.place s)
+    (leaves_on t u (step.counted row reported moment word u) (settled reported t) (counted row reported moment word u))
 
 -- a pick that failed is followed by no transparent retry
 failed_if : (o : Option LiveRow) (moment word : ℕ) (s : Stepped) → Leaves s (step.ended_if_live o pick_end moment word s)

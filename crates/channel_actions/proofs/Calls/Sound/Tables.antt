@@ -10,7 +10,7 @@ use Rattle.call_core.specs.declared.attempts.Attempts.{Attempts}
 use Rattle.call_core.specs.declared.live.LiveRow.{LiveRow}
 use Rattle.call_core.specs.declared.state.CallState.{CallState}
 use Rattle.channel_actions.specs.GoingCalls.Going.{GoesOn}
-use Rattle.channel_actions.proofs.Calls.Sound.Spends.{Goes, Same, Spends}
+use Rattle.channel_actions.proofs.Calls.Sound.Spends.{Continues, Same, Spends}
 use Rattle.channel_actions.proofs.Calls.Sound.Steps.{Sized, Within, is_there, within_more}
 use Rattle.channel_actions.specs.SoundCalls.Sound.{IsSoundSlot, to_come}
 use Rattle.channel_core.specs.Tables.{acted, acted_at, acted_on, changed_call, changed_call_at, changed_call_on, changed_slot, changed_slot_at, changed_slot_on, numbered}
@@ -105,7 +105,7 @@ pub record Spent (n : ℕ) (call : CallState) (t : Stepped) : Type 0 where
   pub well : Well n call t
   pub all : length t.ledger.rows + (5 - t.call.attempts.sent) ≤ n + (5 - call.attempts.sent)
 
-pub well_by : (call : CallState) (ledger : Ledger) (tokens : Option Bucket) (t : Stepped) → GoesOn t.call → Goes (lent call ledger tokens []) t
+pub well_by : (call : CallState) (ledger : Ledger) (tokens : Option Bucket) (t : Stepped) → GoesOn t.call → Continues (lent call ledger tokens []) t
     → SoundCall (length ledger.rows) call → Well (length ledger.rows) call t
 well_by call ledger tokens t goes_on goes k = record {
   rows = goes.rows;

@@ -7,9 +7,9 @@ use Rattle.call_actions.proofs.Ranks.{numbered_map}
 use Rattle.call_actions.specs.Sees.{bucket_of}
 use Rattle.channel_actions.specs.Calls.{due_of}
 use Rattle.channel_actions.specs.Configs.{SeesBuckets, bucket_in, runs_in_turn}
-use Rattle.channel_actions.specs.Sets.{AreExactly, SeesSets, is_in_bare, is_in_deadlines, is_in_dues, is_in_impatient, is_in_outstanding, is_in_patient, is_in_queue, is_patient, is_waiting}
+use Rattle.channel_actions.specs.Sets.{PairsAreExactly, SeesSets, is_awaiting_config, is_in_deadlines, is_in_dues, is_in_fail_fast, is_in_outstanding, is_in_ready_waiters, is_in_queue, is_ready_waiter, is_waiting}
 use Rattle.channel_core.specs.States.{StateSeen}
-use Rattle.channel_actions.specs.DrainBooks.Laws.{AreSameSets, BucketsStay, CallColumnsStay, SetsStay}
+use Rattle.channel_actions.specs.DrainBooks.Laws.{SetsAreSame, BucketsStay, CallColumnsStay, SetsStay}
 use Rattle.channel_actions.proofs.Drains.Calls.Streamed.{streamed_is}
 use Rattle.session_actions.specs.Attempts.{is_of, is_outstanding, is_queued}
 use Rattle.session_actions.specs.Calls.{is_open_call}
@@ -75,10 +75,10 @@ module _ (s : Seen) (g : ℕ → Option ℕ) (ls : List Link) (current : Option 
       (λ a. ap (λ (b : Bool). (a.row.call == call) && b) (queued_same s g ls current a)) row
 
   queue_same : (call row : ℕ) → is_in_queue u call row ≡ is_in_queue s call row
-  queue_same call row = ap (λ (b : Bool). b && not (is_patient s call)) (waiting_same call row)
+  queue_same call row = ap (λ (b : Bool). b && not (is_ready_waiter s call)) (waiting_same call row)
 
-  patient_same : (call row : ℕ) → is_in_patient u call row ≡ is_in_patient s call row
-  patient_same call row = ap (λ (b : Bool). b && is_patient s call) (waiting_same call row)
+  wait_for_ready_same : (call row : ℕ) → is_in_ready_waiters u call row ≡ is_in_ready_waiters s call row
+  wait_for_ready_same call row = ap (λ (b : Bool). b && is_ready_waiter s call) (waiting_same call row)
 
   dues_same : (moment call : ℕ) → is_in_dues u moment call ≡ is_in_dues s moment call
   dues_same moment call =
@@ -89,18 +89,18 @@ module _ (s : Seen) (g : ℕ → Option ℕ) (ls : List Link) (current : Option 
   outstanding_same link row =
       of_row (λ (a : Attempt). is_outstanding a && (link_number a == link)) (λ (a : Attempt). is_outstanding a && (link_number a == link)) (λ a. refl) row
 
-  exact_by : (pairs more : List (ℕ × ℕ)) (test old : ℕ → ℕ → Bool) → more ≡ pairs → ((a b : ℕ) → test a b ≡ old a b) → AreExactly pairs old → AreExactly more test
+  exact_by : (pairs more : List (ℕ × ℕ)) (test old : ℕ → ℕ → Bool) → more ≡ pairs → ((a b : ℕ) → test a b ≡ old a b) → PairsAreExactly pairs old → PairsAreExactly more test
   exact_by pairs more test old e same is =
-      subst (λ (l : List (ℕ × ℕ)). AreExactly l test) (sym e) (record { rising = is.rising; exact = λ a b. is.exact a b ∙ sym (same a b) })
+      subst (λ (l : List (ℕ × ℕ)). PairsAreExactly l test) (sym e) (record { rising = is.rising; exact = λ a b. is.exact a b ∙ sym (same a b) })
 
-  pub sets_so : (x y : StateSeen) → AreSameSets x y → SeesSets x s → SeesSets y u
+  pub sets_so : (x y : StateSeen) → SetsAreSame x y → SeesSets x s → SeesSets y u
   sets_so x y same is = record {
     queue = exact_by x.queue y.queue (is_in_queue u) (is_in_queue s) same.queue queue_same is.queue;
-    patient = exact_by x.patient y.patient (is_in_patient u) (is_in_patient s) same.patient patient_same is.patient;
+    ready_waiters = exact_by x.ready_waiters y.ready_waiters (is_in_ready_waiters u) (is_in_ready_waiters s) same.ready_waiters wait_for_ready_same is.ready_waiters;
     dues = exact_by x.dues y.dues (is_in_dues u) (is_in_dues s) same.dues dues_same is.dues;
     deadlines = exact_by x.deadlines y.deadlines (is_in_deadlines u) (is_in_deadlines s) same.deadlines (λ a b. refl) is.deadlines;
-    bare = exact_by x.bare y.bare (is_in_bare u) (is_in_bare s) same.bare (λ a b. refl) is.bare;
-    impatient = exact_by x.impatient y.impatient (is_in_impatient u) (is_in_impatient s) same.impatient (λ a b. refl) is.impatient;
+    awaiting_config = exact_by x.awaiting_config y.awaiting_config (is_awaiting_config u) (is_awaiting_config s) same.awaiting_config (λ a b. refl) is.awaiting_config;
+    fail_fast = exact_by x.fail_fast y.fail_fast (is_in_fail_fast u) (is_in_fail_fast s) same.fail_fast (λ a b. refl) is.fail_fast;
     outstanding = exact_by x.outstanding y.outstanding (is_in_outstanding u) (is_in_outstanding s) same.outstanding outstanding_same is.outstanding;
     resets = same.resets ∙ is.resets;
   }

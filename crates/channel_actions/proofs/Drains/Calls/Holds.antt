@@ -16,7 +16,7 @@ use Rattle.session_actions.specs.declared.entry.OpenEntry.{OpenEntry}
 use Rattle.session_actions.specs.declared.link.Link.{Link}
 use Rattle.session_actions.specs.declared.seen.Seen.{Seen}
 use Rattle.channel_actions.proofs.Streams.Opened.Rows.{commitment_is, h, some_same, t}
-use Rattle.call_actions.specs.TakeActions.Serves.{AreFed, Holds, IsAt, IsFed, drained_so_far, passed}
+use Rattle.call_actions.specs.TakeActions.Serves.{AttemptsAreFed, Holds, IsAt, IsFed, drained_so_far, passed}
 
 -- lists
 map_cond : (f : Attempt → Attempt) (b : Bool) (x : Attempt) (xs : List Attempt) → cond b (f x ∷ map f xs) (map f xs) ≡ map f (cond b (x ∷ xs) xs)
@@ -111,7 +111,7 @@ module _ (s : Seen) (g : ℕ → Option ℕ) (ls : List Link) (current : Option 
   all_mapped [] all = tt
   all_mapped (a ∷ xs) all = (all.0, all_mapped xs all.1)
 
-  fed_now : AreFed u c d (filter (is_of c) u.attempts)
+  fed_now : AttemptsAreFed u c d (filter (is_of c) u.attempts)
   fed_now =
       subst (AllByRecursion (Fed d u)) (sym (filter_map_so (is_of c) (is_of c) f (λ a. refl) s.attempts))
       (all_mapped (filter (is_of c) s.attempts)

@@ -3,7 +3,7 @@ use Rattle.std.proofs.Common.{◌≡◌, ◌∷◌, ap, subst, sym, ◌∙◌, B
 use Rattle.std.proofs.lemmas.Option.{slice_get-map}
 use Rattle.std.specs.Option.{option_map}
 use Rattle.attempt_buffer.specs.Buffers.{Buffered}
-use Rattle.call_actions.specs.Order.{AreNumbered}
+use Rattle.call_actions.specs.Order.{AttemptsAreNumbered}
 use Rattle.channel_actions.proofs.Drains.Calls.Feeds.{fed_all_so}
 use Rattle.channel_actions.proofs.Drains.Calls.Holds.{holds_now}
 use Rattle.channel_actions.specs.DrainCalls.Laws.{FeedsHold, IsLeftAt, IsOnlyStreamed, IsSoundBuffer, fed_some}
@@ -16,22 +16,22 @@ use Rattle.session_actions.specs.declared.entry.OpenEntry.{OpenEntry}
 use Rattle.session_actions.specs.declared.link.Link.{Link}
 use Rattle.session_actions.specs.declared.seen.Seen.{Seen}
 use Rattle.channel_actions.proofs.Streams.Opened.Rows.{restream, restreamed}
-use Rattle.channel_actions.proofs.Streams.Opened.Streams.{AreRows, restream_is, streams_of}
+use Rattle.channel_actions.proofs.Streams.Opened.Streams.{RowsAgree, restream_is, streams_of}
 use Rattle.call_actions.specs.TakeActions.Serves.{Holds}
 
-rows_are : (as_ bs : List Attempt) → written.AreRows as_ bs → AreRows as_ bs
+rows_are : (as_ bs : List Attempt) → written.RowsAgree as_ bs → RowsAgree as_ bs
 rows_are [] [] h = tt
 rows_are (a ∷ as_) (b ∷ bs) h = (h.0, rows_are as_ bs h.1)
 rows_are [] (b ∷ bs) h = absurd h
 rows_are (a ∷ as_) [] h = absurd h
 
-pub streamed_is : (s t : Seen) → AreNumbered 1 s.attempts → IsOnlyStreamed s t → t ≡ restreamed (streams_of t.attempts) t.links t.current s
+pub streamed_is : (s t : Seen) → AttemptsAreNumbered 1 s.attempts → IsOnlyStreamed s t → t ≡ restreamed (streams_of t.attempts) t.links t.current s
 streamed_is s t places only =
     only.is
     ∙ ap (λ (rows : List Attempt). record s { attempts = rows; links = t.links; current = t.current })
     (sym (restream_is s.attempts t.attempts (rows_are s.attempts t.attempts only.rows) places))
 
-module _ (s : Seen) (c : Call) (b : Buffered) (own : ℕ → Bool) (feeds : List (ℕ × ℕ)) (places : AreNumbered 1 s.attempts) (old : Holds s c b) (sound : IsSoundBuffer s c b)
+module _ (s : Seen) (c : Call) (b : Buffered) (own : ℕ → Bool) (feeds : List (ℕ × ℕ)) (places : AttemptsAreNumbered 1 s.attempts) (old : Holds s c b) (sound : IsSoundBuffer s c b)
     (g : ℕ → Option ℕ) (ls : List Link) (current : Option OpenEntry) where
   abbrev u : Seen
   u = restreamed g ls current s

@@ -21,7 +21,7 @@ use Rattle.channel_core.specs.States.{StateSeen}
 use Rattle.channel_core.specs.Tables.{left_at}
 use Rattle.channel_core.specs.declared.state.slots.CallSlot.{CallSlot}
 use Rattle.channel_actions.proofs.Drains.Lends.Refed.{IsOf, refed}
-use Rattle.channel_actions.specs.DrainLends.Laws.{AreNear, LinesAreLent}
+use Rattle.channel_actions.specs.DrainLends.Laws.{DeadlinesAreClose, LinesAreLent}
 use Rattle.grpc_base.specs.Limits.{duration_limit}
 use Rattle.grpc_base.specs.Requests.{RequestSeen}
 use Rattle.grpc_frame.specs.Messages.{framed_all}
@@ -42,7 +42,7 @@ use Rattle.session_actions.specs.declared.attempt.Attempt.{Attempt}
 use Rattle.session_actions.specs.declared.call.Call.{Call}
 use Rattle.session_actions.specs.declared.link.Link.{Link}
 use Rattle.session_actions.specs.declared.seen.Seen.{Seen}
-use Rattle.session_order.specs.Calm.{NoneIs, is_to_cut}
+use Rattle.session_order.specs.Quiescent.{NoneIs, is_to_cut}
 use Rattle.call_actions.proofs.TakeActions.Deadlines.{deadline_is}
 use Rattle.call_actions.specs.TakeActions.Serves as serves
 use Rattle.grpc_base.specs.declared.event.EndCause.TheVariants as ending
@@ -115,7 +115,7 @@ fed_by b None false written all out is = absurd (cc)
 fed_by b (Some taken) true written all out is = is.left
 fed_by b (Some taken) false written all out is = absurd (cc)
 
-module _ (x : StateSeen) (s : Seen) (agrees : Agrees x s) (still : NoneIs (is_to_cut s) s.attempts) (timely : next_deadline s ≡ None) (near : AreNear s) (l : Link)
+module _ (x : StateSeen) (s : Seen) (agrees : Agrees x s) (still : NoneIs (is_to_cut s) s.attempts) (timely : next_deadline s ≡ None) (near : DeadlinesAreClose s) (l : Link)
     (at : numbered s.links l.number ≡ Some l) where
   module _ (a : Attempt) (line : Line) (is : IsOf l s a) (fed : IsFed l s a line) where
     abbrev c : Call

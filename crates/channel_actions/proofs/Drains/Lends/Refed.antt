@@ -5,8 +5,8 @@ use Rattle.channel_actions.proofs.Lines.{all_at_places, all_filter, all_sorted}
 use Rattle.h2_link.specs.Feeds.{Line}
 use Rattle.h2_link.specs.Wire.{Wire}
 use Rattle.h2_link.specs.declared.live.LiveStream.{LiveStream}
-use Rattle.channel_actions.specs.KeptSessions.Kept.{AreCounted}
-use Rattle.link_actions.specs.Sees.{AreFed, AreLive, IsFed, SeesLink, WaitFed, by_stream}
+use Rattle.channel_actions.specs.KeptSessions.Kept.{NumbersCountUp}
+use Rattle.link_actions.specs.Sees.{StreamsAreFed, StreamsAreLive, IsFed, SeesLink, WaitFed, by_stream}
 use Rattle.session_actions.specs.Reading.{is_outstanding_on, outstanding_on}
 use Rattle.session_actions.specs.Words.{numbered}
 use Rattle.session_actions.specs.Writing.{streaming_on, waiting_on}
@@ -31,7 +31,7 @@ all_out l s [] at = tt
 all_out l s (a ∷ xs) at = out_by l s a xs (is_outstanding_on l a) refl at.0 (all_out l s xs at.1)
 
 module _ (l : Link) (s : Seen) (h : ℕ → Line) (feeds : (a : Attempt) (line : Line) → IsOf l s a → IsFed l s a line → IsFed l s a (h a.place)) where
-  fed_all : (g : ℕ → Line) (xs : List LiveStream) (as_ : List Attempt) → AreLive l xs as_ → AllByRecursion (IsOf l s) as_ → AreFed l s g xs as_ → AreFed l s h xs as_
+  fed_all : (g : ℕ → Line) (xs : List LiveStream) (as_ : List Attempt) → StreamsAreLive l xs as_ → AllByRecursion (IsOf l s) as_ → StreamsAreFed l s g xs as_ → StreamsAreFed l s h xs as_
   fed_all g [] [] live of fed = tt
   fed_all g (x ∷ xs) (a ∷ as_) live of fed =
       (subst (λ (n : ℕ). IsFed l s a (h n)) (sym live.0.tag) (feeds a (g x.tag) of.0 fed.0), fed_all g xs as_ live.1 of.1 fed.1)
@@ -42,7 +42,7 @@ module _ (l : Link) (s : Seen) (h : ℕ → Line) (feeds : (a : Attempt) (line :
   wait_all g [] of fed = tt
   wait_all g (a ∷ as_) of fed = (feeds a (g a.place) of.0 fed.0, wait_all g as_ of.1 fed.1)
 
-  pub refed : (w : Wire) (g : ℕ → Line) → AreCounted 1 (map (λ (a : Attempt). a.place) s.attempts) → SeesStreams l s w g → SeesStreams l s w h
+  pub refed : (w : Wire) (g : ℕ → Line) → NumbersCountUp 1 (map (λ (a : Attempt). a.place) s.attempts) → SeesStreams l s w g → SeesStreams l s w h
   refed w g counted is =
       let k = is.sees in
       let out : AllByRecursion (IsOf l s) (outstanding_on l s) = all_out l s s.attempts (all_at_places s.attempts counted) in
@@ -60,4 +60,4 @@ module _ (l : Link) (s : Seen) (h : ℕ → Line) (feeds : (a : Attempt) (line :
         tags = k.tags;
         places = k.places;
       } in
-      record { sees = new; heard = is.heard; unheard = is.unheard; begun = is.begun }
+      record { sees = new; handled = is.handled; unreceived = is.unreceived; begun = is.begun }

@@ -2,9 +2,9 @@
 use Rattle.std.proofs.Common.{◌≡◌, ◌+◌, ◌*◌, ◌-ℤ◌, ◌++◌, ◌∷◌, ◌&&◌, ◌==◌, ◌^◌, append-nil, append_assoc, ap, arith, refl, subst, sym, ◌∙◌, Bool, true, false, List, [], Option, None, Some, ℕ, zero, suc, cond, drop, filter, if◌then◌else◌, is_none, length, map, nat_lt, not, pos, slice_get, slice_set, take}
 use Rattle.std.proofs.lemmas.Option.{slice_get-map}
 use Rattle.std.specs.Option.{option_map, option_map_or}
-use Rattle.call_actions.specs.Order.{AreNumbered}
+use Rattle.call_actions.specs.Order.{AttemptsAreNumbered}
 use Rattle.call_actions.proofs.CallsApart.Acts.{IsIn, at_place, in_filter}
-use Rattle.channel_actions.specs.DrainWrites.Laws.{AreWaiting, given_in}
+use Rattle.channel_actions.specs.DrainWrites.Laws.{OpenedRowsWait, given_in}
 use Rattle.h2_frame.specs.Frames.{FrameSeen}
 use Rattle.h2_frame.specs.Numbers.{headers_type}
 use Rattle.h2_frame.specs.Sent.{data_frame, headers_frame}
@@ -75,7 +75,7 @@ pub record IsGiven (l : Link) (s : Seen) (x : Sent) (w v : Wire) : Type 0 where
   pub opened : List (ℕ × ℕ)
   pub more : IsMore w v opened
   pub given : (stream_opened_by x l s).attempts ≡ given_in opened s.attempts
-  pub fresh : AreWaiting opened s.attempts
+  pub fresh : OpenedRowsWait opened s.attempts
 
 none_more : (w v : Wire) → map named v.live ≡ map named w.live → IsMore w v []
 none_more w v e = record { is = e ∙ sym (append-nil (map named w.live)) }
@@ -111,7 +111,7 @@ one_some a b e = (cc)
 same_place : (a : Attempt) (tag : ℕ) → Some a.place ≡ Some tag → a.place ≡ tag
 same_place a tag e = (cc)
 
-module _ (l : Link) (s : Seen) (w : Wire) (g : ℕ → Line) (tag : ℕ) (places : AreNumbered 1 s.attempts) (waits : w.waiting ≡ map (λ (a : Attempt). a.place) (waiting_on l s))
+module _ (l : Link) (s : Seen) (w : Wire) (g : ℕ → Line) (tag : ℕ) (places : AttemptsAreNumbered 1 s.attempts) (waits : w.waiting ≡ map (λ (a : Attempt). a.place) (waiting_on l s))
     (first : slice_get w.waiting 0 ≡ Some tag) where
   abbrev f : FrameSeen
   f = headers_frame (2 * w.opened + 1) (head_block w.resizes (g tag).fields)
@@ -160,7 +160,7 @@ data_given l s w g y x found same =
     (ap (λ (v : Wire). map named v.live) is.wire ∙ map_set w.live is.at z (record z { finished = is.share.1; credit = z.credit -ℤ pos is.share.0 }) there refl)
     (ap (λ (q : Sent). stream_opened_by q l s) frame ∙ no_headers l s k refl)
 
-head_by : (l : Link) (s : Seen) (w : Wire) (g : ℕ → Line) (y : Sending) (x : Sent) (o : Option ℕ) → AreNumbered 1 s.attempts → w.waiting ≡ map (λ (a : Attempt). a.place) (waiting_on l s)
+head_by : (l : Link) (s : Seen) (w : Wire) (g : ℕ → Line) (y : Sending) (x : Sent) (o : Option ℕ) → AttemptsAreNumbered 1 s.attempts → w.waiting ≡ map (λ (a : Attempt). a.place) (waiting_on l s)
     → opens w ≡ o → next_head w g o ≡ Some y → outgoing_of x ≡ y.frame → IsGiven l s x w y.wire
 head_by l s w g y x None places waits e found same = data_given l s w g y x found same
 head_by l s w g y x (Some tag) places waits e found same =
@@ -171,14 +171,14 @@ head_by l s w g y x (Some tag) places waits e found same =
     (head_given l s w g tag places waits (opens_by w.retiring (is_below (length w.live) w.limit) (nat_lt w.opened (2 ^ 30)) (slice_get w.waiting 0) tag e) y.wire
     (ap (λ (z : Sending). z.wire.live) (sym is)))
 
-control_by : (l : Link) (s : Seen) (w : Wire) (g : ℕ → Line) (y : Sending) (x : Sent) (o : Option Control) → AreNumbered 1 s.attempts → w.waiting ≡ map (λ (a : Attempt). a.place) (waiting_on l s)
+control_by : (l : Link) (s : Seen) (w : Wire) (g : ℕ → Line) (y : Sending) (x : Sent) (o : Option Control) → AttemptsAreNumbered 1 s.attempts → w.waiting ≡ map (λ (a : Attempt). a.place) (waiting_on l s)
     → next_control w g o ≡ Some y → outgoing_of x ≡ y.frame → IsGiven l s x w y.wire
 control_by l s w g y x None places waits found same = head_by l s w g y x (opens w) places waits refl found same
 control_by l s w g y x (Some c) places waits found same =
     let is : sent_control w g c ≡ y = (cc) in
     unopened l s x w y.wire (ap (λ (z : Sending). map named z.wire.live) (sym is)) (control_of l s x c (same ∙ ap (λ (z : Sending). z.frame) (sym is)))
 
-pub frame_given : (l : Link) (s : Seen) (w : Wire) (g : ℕ → Line) (y : Sending) (x : Sent) → AreNumbered 1 s.attempts → w.waiting ≡ map (λ (a : Attempt). a.place) (waiting_on l s)
+pub frame_given : (l : Link) (s : Seen) (w : Wire) (g : ℕ → Line) (y : Sending) (x : Sent) → AttemptsAreNumbered 1 s.attempts → w.waiting ≡ map (λ (a : Attempt). a.place) (waiting_on l s)
     → next w g ≡ Some y → outgoing_of x ≡ y.frame → IsGiven l s x w y.wire
 frame_given l s w g y x places waits found same = control_by l s w g y x (slice_get w.queue.items 0) places waits found same
 
@@ -187,7 +187,7 @@ given_join : (a b : List (ℕ × ℕ)) (as_ : List Attempt) → given_in (a ++ b
 given_join [] b as_ = refl
 given_join (o ∷ a) b as_ = given_join a b (changed (with_stream o.1) o.0 as_)
 
-waiting_join : (a b : List (ℕ × ℕ)) (as_ : List Attempt) → AreWaiting a as_ → AreWaiting b (given_in a as_) → AreWaiting (a ++ b) as_
+waiting_join : (a b : List (ℕ × ℕ)) (as_ : List Attempt) → OpenedRowsWait a as_ → OpenedRowsWait b (given_in a as_) → OpenedRowsWait (a ++ b) as_
 waiting_join [] b as_ f g = g
 waiting_join (o ∷ a) b as_ f g = (f.0, waiting_join a b (changed (with_stream o.1) o.0 as_) f.1 g)
 
@@ -196,7 +196,7 @@ pub record AreGiven (w v : Wire) (as_ bs : List Attempt) : Type 0 where
   pub opened : List (ℕ × ℕ)
   pub more : IsMore w v opened
   pub given : bs ≡ given_in opened as_
-  pub fresh : AreWaiting opened as_
+  pub fresh : OpenedRowsWait opened as_
 
 pub none_given : (w : Wire) (as_ : List Attempt) → AreGiven w w as_ as_
 none_given w as_ = record { opened = []; more = none_more w w refl; given = refl; fresh = tt }
@@ -206,10 +206,10 @@ given_on l s x w v z bs one rest = record {
   opened = one.opened ++ rest.opened;
   more = more_join w v z one.opened rest.opened one.more rest.more;
   given = rest.given ∙ ap (given_in rest.opened) one.given ∙ sym (given_join one.opened rest.opened s.attempts);
-  fresh = waiting_join one.opened rest.opened s.attempts one.fresh (subst (AreWaiting rest.opened) one.given rest.fresh);
+  fresh = waiting_join one.opened rest.opened s.attempts one.fresh (subst (OpenedRowsWait rest.opened) one.given rest.fresh);
 }
 
-pub given_between : (w v : Wire) (as_ bs : List Attempt) → AreGiven w v as_ bs → (bs ≡ given_in (opened_between w v) as_) × AreWaiting (opened_between w v) as_
+pub given_between : (w v : Wire) (as_ bs : List Attempt) → AreGiven w v as_ bs → (bs ≡ given_in (opened_between w v) as_) × OpenedRowsWait (opened_between w v) as_
 given_between w v as_ bs is =
     let e : opened_between w v ≡ is.opened = between_is w v is.opened is.more in
-    (is.given ∙ ap (λ (ns : List (ℕ × ℕ)). given_in ns as_) (sym e), subst (λ (ns : List (ℕ × ℕ)). AreWaiting ns as_) (sym e) is.fresh)
+    (is.given ∙ ap (λ (ns : List (ℕ × ℕ)). given_in ns as_) (sym e), subst (λ (ns : List (ℕ × ℕ)). OpenedRowsWait ns as_) (sym e) is.fresh)

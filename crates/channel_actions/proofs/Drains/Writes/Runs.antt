@@ -3,12 +3,12 @@ use Rattle.std.proofs.Common.{◌≡◌, ◌+◌, ◌*◌, ◌++◌, ◌<◌, �
 use Rattle.std.proofs.lemmas.Bool.{le-leb, lt-leb}
 use Rattle.std.specs.Option.{option_and_then, option_map, option_map_or}
 use Rattle.call_actions.proofs.Lists.{changed_twice}
-use Rattle.call_actions.specs.Order.{AreNumbered}
+use Rattle.call_actions.specs.Order.{AttemptsAreNumbered}
 use Rattle.channel_actions.proofs.Drains.Writes.Counts.{sends_opened}
 use Rattle.channel_actions.proofs.Drains.Writes.Forms.{IsForm, rows_join, rows_self, sent_on, written_form}
 use Rattle.channel_actions.proofs.Drains.Writes.Fresh.{IsFreshHead, fresh_head}
 use Rattle.channel_actions.proofs.Drains.Writes.Given.{AreGiven, frame_given, given_between, given_on, none_given}
-use Rattle.channel_actions.specs.DrainWrites.Laws.{AreRows, DrainsAreActions, IsDraining, with_all_sent, writing}
+use Rattle.channel_actions.specs.DrainWrites.Laws.{RowsAgree, DrainsAreActions, IsDraining, with_all_sent, writing}
 use Rattle.grpc_base.specs.declared.event.Event.{Event}
 use Rattle.grpc_base.specs.declared.event.Reply.{Reply}
 use Rattle.grpc_base.specs.declared.event.Reply.TheVariants as reply
@@ -23,7 +23,7 @@ use Rattle.h2_link.specs.Wire.{Wire}
 use Rattle.h2_link.specs.declared.live.LiveStream.{LiveStream}
 use Rattle.link_actions.proofs.Next.{writes_are_same}
 use Rattle.link_actions.specs.Laws.{with_written}
-use Rattle.link_actions.specs.Sees.{ArePlaced, outgoing_of}
+use Rattle.link_actions.specs.Sees.{AttemptsStandInPlace, outgoing_of}
 use Rattle.link_actions.proofs.ReaderActions.Openings.{openings_add_up}
 use Rattle.link_actions.proofs.ReaderActions.Written.{writes_keep_readers}
 use Rattle.link_actions.specs.ResponseActions.Readers.{SeesReaders}
@@ -43,7 +43,7 @@ use Rattle.session_actions.specs.declared.link.Link.{Link}
 use Rattle.session_actions.specs.declared.link.Sent.{Sent}
 use Rattle.session_actions.specs.declared.link.Sent.TheVariants as sent
 use Rattle.session_actions.specs.declared.seen.Seen.{Seen}
-use Rattle.session_order.proofs.Calms.{calm_leaves_stage}
+use Rattle.session_order.proofs.Quiescence.{quiescence_leaves_stage}
 use Rattle.link_actions.proofs.StreamActions.WriteStreams.{writes_keep_streams}
 use Rattle.link_actions.specs.StreamActions.Laws.{IsWrittenOn}
 use Rattle.link_actions.specs.StreamActions.Sees.{SeesStreams}
@@ -58,9 +58,9 @@ same_bytes (sent.Frame f) = refl
 frame_of : (x : Sent) (f : FrameSeen) → x ≡ sent.Frame f → outgoing_of x ≡ AFrame f
 frame_of x f e = ap outgoing_of e
 
-numbers_of : (n : ℕ) (xs : List Attempt) → ArePlaced n xs → AreNumbered n xs
+numbers_of : (n : ℕ) (xs : List Attempt) → AttemptsStandInPlace n xs → AttemptsAreNumbered n xs
 numbers_of n [] h = tt
-numbers_of n (a ∷ xs) h = (h.0, subst (λ (k : ℕ). AreNumbered k xs) (let e : n + 1 ≡ suc n = omega arith in e) (numbers_of (n + 1) xs h.1))
+numbers_of n (a ∷ xs) h = (h.0, subst (λ (k : ℕ). AttemptsAreNumbered k xs) (let e : n + 1 ≡ suc n = omega arith in e) (numbers_of (n + 1) xs h.1))
 
 -- the frame that comes next, where it fits
 abbrev room : ℕ → ℕ
@@ -87,7 +87,7 @@ module _ (o : OpenEntry) (s : Seen) (l : Link) (most : ℕ) (given : List ℕ) (
 
   next_is : (x : Sent) → sendable l s ≡ Some x → length given + length (bytes_of x) ≤ room most → following s ≡ Some (action.FrameWritten l.number x)
   next_is x e fits =
-      calm_leaves_stage o s is.current is.calm ∙ ap (of_stage o s) is.stage_is
+      quiescence_leaves_stage o s is.current is.quiescent ∙ ap (of_stage o s) is.stage_is
       ∙ ap (λ (a : Option Action). first_action (a ∷ Some action.SettlingBegins ∷ []))
       (gives x e ∙ ap (λ (b : Bool). if b then Some (action.FrameWritten l.number x) else None) (le-leb (length given + length (bytes_of x)) (room most) fits))
 
@@ -109,7 +109,7 @@ blank_of : (l : Link) (s : Seen) (w : Wire) (g : ℕ → Line) (y : Sending) (x 
 blank_of l s w g y x is found same f a frame kind =
     let fresh : IsFreshHead w f = fresh_head w g y f found (sym same ∙ frame_of x f frame) kind in
     let high : 2 * w.opened < f.stream = (let number : f.stream ≡ 2 * w.opened + 1 = fresh.stream in omega (arith, number)) in
-    let none = is.unheard (limit_of_attempt a s) f.stream high (sym is.sees.sees.reads.retiring ∙ fresh.takes) in
+    let none = is.unreceived (limit_of_attempt a s) f.stream high (sym is.sees.sees.reads.retiring ∙ fresh.takes) in
     record { head = none.head; end = none.goes; large = none.small }
 
 can_write : (l : Link) (s : Seen) (w : Wire) (g : ℕ → Line) (y : Sending) (x : Sent) → SeesStreams l s w g → next w g ≡ Some y → outgoing_of x ≡ y.frame → CanWrite l x s
@@ -129,7 +129,7 @@ draining_on o s l most given x is can form =
       event_is = is.event_is;
       stage_is = is.stage_is;
       reply_is = ap (λ (r : Option Reply). Some (reply.Octets (bytes_given r ++ bytes_of x))) is.reply_is;
-      calm = λ m. writes_stir_nothing l.number most l x o (with_written_bytes x o) s m is.current is.event_is can there (is.calm m);
+      quiescent = λ m. writes_stir_nothing l.number most l x o (with_written_bytes x o) s m is.current is.event_is can there (is.quiescent m);
     }
 
 -- from any point of it
@@ -140,7 +140,7 @@ pub record IsRest (l : Link) (s : Seen) (o : OpenEntry) (given octets : List ℕ
   pub entry : OpenEntry
   pub entry_is : entry ≡ record o { reply = Some (reply.Octets (given ++ octets)) }
   pub is : seen ≡ record s { attempts = seen.attempts; links = changed (with_all_sent sent) l.number s.links; current = Some entry }
-  pub rows : AreRows s.attempts seen.attempts
+  pub rows : RowsAgree s.attempts seen.attempts
   pub gives : AreGiven w w2 s.attempts seen.attempts
   pub streams : SeesStreams (with_all_sent sent l) seen w2 g2
   pub readers_are : SeesReaders (with_all_sent sent l) seen readers
@@ -219,8 +219,8 @@ module _ (l : Link) (s : Seen) (o : OpenEntry) (given : List ℕ) (w : Wire) (g 
   fits_rest =
       let whole : length (octets_of f ++ more) ≡ length (octets_of f) + length more = length-append (octets_of f) more in
       let own : length (bytes_of x) ≡ length (octets_of f) = ap (λ (bs : List ℕ). length bs) bytes_are in
-      let front : length (given ++ bytes_of x) ≡ length given + length (bytes_of x) = length-append given (bytes_of x) in
-      omega (arith, fits, whole, own, front)
+      let prefix : length (given ++ bytes_of x) ≡ length given + length (bytes_of x) = length-append given (bytes_of x) in
+      omega (arith, fits, whole, own, prefix)
 
   opened_now : s1.attempts ≡ (stream_opened_by x l s).attempts
   opened_now = ap (λ (q : Option Link). (option_map_or (frame_written_on x s) q s).attempts) is.sees.at
@@ -306,7 +306,7 @@ drains_are_actions l s o w w2 g g2 readers most octets is reads few drains drain
       fresh = streams.1;
       streams = rest.streams;
       readers_are = rest.readers_are;
-      calm = rest.draining.calm;
+      quiescent = rest.draining.quiescent;
       none = none_left rest.entry rest.seen m most octets here rest.streams.sees.at
           (λ x e. next_by m rest.seen (next w2 g2) x e (writes_are_same m rest.seen w2 g2 rest.streams.sees few) (room most) (length octets) drains.stops);
     }

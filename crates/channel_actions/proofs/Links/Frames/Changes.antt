@@ -7,8 +7,8 @@ use Rattle.std.specs.Option.{option_and_then, option_map, option_map_or}
 use Rattle.call_actions.proofs.Lists.{changed_away, changed_map}
 use Rattle.call_actions.proofs.Ranks.{numbered_map, numbered_more}
 use Rattle.call_actions.proofs.CallsApart.Parts.{IsSame}
-use Rattle.channel_actions.proofs.Links.Frames.Tellings.{Goes, all_go, link_self, self_alike, selves_alike}
-use Rattle.channel_actions.specs.LinkFrames.Alike.{AreAlike, CannotTell, IsAlike, IsCallStill, IsElsewhere, IsLinkStill, Numbers, is_on}
+use Rattle.channel_actions.proofs.Links.Frames.Distinguishing.{Continues, all_go, link_self, self_alike, selves_alike}
+use Rattle.channel_actions.specs.LinkFrames.Alike.{AttemptsAreAlike, CannotDistinguish, IsAlike, IsCallStill, IsElsewhere, IsLinkStill, Numbers, is_on}
 use Rattle.service_config.specs.Choice.{chosen_for}
 use Rattle.session_actions.specs.Attempts.{call_of, with_attempt}
 use Rattle.session_actions.specs.Calls.{with_call}
@@ -44,13 +44,13 @@ module _ (touched : Numbers) where
       → (l : Link) × (numbered s.links link ≡ Some l) × IsLinkStill l m
   same_links s t e link m apart got = (m, ap (λ (ls : List Link). numbered ls link) (sym e) ∙ got, link_self m)
 
-  pub same_but_calls : (s t : Seen) → t.links ≡ s.links → t.attempts ≡ s.attempts → AllByRecursion (Goes touched s t) s.attempts → CannotTell touched s t
+  pub same_but_calls : (s t : Seen) → t.links ≡ s.links → t.attempts ≡ s.attempts → AllByRecursion (Continues touched s t) s.attempts → CannotDistinguish touched s t
   same_but_calls s t links attempts goes = record {
     links = same_links s t links;
-    attempts = subst (AreAlike touched s t s.attempts) (sym attempts) (selves_alike touched s t s.attempts goes);
+    attempts = subst (AttemptsAreAlike touched s t s.attempts) (sym attempts) (selves_alike touched s t s.attempts goes);
   }
 
-  goes_same : (s t : Seen) → t.calls ≡ s.calls → t.configs ≡ s.configs → (a : Attempt) → Goes touched s t a
+  goes_same : (s t : Seen) → t.calls ≡ s.calls → t.configs ≡ s.configs → (a : Attempt) → Continues touched s t a
   goes_same s t calls configs a link apart on c e = record {
     call = c;
     is = ap (λ (l : List Call). numbered l a.row.call) calls ∙ e;
@@ -58,10 +58,10 @@ module _ (touched : Numbers) where
     more = le_refl (accepted_bytes c);
   }
 
-  pub all_same : (s t : Seen) → IsSameSo s t → CannotTell touched s t
+  pub all_same : (s t : Seen) → IsSameSo s t → CannotDistinguish touched s t
   all_same s t is = same_but_calls s t is.links is.attempts (all_go touched s t (goes_same s t is.calls is.configs) s.attempts)
 
-  -- a call changes, but not in what a link can tell
+  -- a call changes, but not in what a link can distinguish
   pub record IsMild (f : Call → Call) : Type 0 where
     pub config : (c : Call) → (f c).config ≡ c.config
     pub request : (c : Call) → (f c).request ≡ c.request
@@ -82,33 +82,33 @@ module _ (touched : Numbers) where
     more = le_refl (accepted_bytes c);
   }
 
-  pub call_changed : (f : Call → Call) (n : ℕ) (s : Seen) → IsMild f → CannotTell touched s (with_call f n s)
+  pub call_changed : (f : Call → Call) (n : ℕ) (s : Seen) → IsMild f → CannotDistinguish touched s (with_call f n s)
   call_changed f n s mild =
       same_but_calls s (with_call f n s) refl refl
       (all_go touched s (with_call f n s) (λ a link apart on c e. mild_by f n s mild a c e (a.row.call == n) refl) s.attempts)
 
   -- a call joins; a config joins
-  pub call_joins : (d : Call) (s : Seen) → CannotTell touched s (record s { calls = s.calls ++ d ∷ [] })
+  pub call_joins : (d : Call) (s : Seen) → CannotDistinguish touched s (record s { calls = s.calls ++ d ∷ [] })
   call_joins d s =
       let t : Seen = record s { calls = s.calls ++ d ∷ [] } in
       same_but_calls s t refl refl
       (all_go touched s t (λ a link apart on c e. record { call = c; is = numbered_more s.calls d c a.row.call e; limit = refl; more = le_refl (accepted_bytes c) }) s.attempts)
 
   -- an attempt changes
-  set_alike : (s t : Seen) (f : Attempt → Attempt) (xs : List Attempt) (i : ℕ) (x : Attempt) → AllByRecursion (Goes touched s t) xs → slice_get xs i ≡ Some x
-      → IsAlike touched s t x (f x) → AreAlike touched s t xs (slice_set xs i (f x))
+  set_alike : (s t : Seen) (f : Attempt → Attempt) (xs : List Attempt) (i : ℕ) (x : Attempt) → AllByRecursion (Continues touched s t) xs → slice_get xs i ≡ Some x
+      → IsAlike touched s t x (f x) → AttemptsAreAlike touched s t xs (slice_set xs i (f x))
   set_alike s t f [] i x goes got is = tt
   set_alike s t f (y ∷ xs) zero x goes got is =
       let one : x ≡ y = (cc) in (subst (λ (z : Attempt). IsAlike touched s t z (f x)) one is, selves_alike touched s t xs goes.1)
   set_alike s t f (y ∷ xs) (suc i) x goes got is = (self_alike touched s t y goes.0, set_alike s t f xs i x goes.1 got is)
 
-  if_alike : (s t : Seen) (f : Attempt → Attempt) (i : ℕ) (o : Option Attempt) → AllByRecursion (Goes touched s t) s.attempts → slice_get s.attempts i ≡ o
-      → ((x : Attempt) → o ≡ Some x → IsAlike touched s t x (f x)) → AreAlike touched s t s.attempts (changed_if f (suc i) s.attempts o)
+  if_alike : (s t : Seen) (f : Attempt → Attempt) (i : ℕ) (o : Option Attempt) → AllByRecursion (Continues touched s t) s.attempts → slice_get s.attempts i ≡ o
+      → ((x : Attempt) → o ≡ Some x → IsAlike touched s t x (f x)) → AttemptsAreAlike touched s t s.attempts (changed_if f (suc i) s.attempts o)
   if_alike s t f i None goes got is = selves_alike touched s t s.attempts goes
   if_alike s t f i (Some x) goes got is = set_alike s t f s.attempts i x goes got (is x refl)
 
-  changed_alike : (s t : Seen) (f : Attempt → Attempt) (n : ℕ) → AllByRecursion (Goes touched s t) s.attempts
-      → ((x : Attempt) → numbered s.attempts n ≡ Some x → IsAlike touched s t x (f x)) → AreAlike touched s t s.attempts (changed f n s.attempts)
+  changed_alike : (s t : Seen) (f : Attempt → Attempt) (n : ℕ) → AllByRecursion (Continues touched s t) s.attempts
+      → ((x : Attempt) → numbered s.attempts n ≡ Some x → IsAlike touched s t x (f x)) → AttemptsAreAlike touched s t s.attempts (changed f n s.attempts)
   changed_alike s t f zero goes is = selves_alike touched s t s.attempts goes
   changed_alike s t f (suc i) goes is = if_alike s t f i (slice_get s.attempts i) goes refl is
 
@@ -128,7 +128,7 @@ module _ (touched : Numbers) where
     };
   }
 
-  pub attempt_changed : (f : Attempt → Attempt) (n : ℕ) (s : Seen) → ((x : Attempt) → numbered s.attempts n ≡ Some x → IsRowAlike x (f x)) → CannotTell touched s (with_attempt f n s)
+  pub attempt_changed : (f : Attempt → Attempt) (n : ℕ) (s : Seen) → ((x : Attempt) → numbered s.attempts n ≡ Some x → IsRowAlike x (f x)) → CannotDistinguish touched s (with_attempt f n s)
   attempt_changed f n s is =
       let t : Seen = with_attempt f n s in
       record {
@@ -137,20 +137,20 @@ module _ (touched : Numbers) where
       }
 
   -- an attempt joins
-  joins_alike : (s t : Seen) (xs : List Attempt) (b : Attempt) → AllByRecursion (Goes touched s t) xs → IsElsewhere touched b → AreAlike touched s t xs (xs ++ b ∷ [])
+  joins_alike : (s t : Seen) (xs : List Attempt) (b : Attempt) → AllByRecursion (Continues touched s t) xs → IsElsewhere touched b → AttemptsAreAlike touched s t xs (xs ++ b ∷ [])
   joins_alike s t [] b goes off = (off, tt)
   joins_alike s t (a ∷ xs) b goes off = (self_alike touched s t a goes.0, joins_alike s t xs b goes.1 off)
 
-  pub attempt_joins : (b : Attempt) (s : Seen) → IsElsewhere touched b → CannotTell touched s (record s { attempts = s.attempts ++ b ∷ [] })
+  pub attempt_joins : (b : Attempt) (s : Seen) → IsElsewhere touched b → CannotDistinguish touched s (record s { attempts = s.attempts ++ b ∷ [] })
   attempt_joins b s off =
       let t : Seen = record s { attempts = s.attempts ++ b ∷ [] } in
       record { links = same_links s t refl; attempts = joins_alike s t s.attempts b (all_go touched s t (goes_same s t refl refl) s.attempts) off }
 
   -- links: one changes that is touched, or each as a stamp does; and one joins that is touched
-  attempts_stay : (s : Seen) (ls : List Link) → AreAlike touched s (record s { links = ls }) s.attempts s.attempts
+  attempts_stay : (s : Seen) (ls : List Link) → AttemptsAreAlike touched s (record s { links = ls }) s.attempts s.attempts
   attempts_stay s ls = selves_alike touched s (record s { links = ls }) s.attempts (all_go touched s (record s { links = ls }) (goes_same s (record s { links = ls }) refl refl) s.attempts)
 
-  pub link_changed : (f : Link → Link) (n : ℕ) (s : Seen) → ((link : ℕ) → touched link ≡ false → link ≡ n → ⊥) → CannotTell touched s (record s { links = changed f n s.links })
+  pub link_changed : (f : Link → Link) (n : ℕ) (s : Seen) → ((link : ℕ) → touched link ≡ false → link ≡ n → ⊥) → CannotDistinguish touched s (record s { links = changed f n s.links })
   link_changed f n s off = record {
     links = λ link m apart got. (m, sym (changed_away f n link s.links (off link apart)) ∙ got, link_self m);
     attempts = attempts_stay s (changed f n s.links);
@@ -160,7 +160,7 @@ module _ (touched : Numbers) where
   mapped_by f still m None e = absurd (cc)
   mapped_by f still m (Some l) e = let one : f l ≡ m = (cc) in (l, refl, subst (IsLinkStill l) one (still l))
 
-  pub links_mapped : (f : Link → Link) (s : Seen) → ((l : Link) → IsLinkStill l (f l)) → CannotTell touched s (record s { links = map f s.links })
+  pub links_mapped : (f : Link → Link) (s : Seen) → ((l : Link) → IsLinkStill l (f l)) → CannotDistinguish touched s (record s { links = map f s.links })
   links_mapped f s still = record {
     links = λ link m apart got. mapped_by f still m (numbered s.links link) (sym (numbered_map f s.links link) ∙ got);
     attempts = attempts_stay s (map f s.links);
@@ -173,7 +173,7 @@ module _ (touched : Numbers) where
   beyond (x ∷ xs) y (suc zero) off = refl
   beyond (x ∷ xs) y (suc (suc i)) off = beyond xs y (suc i) (λ e. (let same : suc (suc i) ≡ suc (length xs) + 1 = omega (arith, e) in off same))
 
-  pub link_joins : (l : Link) (s : Seen) → ((link : ℕ) → touched link ≡ false → link ≡ length s.links + 1 → ⊥) → CannotTell touched s (record s { links = s.links ++ l ∷ [] })
+  pub link_joins : (l : Link) (s : Seen) → ((link : ℕ) → touched link ≡ false → link ≡ length s.links + 1 → ⊥) → CannotDistinguish touched s (record s { links = s.links ++ l ∷ [] })
   link_joins l s off = record {
     links = λ link m apart got. (m, sym (beyond s.links l link (off link apart)) ∙ got, link_self m);
     attempts = attempts_stay s (s.links ++ l ∷ []);

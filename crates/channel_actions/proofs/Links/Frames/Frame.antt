@@ -5,11 +5,11 @@ use Rattle.channel_actions.proofs.Stamps.{counted_at}
 use Rattle.channel_actions.specs.Links.{HasLink, IsGoing, SeesLinkOf}
 use Rattle.channel_core.specs.States.{StateSeen}
 use Rattle.channel_core.specs.declared.state.links.LinkSlot.{LinkSlot}
-use Rattle.channel_actions.specs.KeptSessions.Kept.{AreCounted, IsKept}
-use Rattle.link_actions.specs.Sees.{ArePlaced}
+use Rattle.channel_actions.specs.KeptSessions.Kept.{NumbersCountUp, IsKept}
+use Rattle.link_actions.specs.Sees.{AttemptsStandInPlace}
 use Rattle.channel_actions.proofs.Links.Frames.Readers.{readers_still}
 use Rattle.channel_actions.proofs.Links.Frames.Streams.{streams_still}
-use Rattle.channel_actions.specs.LinkFrames.Alike.{CannotTell, IsLinkStill, Numbers}
+use Rattle.channel_actions.specs.LinkFrames.Alike.{CannotDistinguish, IsLinkStill, Numbers}
 use Rattle.channel_actions.specs.LinkFrames.Laws.{LinksStay, OthersAgree}
 use Rattle.session_actions.specs.Links.{is_retiring, read_bytes}
 use Rattle.session_actions.specs.Words.{numbered}
@@ -20,11 +20,11 @@ use Rattle.session_actions.specs.declared.link.Traffic.{Traffic}
 use Rattle.session_actions.specs.declared.seen.Seen.{Seen}
 
 -- attempts that are counted stand at their places
-placed_from : (n : ℕ) (xs : List Attempt) → AreCounted n (map (λ (a : Attempt). a.place) xs) → ArePlaced n xs
+placed_from : (n : ℕ) (xs : List Attempt) → NumbersCountUp n (map (λ (a : Attempt). a.place) xs) → AttemptsStandInPlace n xs
 placed_from n [] h = tt
-placed_from n (a ∷ xs) h = (h.0, subst (λ (k : ℕ). ArePlaced k xs) (let e : suc n ≡ n + 1 = omega arith in e) (placed_from (suc n) xs h.1))
+placed_from n (a ∷ xs) h = (h.0, subst (λ (k : ℕ). AttemptsStandInPlace k xs) (let e : suc n ≡ n + 1 = omega arith in e) (placed_from (suc n) xs h.1))
 
-module _ (touched : Numbers) (s t : Seen) (kept : IsKept s) (kept_t : IsKept t) (cannot : CannotTell touched s t) (link : ℕ) (apart : touched link ≡ false)
+module _ (touched : Numbers) (s t : Seen) (kept : IsKept s) (kept_t : IsKept t) (cannot : CannotDistinguish touched s t) (link : ℕ) (apart : touched link ≡ false)
     (l m : Link) (own : l.number ≡ link) (before : numbered s.links link ≡ Some l) (after : numbered t.links link ≡ Some m) (still : IsLinkStill l m) (slot : LinkSlot) where
   number_m : m.number ≡ link
   number_m = still.same.number ∙ own

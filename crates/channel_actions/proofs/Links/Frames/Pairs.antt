@@ -9,7 +9,7 @@ use Rattle.h2_link.specs.Feeds.{Line}
 use Rattle.link_actions.proofs.Lists.{both_if, if_false}
 use Rattle.link_actions.specs.Sees.{IsFed, written_for}
 use Rattle.channel_actions.proofs.Links.Frames.Steps as step
-use Rattle.channel_actions.specs.LinkFrames.Alike.{AreAlike, IsAttemptStill, IsCallStill, IsElsewhere, Numbers, is_on}
+use Rattle.channel_actions.specs.LinkFrames.Alike.{AttemptsAreAlike, IsAttemptStill, IsCallStill, IsElsewhere, Numbers, is_on}
 use Rattle.session_actions.specs.Attempts.{call_of}
 use Rattle.session_actions.specs.Configs.{chosen_of}
 use Rattle.session_actions.specs.Reading.{used}
@@ -87,7 +87,7 @@ module _ (touched : Numbers) (s t : Seen) (link : ℕ) (apart : touched link ≡
   none_on [] all = refl
   none_on (b ∷ bs) all = if_false (is_on link b) (b ∷ filter (is_on link) bs) (filter (is_on link) bs) (all.0 link apart) ∙ none_on bs all.1
 
-  pub on_step : (xs ys : List Attempt) → list_all (λ (a : Attempt). is_some (call_of a s)) xs ≡ true → AllByRecursion (AtPlace t) ys → AreAlike touched s t xs ys
+  pub on_step : (xs ys : List Attempt) → list_all (λ (a : Attempt). is_some (call_of a s)) xs ≡ true → AllByRecursion (AtPlace t) ys → AttemptsAreAlike touched s t xs ys
       → InStep s t (filter (is_on link) xs) (filter (is_on link) ys)
   on_step [] bs owned at are = subst (InStep s t []) (sym (none_on bs are)) tt
   on_step (a ∷ as_) (b ∷ bs) owned at are =

@@ -1,4 +1,4 @@
--- The readers of a link that cannot tell have what came of the responses on it, as before.
+-- The readers of a link that cannot distinguish have what came of the responses on it, as before.
 use Rattle.std.proofs.Common.{◌≡◌, ◌∷◌, ◌&&◌, ◌==◌, ap, refl, subst, sym, ◌∙◌, Bool, true, false, List, [], Option, None, Some, ℕ, zero, suc, if◌then◌else◌, is_none, is_some, slice_get}
 use Rattle.std.specs.List.{AllByRecursion, list_all}
 use Rattle.std.specs.Option.{option_map_or}
@@ -10,7 +10,7 @@ use Rattle.grpc_link.specs.Links.{reader_in}
 use Rattle.grpc_link.specs.Readers.{ReaderSeen}
 use Rattle.grpc_link.specs.declared.readers.TagReader.{TagReader}
 use Rattle.channel_actions.proofs.Links.Frames.Pairs.{both_true, limit_still}
-use Rattle.channel_actions.specs.LinkFrames.Alike.{AreAlike, IsAlike, IsElsewhere, Numbers, is_on}
+use Rattle.channel_actions.specs.LinkFrames.Alike.{AttemptsAreAlike, IsAlike, IsElsewhere, Numbers, is_on}
 use Rattle.link_actions.proofs.LossActions.Losses.{link_is}
 use Rattle.session_actions.specs.Attempts.{call_of}
 use Rattle.session_actions.specs.Links.{link_of}
@@ -28,18 +28,18 @@ ended_by p q None e = refl
 ended_by true q (Some z) e = absurd (cc)
 ended_by false q (Some z) e = absurd (cc)
 
-abbrev heard : Link → ℕ → Option ℕ → Response
-heard l limit stream = option_map_or (λ (n : ℕ). response_in limit n l.traffic) stream no_response
+abbrev handled : Link → ℕ → Option ℕ → Response
+handled l limit stream = option_map_or (λ (n : ℕ). response_in limit n l.traffic) stream no_response
 
-heard_by : (l : Link) (s : Seen) (a : Attempt) → link_of a s ≡ Some l → a.row.ended ≡ None → (stream : Option ℕ) → response_by a s stream ≡ heard l (limit_of_attempt a s) stream
-heard_by l s a there goes None = refl
-heard_by l s a there goes (Some n) =
+received_by : (l : Link) (s : Seen) (a : Attempt) → link_of a s ≡ Some l → a.row.ended ≡ None → (stream : Option ℕ) → response_by a s stream ≡ handled l (limit_of_attempt a s) stream
+received_by l s a there goes None = refl
+received_by l s a there goes (Some n) =
     ap (λ (q : Option Link). option_map_or (response_on a n s) q no_response) there
     ∙ ap (λ (e : Option RowEnd). response_in (limit_of_attempt a s) n (option_map_or (λ (z : RowEnd). traffic_by z.seen l.traffic) e l.traffic)) goes
 
-heard_on : (l : Link) (s : Seen) (a : Attempt) → numbered s.links l.number ≡ Some l → is_on l.number a ≡ true → response a s ≡ heard l (limit_of_attempt a s) a.row.stream
-heard_on l s a at out =
-    heard_by l s a (link_is l s a at out) (ended_by (is_some a.row.placed) (holds (λ (p : Placed). p.link == l.number) a.row.placed) a.row.ended out) a.row.stream
+received_on : (l : Link) (s : Seen) (a : Attempt) → numbered s.links l.number ≡ Some l → is_on l.number a ≡ true → response a s ≡ handled l (limit_of_attempt a s) a.row.stream
+received_on l s a at out =
+    received_by l s a (link_is l s a at out) (ended_by (is_some a.row.placed) (holds (λ (p : Placed). p.link == l.number) a.row.placed) a.row.ended out) a.row.stream
 
 -- two attempts that stand at one place
 abbrev AlikeAt : Numbers → Seen → Seen → Option Attempt → Option Attempt → Type 0
@@ -53,7 +53,7 @@ elsewhere_at touched s t [] i all = tt
 elsewhere_at touched s t (b ∷ bs) zero all = all.0
 elsewhere_at touched s t (b ∷ bs) (suc i) all = elsewhere_at touched s t bs i all.1
 
-alike_in : (touched : Numbers) (s t : Seen) (as_ bs : List Attempt) (i : ℕ) → list_all (λ (a : Attempt). is_some (call_of a s)) as_ ≡ true → AreAlike touched s t as_ bs
+alike_in : (touched : Numbers) (s t : Seen) (as_ bs : List Attempt) (i : ℕ) → list_all (λ (a : Attempt). is_some (call_of a s)) as_ ≡ true → AttemptsAreAlike touched s t as_ bs
     → AlikeAt touched s t (slice_get as_ i) (slice_get bs i)
 alike_in touched s t [] bs i owned are = elsewhere_at touched s t bs i are
 alike_in touched s t (a ∷ as_) (b ∷ bs) zero owned are =
@@ -62,7 +62,7 @@ alike_in touched s t (a ∷ as_) (b ∷ bs) (suc i) owned are =
     alike_in touched s t as_ bs i (both_true (is_some (call_of a s)) (list_all (λ (x : Attempt). is_some (call_of x s)) as_) owned).1 are.1
 alike_in touched s t (a ∷ as_) [] i owned are = absurd are
 
-alike_at : (touched : Numbers) (s t : Seen) (row : ℕ) → list_all (λ (a : Attempt). is_some (call_of a s)) s.attempts ≡ true → AreAlike touched s t s.attempts t.attempts
+alike_at : (touched : Numbers) (s t : Seen) (row : ℕ) → list_all (λ (a : Attempt). is_some (call_of a s)) s.attempts ≡ true → AttemptsAreAlike touched s t s.attempts t.attempts
     → AlikeAt touched s t (numbered s.attempts row) (numbered t.attempts row)
 alike_at touched s t zero owned are = tt
 alike_at touched s t (suc i) owned are = alike_in touched s t s.attempts t.attempts i owned are
@@ -83,9 +83,9 @@ module _ (touched : Numbers) (l m : Link) (s t : Seen) (number : m.number ≡ l.
       let limit : limit_of_attempt b t ≡ limit_of_attempt a s = limit_still s t a b still owned in
       let out_b : is_on m.number b ≡ true = ap (λ (k : ℕ). is_on k b) number ∙ alike.on l.number apart ∙ out in
       let same : response b t ≡ response a s
-      = heard_on m t b after out_b ∙ ap (λ (k : ℕ). heard m k b.row.stream) limit ∙ ap (heard m (limit_of_attempt a s)) still.stream
+      = received_on m t b after out_b ∙ ap (λ (k : ℕ). handled m k b.row.stream) limit ∙ ap (handled m (limit_of_attempt a s)) still.stream
       ∙ ap (λ (ts : List Traffic). option_map_or (λ (n : ℕ). response_in (limit_of_attempt a s) n ts) a.row.stream no_response) passed
-      ∙ sym (heard_on l s a before out) in
+      ∙ sym (received_on l s a before out) in
       record {
         opened = ap (λ (o : Option ℕ). is_some o) still.stream ∙ is.opened;
         head = ap (λ (p : Response). is_some p.head) same ∙ is.head;
@@ -116,7 +116,7 @@ module _ (touched : Numbers) (l m : Link) (s t : Seen) (number : m.number ≡ l.
       reader_if a b o (is_on l.number a) (is_on m.number b) refl (ap (λ (k : ℕ). is_on k b) number ∙ alike.0.on l.number apart) alike.0 alike.1 is
   on_option (Some a) None o alike is = absurd alike
 
-  pub readers_still : (readers : List TagReader) → list_all (λ (a : Attempt). is_some (call_of a s)) s.attempts ≡ true → AreAlike touched s t s.attempts t.attempts
+  pub readers_still : (readers : List TagReader) → list_all (λ (a : Attempt). is_some (call_of a s)) s.attempts ≡ true → AttemptsAreAlike touched s t s.attempts t.attempts
       → SeesReaders l s readers → SeesReaders m t readers
   readers_still readers owned alike is = record {
     each = λ row. on_option (numbered s.attempts row) (numbered t.attempts row) (reader_in row readers) (alike_at touched s t row owned alike) (is.each row);

@@ -1,4 +1,4 @@
--- A link that cannot tell agrees with the session as before: its streams, and what they are fed with.
+-- A link that cannot distinguish agrees with the session as before: its streams, and what they are fed with.
 use Rattle.std.proofs.Common.{◌≡◌, ◌∷◌, ap, refl, subst, sym, ◌∙◌, true, false, List, [], Some, ℕ, filter, is_none, is_some}
 use Rattle.std.specs.List.{AllByRecursion, list_all}
 use Rattle.channel_actions.specs.Links.{lines_in}
@@ -6,10 +6,10 @@ use Rattle.h2_frame.specs.Frames.{FrameSeen}
 use Rattle.h2_link.specs.Feeds.{Line}
 use Rattle.h2_link.specs.Wire.{Wire}
 use Rattle.h2_link.specs.declared.live.LiveStream.{LiveStream}
-use Rattle.link_actions.specs.Sees.{AreFed, AreLive, ArePlaced, IsFed, SeesLink, SeesOwed, SeesRead, by_stream}
+use Rattle.link_actions.specs.Sees.{StreamsAreFed, StreamsAreLive, AttemptsStandInPlace, IsFed, SeesLink, SeesOwed, SeesRead, by_stream}
 use Rattle.channel_actions.proofs.Links.Frames.Pairs.{AtPlace, InStep, IsPair, on_step, pair_fed, pair_place, pair_stream}
 use Rattle.channel_actions.proofs.Links.Frames.Steps as step
-use Rattle.channel_actions.specs.LinkFrames.Alike.{AreAlike, Numbers, is_on}
+use Rattle.channel_actions.specs.LinkFrames.Alike.{AttemptsAreAlike, Numbers, is_on}
 use Rattle.session_actions.specs.Attempts.{call_of}
 use Rattle.session_actions.specs.Responses.{response_in}
 use Rattle.session_actions.specs.Words.{numbered}
@@ -20,7 +20,7 @@ use Rattle.session_actions.specs.declared.link.Traffic.{Traffic}
 use Rattle.session_actions.specs.declared.response.Response.{Response}
 use Rattle.session_actions.specs.declared.seen.Seen.{Seen}
 use Rattle.link_actions.specs.SteadyLinks.Same.{IsSameLink}
-use Rattle.link_actions.specs.StreamActions.Sees.{AreHeard, IsHeard, SeesStreams, response_of}
+use Rattle.link_actions.specs.StreamActions.Sees.{ResponsesAreReceived, IsReceived, SeesStreams, response_of}
 
 -- the link with what may differ from the other
 abbrev like : Link → Link → Link
@@ -55,7 +55,7 @@ module _ (l m : Link) (s t : Seen) where
   owes_still w is = record { queue = is.queue; names = is.names; resizes = is.resizes; written = is.written; answered = is.answered }
 
   -- streams
-  live_still : (xs : List LiveStream) (as_ bs : List Attempt) → InStep s t as_ bs → AreLive l xs as_ → AreLive n xs bs
+  live_still : (xs : List LiveStream) (as_ bs : List Attempt) → InStep s t as_ bs → StreamsAreLive l xs as_ → StreamsAreLive n xs bs
   live_still [] [] [] step are = tt
   live_still (x ∷ xs) (a ∷ as_) (b ∷ bs) step are = (
     record {
@@ -72,7 +72,7 @@ module _ (l m : Link) (s t : Seen) where
   live_still (x ∷ xs) [] bs step are = absurd are
   live_still (x ∷ xs) (a ∷ as_) [] step are = absurd step
 
-  fed_still : (g : ℕ → Line) (xs : List LiveStream) (as_ bs : List Attempt) → InStep s t as_ bs → AreLive l xs as_ → AreFed l s g xs as_ → AreFed n t (lines_in n t) xs bs
+  fed_still : (g : ℕ → Line) (xs : List LiveStream) (as_ bs : List Attempt) → InStep s t as_ bs → StreamsAreLive l xs as_ → StreamsAreFed l s g xs as_ → StreamsAreFed n t (lines_in n t) xs bs
   fed_still g [] [] [] step are fed = tt
   fed_still g (x ∷ xs) (a ∷ as_) (b ∷ bs) step are fed = (
     subst (λ (k : ℕ). IsFed n t b (lines_in n t k)) (step.0.place ∙ sym are.0.tag) (pair_fed l n s t a b (g x.tag) refl step.0 fed.0),
@@ -90,27 +90,27 @@ module _ (l m : Link) (s t : Seen) where
   wait_still g [] (b ∷ bs) step fed = absurd step
   wait_still g (a ∷ as_) [] step fed = absurd step
 
-  one_heard : (x : LiveStream) (a b : Attempt) → response_of n t x.number b ≡ response_of l s x.number a → IsHeard l s x a → IsHeard n t x b
-  one_heard x a b same is = record {
+  one_received : (x : LiveStream) (a b : Attempt) → response_of n t x.number b ≡ response_of l s x.number a → IsReceived l s x a → IsReceived n t x b
+  one_received x a b same is = record {
     head = is.head ∙ ap (λ (p : Response). is_some p.head) (sym same);
     goes = ap (λ (p : Response). p.end) same ∙ is.goes;
     small = ap (λ (p : Response). p.large) same ∙ is.small;
   }
 
-  heard_still : (xs : List LiveStream) (as_ bs : List Attempt) → InStep s t as_ bs → AreHeard l s xs as_ → AreHeard n t xs bs
-  heard_still [] [] [] step are = tt
-  heard_still (x ∷ xs) (a ∷ as_) (b ∷ bs) step are = (
-    one_heard x a b (ap (λ (k : ℕ). response_in k x.number l.traffic) step.0.limit) are.0,
-    heard_still xs as_ bs step.1 are.1,
+  received_still : (xs : List LiveStream) (as_ bs : List Attempt) → InStep s t as_ bs → ResponsesAreReceived l s xs as_ → ResponsesAreReceived n t xs bs
+  received_still [] [] [] step are = tt
+  received_still (x ∷ xs) (a ∷ as_) (b ∷ bs) step are = (
+    one_received x a b (ap (λ (k : ℕ). response_in k x.number l.traffic) step.0.limit) are.0,
+    received_still xs as_ bs step.1 are.1,
   )
-  heard_still [] [] (b ∷ bs) step are = absurd step
-  heard_still [] (a ∷ as_) bs step are = absurd are
-  heard_still (x ∷ xs) [] bs step are = absurd are
-  heard_still (x ∷ xs) (a ∷ as_) [] step are = absurd step
+  received_still [] [] (b ∷ bs) step are = absurd step
+  received_still [] (a ∷ as_) bs step are = absurd are
+  received_still (x ∷ xs) [] bs step are = absurd are
+  received_still (x ∷ xs) (a ∷ as_) [] step are = absurd step
 
   -- the link
   module _ (touched : Numbers) (apart : touched l.number ≡ false) (owned : list_all (λ (a : Attempt). is_some (call_of a s)) s.attempts ≡ true)
-      (places : AllByRecursion (AtPlace t) t.attempts) (alike : AreAlike touched s t s.attempts t.attempts) where
+      (places : AllByRecursion (AtPlace t) t.attempts) (alike : AttemptsAreAlike touched s t s.attempts t.attempts) where
     out : InStep s t (filter (is_on l.number) s.attempts) (filter (is_on l.number) t.attempts)
     out = on_step touched s t l.number apart s.attempts t.attempts owned places alike
 
@@ -125,7 +125,7 @@ module _ (l m : Link) (s t : Seen) where
     sorted_ : InStep s t (by_stream (streaming_on l s)) (by_stream (streaming_on n t))
     sorted_ = step.sorted_step (IsPair s t) (pair_place s t) (pair_stream s t) (streaming_on l s) (streaming_on n t) streaming_
 
-    link_still : (w : Wire) (g : ℕ → Line) → SeesLink l s w g → numbered t.links l.number ≡ Some n → ArePlaced 1 t.attempts → SeesLink n t w (lines_in n t)
+    link_still : (w : Wire) (g : ℕ → Line) → SeesLink l s w g → numbered t.links l.number ≡ Some n → AttemptsStandInPlace 1 t.attempts → SeesLink n t w (lines_in n t)
     link_still w g is at placed = record {
       at = at;
       sees = record {
@@ -142,15 +142,15 @@ module _ (l m : Link) (s t : Seen) where
       places = placed;
     }
 
-    streams_like : (w : Wire) (g : ℕ → Line) → SeesStreams l s w g → numbered t.links l.number ≡ Some n → ArePlaced 1 t.attempts → SeesStreams n t w (lines_in n t)
+    streams_like : (w : Wire) (g : ℕ → Line) → SeesStreams l s w g → numbered t.links l.number ≡ Some n → AttemptsStandInPlace 1 t.attempts → SeesStreams n t w (lines_in n t)
     streams_like w g is at placed = record {
       sees = link_still w g is.sees at placed;
-      heard = heard_still w.live (by_stream (streaming_on l s)) (by_stream (streaming_on n t)) sorted_ is.heard;
-      unheard = is.unheard;
+      handled = received_still w.live (by_stream (streaming_on l s)) (by_stream (streaming_on n t)) sorted_ is.handled;
+      unreceived = is.unreceived;
       begun = is.begun;
     }
 
-    pub streams_still : (w : Wire) (g : ℕ → Line) → IsSameLink l m → SeesStreams l s w g → numbered t.links m.number ≡ Some m → ArePlaced 1 t.attempts
+    pub streams_still : (w : Wire) (g : ℕ → Line) → IsSameLink l m → SeesStreams l s w g → numbered t.links m.number ≡ Some m → AttemptsStandInPlace 1 t.attempts
         → SeesStreams m t w (lines_in m t)
     streams_still w g same is at placed =
         let e : m ≡ n = is_like l m same in

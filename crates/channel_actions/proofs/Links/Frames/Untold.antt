@@ -1,4 +1,4 @@
--- An action cannot be told by the links on which it does not bear.
+-- An action cannot be distinguished by the links on which it does not bear.
 use Rattle.std.proofs.Common.{◌≡◌, ◌+◌, ◌++◌, ◌∷◌, ◌&&◌, ◌||◌, ap, refl, subst, sym, ◌∙◌, Bool, true, false, List, [], Option, None, Some, ℕ, zero, suc, cond, filter, is_none, map, slice_get}
 use Rattle.call_actions.proofs.CallsApart.Acts.{IsIn, in_filter, others_stay}
 use Rattle.call_actions.proofs.CallsApart.Plain.{still}
@@ -7,8 +7,8 @@ use Rattle.channel_actions.proofs.Stamps.{counted_at}
 use Rattle.grpc_base.specs.declared.event.Conn.TheVariants as conn
 use Rattle.channel_actions.specs.KeptSessions.Kept.{IsKept}
 use Rattle.channel_actions.proofs.Links.Frames.Changes.{all_same, links_mapped, same_so}
-use Rattle.channel_actions.proofs.Links.Frames.Tellings.{fewer_tell, joined, untold}
-use Rattle.channel_actions.specs.LinkFrames.Alike.{CannotTell, Numbers, is_on}
+use Rattle.channel_actions.proofs.Links.Frames.Distinguishing.{fewer_distinguish, joined, untold}
+use Rattle.channel_actions.specs.LinkFrames.Alike.{CannotDistinguish, Numbers, is_on}
 use Rattle.channel_actions.specs.LinkFrames.Bears.{IsOrderly, bear_on, bears_on}
 use Rattle.channel_actions.specs.LinkFrames.Laws.{ActionsAreUntold, ListsAreUntold}
 use Rattle.call_actions.proofs.ReadsInOrder.Order.{links_of_addresses, links_of_config, links_of_dial, links_of_policy, links_of_sub}
@@ -60,7 +60,7 @@ module _ (s : Seen) (kept : IsKept s) where
   place_of : (n : ℕ) (a : Attempt) → numbered s.attempts n ≡ Some a → numbered s.attempts a.place ≡ Some a
   place_of n a got = ap (numbered s.attempts) (counted_at (λ (q : Attempt). q.place) s.attempts n a kept.attempts got) ∙ got
 
-  act : (o : OpenEntry) → s.current ≡ Some o → (a : Action) → IsOrderly a s → CannotTell (bears_on a s) s (after_in o a s)
+  act : (o : OpenEntry) → s.current ≡ Some o → (a : Action) → IsOrderly a s → CannotDistinguish (bears_on a s) s (after_in o a s)
   act o open_ action.CallBegins fits = begun (bears_on action.CallBegins s) s o.event
   act o open_ (action.MessageAccepted n) fits =
       called (bears_on (action.MessageAccepted n) s) s (with_message o.event) n (after_in o (action.MessageAccepted n) s) (message_mild (bears_on (action.MessageAccepted n) s) o.event)
@@ -138,7 +138,7 @@ module _ (s : Seen) (kept : IsKept s) where
       (other_than n (bears_on (action.PingQueued n) s) (λ link. refl)) (record { calls = refl; attempts = refl; configs = refl; links = refl })
   act o open_ a fits = all_same (bears_on a s) s (after_in o a s) (same_so s (after_in o a s) (still o a s refl) refl)
 
-  act_if : (o : Option OpenEntry) → s.current ≡ o → (a : Action) → IsOrderly a s → CannotTell (bears_on a s) s (after_if o a s)
+  act_if : (o : Option OpenEntry) → s.current ≡ o → (a : Action) → IsOrderly a s → CannotDistinguish (bears_on a s) s (after_if o a s)
   act_if (Some o) e a fits = act o e a fits
   act_if None e (action.EntryOpens posted word v) fits =
       all_same (bears_on (action.EntryOpens posted word v) s) s (opened posted word v s) (record { calls = refl; attempts = refl; configs = refl; links = refl })
@@ -157,10 +157,10 @@ or_right true b e = absurd (cc)
 or_right false b e = e
 
 pub lists_are_untold : ListsAreUntold
-lists_are_untold [] s t kept fits does = subst (CannotTell (bear_on [] s) s) (sym does) (untold (bear_on [] s) s)
+lists_are_untold [] s t kept fits does = subst (CannotDistinguish (bear_on [] s) s) (sym does) (untold (bear_on [] s) s)
 lists_are_untold (a ∷ actions) s t kept fits does =
     let all : Numbers = bear_on (a ∷ actions) s in
     joined all s (after a s) t
-    (fewer_tell (bears_on a s) all s (after a s) (λ link e. or_left (bears_on a s link) (bear_on actions (after a s) link) e) (actions_are_untold a s kept.0 fits.0))
-    (fewer_tell (bear_on actions (after a s)) all (after a s) t (λ link e. or_right (bears_on a s link) (bear_on actions (after a s) link) e)
+    (fewer_distinguish (bears_on a s) all s (after a s) (λ link e. or_left (bears_on a s link) (bear_on actions (after a s) link) e) (actions_are_untold a s kept.0 fits.0))
+    (fewer_distinguish (bear_on actions (after a s)) all (after a s) t (λ link e. or_right (bears_on a s link) (bear_on actions (after a s) link) e)
     (lists_are_untold actions (after a s) t kept.1 fits.1 does.1))

@@ -22,7 +22,7 @@ use Rattle.channel_actions.specs.KeptSessions.Kept.{IsKept, came_up, is_sound_su
 use Rattle.channel_actions.specs.KeptSessions.Laws.{KeptAlong}
 use Rattle.lb_policy.specs.Table.{is_ready}
 use Rattle.channel_actions.specs.OwnLinks.Laws.{OwnAlong, OwnBegins, OwnStays}
-use Rattle.channel_actions.specs.OwnLinks.Own.{AreOwnLinks}
+use Rattle.channel_actions.specs.OwnLinks.Own.{LinksAreOwn}
 use Rattle.service_config.specs.declared.config.Config.{Config}
 use Rattle.session_actions.specs.Actions.{after, after_if, after_in}
 use Rattle.session_actions.specs.AttemptEnds.{attempt_ended_as, stream_reset_of, with_end_in_run}
@@ -58,31 +58,31 @@ use Rattle.session_actions.specs.declared.seen.Seen.{Seen}
 use Rattle.session_actions.specs.declared.subchannel.Subchannel.{Subchannel}
 
 -- each link of a subchannel was there, as was each link, for the same subchannel
-pub record IsNarrow (s t : Seen) : Type 0 where
+pub record IsRestricted (s t : Seen) : Type 0 where
   pub subs : (n k : ℕ) (c : Subchannel) → numbered t.subs n ≡ Some c → c.link ≡ Some k → (b : Subchannel) × ((numbered s.subs n ≡ Some b) × (b.link ≡ Some k))
   pub links : (k : ℕ) (q : Link) → numbered t.links k ≡ Some q → (l : Link) × ((numbered s.links k ≡ Some l) × (q.sub ≡ l.sub))
 
-narrow_own : (s t : Seen) → IsNarrow s t → AreOwnLinks s → AreOwnLinks t
-narrow_own s t w h n k c q here has there =
+restricted_own : (s t : Seen) → IsRestricted s t → LinksAreOwn s → LinksAreOwn t
+restricted_own s t w h n k c q here has there =
     let b = w.subs n k c here has in
     let l = w.links k q there in
     l.1.1 ∙ h n k b.0 l.0 b.1.0 b.1.1 l.1.0
 
-narrow_then : (s t u : Seen) → IsNarrow s t → IsNarrow t u → IsNarrow s u
-narrow_then s t u v w = record {
+restricted_then : (s t u : Seen) → IsRestricted s t → IsRestricted t u → IsRestricted s u
+restricted_then s t u v w = record {
   subs = λ n k c here has. let b = w.subs n k c here has in v.subs n k b.0 b.1.0 b.1.1;
   links = λ k q there. let l = w.links k q there in let m = v.links k l.0 l.1.0 in (m.0, (m.1.0, l.1.1 ∙ m.1.1));
 }
 
-narrow_same : (s t : Seen) → t.subs ≡ s.subs → t.links ≡ s.links → IsNarrow s t
-narrow_same s t e f = record {
+restricted_same : (s t : Seen) → t.subs ≡ s.subs → t.links ≡ s.links → IsRestricted s t
+restricted_same s t e f = record {
   subs = λ n k c here has. (c, (ap (λ (xs : List Subchannel). numbered xs n) (sym e) ∙ here, has));
   links = λ k q there. (q, (ap (λ (xs : List Link). numbered xs k) (sym f) ∙ there, refl));
 }
 
-narrow_or : {X : Type 0} (s : Seen) (f : X → Seen) → ((x : X) → IsNarrow s (f x)) → (o : Option X) → IsNarrow s (option_map_or f o s)
-narrow_or s f each None = narrow_same s s refl refl
-narrow_or s f each (Some x) = each x
+restricted_or : {X : Type 0} (s : Seen) (f : X → Seen) → ((x : X) → IsRestricted s (f x)) → (o : Option X) → IsRestricted s (option_map_or f o s)
+restricted_or s f each None = restricted_same s s refl refl
+restricted_or s f each (Some x) = each x
 
 -- a subchannel changes
 link_same : (x y : Link) (o : Option Link) → o ≡ Some x → o ≡ Some y → x ≡ y
@@ -95,20 +95,20 @@ pub mapped : (f : Subchannel → Subchannel) (o : Option Subchannel) (c : Subcha
 mapped f None c e = absurd (cc)
 mapped f (Some b) c e = (b, (refl, (cc)))
 
-sub_if : (f : Subchannel → Subchannel) (narrow : (b : Subchannel) (k : ℕ) → (f b).link ≡ Some k → b.link ≡ Some k) (n : ℕ) (xs : List Subchannel) (j k : ℕ) (c : Subchannel) (t : Bool)
+sub_if : (f : Subchannel → Subchannel) (restricted : (b : Subchannel) (k : ℕ) → (f b).link ≡ Some k → b.link ≡ Some k) (n : ℕ) (xs : List Subchannel) (j k : ℕ) (c : Subchannel) (t : Bool)
     → (j == n) ≡ t → numbered (changed f n xs) j ≡ Some c → c.link ≡ Some k → (b : Subchannel) × ((numbered xs j ≡ Some b) × (b.link ≡ Some k))
-sub_if f narrow n xs j k c true is here has =
+sub_if f restricted n xs j k c true is here has =
     let same : j ≡ n = eqb-true j n is in
     let m = mapped f (numbered xs n) c (sym (changed_map f n xs) ∙ ap (numbered (changed f n xs)) (sym same) ∙ here) in
-    (m.0, (ap (numbered xs) same ∙ m.1.0, narrow m.0 k (ap (λ (b : Subchannel). b.link) m.1.1 ∙ has)))
-sub_if f narrow n xs j k c false is here has = (c, (sym (changed_away f n j xs (eqb-false j n is)) ∙ here, has))
+    (m.0, (ap (numbered xs) same ∙ m.1.0, restricted m.0 k (ap (λ (b : Subchannel). b.link) m.1.1 ∙ has)))
+sub_if f restricted n xs j k c false is here has = (c, (sym (changed_away f n j xs (eqb-false j n is)) ∙ here, has))
 
-narrow_sub : (f : Subchannel → Subchannel) → ((b : Subchannel) (k : ℕ) → (f b).link ≡ Some k → b.link ≡ Some k) → (n : ℕ) (s : Seen) → IsNarrow s (with_sub f n s)
-narrow_sub f narrow n s =
+restricted_sub : (f : Subchannel → Subchannel) → ((b : Subchannel) (k : ℕ) → (f b).link ≡ Some k → b.link ≡ Some k) → (n : ℕ) (s : Seen) → IsRestricted s (with_sub f n s)
+restricted_sub f restricted n s =
     let t : Seen = record s { subs = changed f n s.subs } in
-    narrow_then s t (with_sub f n s)
-    (record { subs = λ j k c here has. sub_if f narrow n s.subs j k c (j == n) refl here has; links = λ k q there. (q, (there, refl)) })
-    (narrow_or t (λ (b : Subchannel). noted_by_policies b t) (λ b. narrow_same t (noted_by_policies b t) refl refl) (numbered t.subs n))
+    restricted_then s t (with_sub f n s)
+    (record { subs = λ j k c here has. sub_if f restricted n s.subs j k c (j == n) refl here has; links = λ k q there. (q, (there, refl)) })
+    (restricted_or t (λ (b : Subchannel). noted_by_policies b t) (λ b. restricted_same t (noted_by_policies b t) refl refl) (numbered t.subs n))
 
 none_there : (P : Type 0) (k : ℕ) → None ≡ Some k → P
 none_there P k e = absurd (cc)
@@ -126,8 +126,8 @@ link_if f keeps n xs k q true is there =
     (m.0, (ap (numbered xs) same ∙ m.1.0, sym (ap (λ (l : Link). l.sub) m.1.1) ∙ keeps m.0))
 link_if f keeps n xs k q false is there = (q, (sym (changed_away f n k xs (eqb-false k n is)) ∙ there, refl))
 
-narrow_link : (f : Link → Link) → ((l : Link) → (f l).sub ≡ l.sub) → (n : ℕ) (s : Seen) → IsNarrow s (with_link f n s)
-narrow_link f keeps n s = record {
+restricted_link : (f : Link → Link) → ((l : Link) → (f l).sub ≡ l.sub) → (n : ℕ) (s : Seen) → IsRestricted s (with_link f n s)
+restricted_link f keeps n s = record {
   subs = λ j k c here has. (c, (here, has));
   links = λ k q there. link_if f keeps n s.links k q (k == n) refl there;
 }
@@ -141,15 +141,15 @@ pub numbered_map : (f : Link → Link) (xs : List Link) (n : ℕ) → numbered (
 numbered_map f xs zero = refl
 numbered_map f xs (suc i) = slice_get-map f xs i
 
-narrow_stamped : (s : Seen) (t : Seen) → t.subs ≡ s.subs → t.links ≡ map (noted_gone s) s.links → IsNarrow s t
-narrow_stamped s t e f = record {
+restricted_stamped : (s : Seen) (t : Seen) → t.subs ≡ s.subs → t.links ≡ map (noted_gone s) s.links → IsRestricted s t
+restricted_stamped s t e f = record {
   subs = λ n k c here has. (c, (ap (λ (xs : List Subchannel). numbered xs n) (sym e) ∙ here, has));
   links = λ k q there.
       let m = link_mapped (noted_gone s) (numbered s.links k) q (sym (numbered_map (noted_gone s) s.links k) ∙ ap (λ (xs : List Link). numbered xs k) (sym f) ∙ there) in
       (m.0, (m.1.0, sym (ap (λ (l : Link). l.sub) m.1.1) ∙ stamp_sub m.0 (entry s) (is_none m.0.gone && is_gone m.0 s)));
 }
 
--- one thing more stands behind the others
+-- one thing more stands after the others
 pub but_last : {X : Type 0} (xs : List X) (z : X) (n : ℕ) → (n ≡ suc (length xs) → ⊥) → numbered (xs ++ z ∷ []) n ≡ numbered xs n
 but_last [] z zero off = refl
 but_last [] z (suc zero) off = absurd (off refl)
@@ -172,136 +172,136 @@ last_sub xs z none n k c true is here has =
 last_sub xs z none n k c false is here has = (c, (sym (but_last xs z n (eqb-false n (suc (length xs)) is)) ∙ here, has))
 
 module _ (s : Seen) where
-  begun : (e : Event) → IsNarrow s (call_begun_by e s)
-  begun (event.Begin request) = narrow_same s (call_begun_by (event.Begin request) s) refl refl
-  begun _ = narrow_same s s refl refl
+  begun : (e : Event) → IsRestricted s (call_begun_by e s)
+  begun (event.Begin request) = restricted_same s (call_begun_by (event.Begin request) s) refl refl
+  begun _ = restricted_same s s refl refl
 
-  turned : (b : Bool) → IsNarrow s (without_turn_unless b s)
-  turned true = narrow_same s s refl refl
-  turned false = narrow_same s (without_turn_unless false s) refl refl
+  turned : (b : Bool) → IsRestricted s (without_turn_unless b s)
+  turned true = restricted_same s s refl refl
+  turned false = restricted_same s (without_turn_unless false s) refl refl
 
-  throttled : (config : Config) (t : Throttle) (o : Option ℕ) → IsNarrow s (with_throttled config t o s)
-  throttled config t (Some run) = narrow_same s (with_throttled config t (Some run) s) refl refl
-  throttled config t None = narrow_same s (with_throttled config t None s) refl refl
+  throttled : (config : Config) (t : Throttle) (o : Option ℕ) → IsRestricted s (with_throttled config t o s)
+  throttled config t (Some run) = restricted_same s (with_throttled config t (Some run) s) refl refl
+  throttled config t None = restricted_same s (with_throttled config t None s) refl refl
 
-  held : (config : Config) (o : Option Throttle) → IsNarrow s (with_held config o s)
-  held config None = narrow_same s (with_held config None s) refl refl
+  held : (config : Config) (o : Option Throttle) → IsRestricted s (with_held config o s)
+  held config None = restricted_same s (with_held config None s) refl refl
   held config (Some t) = throttled config t (run_to_join t s)
 
   run_step : (place : ℕ) (b : Bool) (o : Option ℕ)
-      → IsNarrow s (if b then option_map_or (λ (run : ℕ). record s { runs = changed (λ (u : ThrottleRun). record u { ends = u.ends ++ place ∷ [] }) run s.runs }) o s else s)
+      → IsRestricted s (if b then option_map_or (λ (run : ℕ). record s { runs = changed (λ (u : ThrottleRun). record u { ends = u.ends ++ place ∷ [] }) run s.runs }) o s else s)
   run_step place true o =
-      narrow_or s (λ (run : ℕ). record s { runs = changed (λ (u : ThrottleRun). record u { ends = u.ends ++ place ∷ [] }) run s.runs }) (λ run. narrow_same s _ refl refl) o
-  run_step place false o = narrow_same s s refl refl
+      restricted_or s (λ (run : ℕ). record s { runs = changed (λ (u : ThrottleRun). record u { ends = u.ends ++ place ∷ [] }) run s.runs }) (λ run. restricted_same s _ refl refl) o
+  run_step place false o = restricted_same s s refl refl
 
-  counted : (a : Attempt) (e : RowEnd) (c : Call) → IsNarrow s (with_end_in_run a e s c)
+  counted : (a : Attempt) (e : RowEnd) (c : Call) → IsRestricted s (with_end_in_run a e s c)
   counted a e c = run_step a.place (not (is_cut e.cause) && not (is_to_follow c e.cause e.unseen s)) (option_and_then (λ h. h.run) (config_of_call c s))
 
-  ended : (e : RowEnd) (a : Attempt) → IsNarrow s (attempt_ended_as e s a)
+  ended : (e : RowEnd) (a : Attempt) → IsRestricted s (attempt_ended_as e s a)
   ended e a =
       let z : Seen = option_map_or (with_end_in_run a e s) (call_of a s) s in
-      narrow_then s z (attempt_ended_as e s a) (narrow_or s (with_end_in_run a e s) (counted a e) (call_of a s)) (narrow_same z (attempt_ended_as e s a) refl refl)
+      restricted_then s z (attempt_ended_as e s a) (restricted_or s (with_end_in_run a e s) (counted a e) (call_of a s)) (restricted_same z (attempt_ended_as e s a) refl refl)
 
-  streamed : (f : FrameSeen) (o : Option Attempt) → IsNarrow s (option_map_or (λ (a : Attempt). with_attempt (with_stream f.stream) a.place s) o s)
-  streamed f o = narrow_or s (λ (a : Attempt). with_attempt (with_stream f.stream) a.place s) (λ a. narrow_same s (with_attempt (with_stream f.stream) a.place s) refl refl) o
+  streamed : (f : FrameSeen) (o : Option Attempt) → IsRestricted s (option_map_or (λ (a : Attempt). with_attempt (with_stream f.stream) a.place s) o s)
+  streamed f o = restricted_or s (λ (a : Attempt). with_attempt (with_stream f.stream) a.place s) (λ a. restricted_same s (with_attempt (with_stream f.stream) a.place s) refl refl) o
 
-  open_if : (f : FrameSeen) (l : Link) (b : Bool) → IsNarrow s (if b then stream_opened f l s else s)
+  open_if : (f : FrameSeen) (l : Link) (b : Bool) → IsRestricted s (if b then stream_opened f l s else s)
   open_if f l true = streamed f (slice_get (waiting_on l s) 0)
-  open_if f l false = narrow_same s s refl refl
+  open_if f l false = restricted_same s s refl refl
 
-  opens : (x : Sent) (l : Link) → IsNarrow s (stream_opened_by x l s)
-  opens sent.Preface l = narrow_same s s refl refl
+  opens : (x : Sent) (l : Link) → IsRestricted s (stream_opened_by x l s)
+  opens sent.Preface l = restricted_same s s refl refl
   opens (sent.Frame f) l = open_if f l (f.kind == headers_type)
 
-  written : (x : Sent) (l : Link) → IsNarrow s (frame_written_on x s l)
+  written : (x : Sent) (l : Link) → IsRestricted s (frame_written_on x s l)
   written x l =
       let z : Seen = stream_opened_by x l s in
       let y : Seen = with_link (λ k. record k { traffic = k.traffic ++ traffic.Written x ∷ [] }) l.number z in
-      narrow_then s z (frame_written_on x s l) (opens x l)
-      (narrow_then z y (frame_written_on x s l) (narrow_link (λ k. record k { traffic = k.traffic ++ traffic.Written x ∷ [] }) (λ k. refl) l.number z) (narrow_same y (frame_written_on x s l) refl refl))
+      restricted_then s z (frame_written_on x s l) (opens x l)
+      (restricted_then z y (frame_written_on x s l) (restricted_link (λ k. record k { traffic = k.traffic ++ traffic.Written x ∷ [] }) (λ k. refl) l.number z) (restricted_same y (frame_written_on x s l) refl refl))
 
-  row_changed : (f : Attempt → Attempt) (what : MarkKind) (place : ℕ) → IsNarrow s (marked_row what place (with_attempt f place s))
+  row_changed : (f : Attempt → Attempt) (what : MarkKind) (place : ℕ) → IsRestricted s (marked_row what place (with_attempt f place s))
   row_changed f what place =
       let z : Seen = with_attempt f place s in
-      narrow_then s z (marked_row what place z) (narrow_same s z refl refl)
-      (narrow_or z (λ (a : Attempt). marked what a.row.call z) (λ a. narrow_same z (marked what a.row.call z) refl refl) (numbered z.attempts place))
+      restricted_then s z (marked_row what place z) (restricted_same s z refl refl)
+      (restricted_or z (λ (a : Attempt). marked what a.row.call z) (λ a. restricted_same z (marked what a.row.call z) refl refl) (numbered z.attempts place))
 
-  reset : (number : ℕ) (a : Attempt) → IsNarrow s (stream_reset_of number s a)
+  reset : (number : ℕ) (a : Attempt) → IsRestricted s (stream_reset_of number s a)
   reset number a =
       let z : Seen = with_attempt (λ (q : Attempt). record q { reset = true }) a.place s in
-      narrow_then s z (stream_reset_of number s a) (narrow_same s z refl refl) (narrow_link _ (λ l. refl) (link_number a) z)
+      restricted_then s z (stream_reset_of number s a) (restricted_same s z refl refl) (restricted_link _ (λ l. refl) (link_number a) z)
 
-  dialled : (again until : ℕ) (b : Subchannel) → IsNarrow s (dial_taken_of again until s b)
+  dialled : (again until : ℕ) (b : Subchannel) → IsRestricted s (dial_taken_of again until s b)
   dialled again until b =
       let z : Seen = with_sub (with_dial again until) b.number s in
-      narrow_then s z (dial_taken_of again until s b) (narrow_sub (with_dial again until) (λ c k e. e) b.number s) (narrow_same z (dial_taken_of again until s b) refl refl)
+      restricted_then s z (dial_taken_of again until s b) (restricted_sub (with_dial again until) (λ c k e. e) b.number s) (restricted_same z (dial_taken_of again until s b) refl refl)
 
-  timed_by : (o : Option Subchannel) → IsNarrow s (option_map_or (λ (b : Subchannel). link_timed_out b s) o s)
+  timed_by : (o : Option Subchannel) → IsRestricted s (option_map_or (λ (b : Subchannel). link_timed_out b s) o s)
   timed_by o =
-      narrow_or s (λ (b : Subchannel). link_timed_out b s)
-      (λ b. narrow_or s (λ (link : ℕ). link_over over.TimedOut link s) (λ link. narrow_link (λ (l : Link). record l { over = Some over.TimedOut }) (λ l. refl) link s) b.link) o
+      restricted_or s (λ (b : Subchannel). link_timed_out b s)
+      (λ b. restricted_or s (λ (link : ℕ). link_over over.TimedOut link s) (λ link. restricted_link (λ (l : Link). record l { over = Some over.TimedOut }) (λ l. refl) link s) b.link) o
 
   piece_sub : (e : Event) (l : Link) → (with_piece e l).sub ≡ l.sub
   piece_sub (event.Arrived link piece) l = refl
   piece_sub _ l = refl
 
-config_is_read : (s : Seen) (x : Result Config ConfigFault) → IsNarrow s (config_read x s)
-config_is_read s (Err fault) = narrow_same s (config_read (Err fault) s) refl refl
+config_is_read : (s : Seen) (x : Result Config ConfigFault) → IsRestricted s (config_read x s)
+config_is_read s (Err fault) = restricted_same s (config_read (Err fault) s) refl refl
 config_is_read s (Ok config) =
     let z : Seen = replied reply.Done (resolver_answered s) in
-    narrow_then s z (config_read (Ok config) s) (narrow_same s z refl refl) (held z config config.throttle)
+    restricted_then s z (config_read (Ok config) s) (restricted_same s z refl refl) (held z config config.throttle)
 
-is_made : (s : Seen) (n number : ℕ) (k : RowKind) (due : ℕ) → IsNarrow s (attempt_made n number k due s)
+is_made : (s : Seen) (n number : ℕ) (k : RowKind) (due : ℕ) → IsRestricted s (attempt_made n number k due s)
 is_made s n number k due =
     let v : Seen = marked (mark.Made (length s.attempts + 1)) n (with_row (new_row n number k due) s) in
-    narrow_then s v (attempt_made n number k due s) (narrow_same s v refl refl) (turned v (is_transparent k))
+    restricted_then s v (attempt_made n number k due s) (restricted_same s v refl refl) (turned v (is_transparent k))
 
-is_failed : (s : Seen) (sub : ℕ) → IsNarrow s (dial_failed sub s)
+is_failed : (s : Seen) (sub : ℕ) → IsRestricted s (dial_failed sub s)
 is_failed s sub =
     let z : Seen = wants_resolution s in
     let y : Seen = with_sub (without_link conn.Failure) sub z in
-    narrow_then s z (dial_failed sub s) (narrow_same s z refl refl)
-    (narrow_then z y (dial_failed sub s) (narrow_sub (without_link conn.Failure) (λ b k e. none_there _ k e) sub z) (narrow_same y (dial_failed sub s) refl refl))
+    restricted_then s z (dial_failed sub s) (restricted_same s z refl refl)
+    (restricted_then z y (dial_failed sub s) (restricted_sub (without_link conn.Failure) (λ b k e. none_there _ k e) sub z) (restricted_same y (dial_failed sub s) refl refl))
 
-is_timed : (s : Seen) (sub : ℕ) → IsNarrow s (connect_timed_out sub s)
+is_timed : (s : Seen) (sub : ℕ) → IsRestricted s (connect_timed_out sub s)
 is_timed s sub =
     let z : Seen = option_map_or (λ (b : Subchannel). link_timed_out b s) (numbered s.subs sub) s in
     let y : Seen = wants_resolution z in
-    narrow_then s z (connect_timed_out sub s) (timed_by s (numbered s.subs sub))
-    (narrow_then z y (connect_timed_out sub s) (narrow_same z y refl refl) (narrow_sub (without_link conn.Failure) (λ b k e. none_there _ k e) sub y))
+    restricted_then s z (connect_timed_out sub s) (timed_by s (numbered s.subs sub))
+    (restricted_then z y (connect_timed_out sub s) (restricted_same z y refl refl) (restricted_sub (without_link conn.Failure) (λ b k e. none_there _ k e) sub y))
 
-given : (s : Seen) (g : ℕ) (e : Event) → IsNarrow s (addresses_given g e s)
+given : (s : Seen) (g : ℕ) (e : Event) → IsRestricted s (addresses_given g e s)
 given s g e =
-    narrow_or s (λ (addresses : List Address). with_policy (given_addresses addresses s) g s) (λ addresses. narrow_same s (with_policy (given_addresses addresses s) g s) refl refl) (addresses_in e)
+    restricted_or s (λ (addresses : List Address). with_policy (given_addresses addresses s) g s) (λ addresses. restricted_same s (with_policy (given_addresses addresses s) g s) refl refl) (addresses_in e)
 
-took_over : (s : Seen) (g : ℕ) → IsNarrow s (policy_took_over g s)
+took_over : (s : Seen) (g : ℕ) → IsRestricted s (policy_took_over g s)
 took_over s g =
     let t : Seen = option_map_or (λ (h : PolicyUse). policy_retired h.number s) (current_policy s) s in
-    narrow_then s t (policy_took_over g s)
-    (narrow_or s (λ (h : PolicyUse). policy_retired h.number s) (λ h. narrow_same s (policy_retired h.number s) refl refl) (current_policy s)) (narrow_same t (policy_took_over g s) refl refl)
+    restricted_then s t (policy_took_over g s)
+    (restricted_or s (λ (h : PolicyUse). policy_retired h.number s) (λ h. restricted_same s (policy_retired h.number s) refl refl) (current_policy s)) (restricted_same t (policy_took_over g s) refl refl)
 
-arrived : (s : Seen) (e : Event) (link : ℕ) → IsNarrow s (replied reply.Done (with_link (with_piece e) link s))
+arrived : (s : Seen) (e : Event) (link : ℕ) → IsRestricted s (replied reply.Done (with_link (with_piece e) link s))
 arrived s e link =
     let t : Seen = with_link (with_piece e) link s in
-    narrow_then s t (replied reply.Done t) (narrow_link (with_piece e) (piece_sub s e) link s) (narrow_same t (replied reply.Done t) refl refl)
+    restricted_then s t (replied reply.Done t) (restricted_link (with_piece e) (piece_sub s e) link s) (restricted_same t (replied reply.Done t) refl refl)
 
-pinged : (s : Seen) (e : Event) (link : ℕ) → IsNarrow s (replied reply.Done (owed (ping_of e) link s))
+pinged : (s : Seen) (e : Event) (link : ℕ) → IsRestricted s (replied reply.Done (owed (ping_of e) link s))
 pinged s e link =
     let t : Seen = owed (ping_of e) link s in
-    narrow_then s t (replied reply.Done t) (narrow_link (λ (l : Link). record l { owed = l.owed ++ ping_of e }) (λ l. refl) link s) (narrow_same t (replied reply.Done t) refl refl)
+    restricted_then s t (replied reply.Done t) (restricted_link (λ (l : Link). record l { owed = l.owed ++ ping_of e }) (λ l. refl) link s) (restricted_same t (replied reply.Done t) refl refl)
 
-broken : (s : Seen) (link : ℕ) → IsNarrow s (link_broken link s)
+broken : (s : Seen) (link : ℕ) → IsRestricted s (link_broken link s)
 broken s link =
     let t : Seen = link_over over.Broken link s in
-    narrow_then s t (link_broken link s) (narrow_link (λ (l : Link). record l { over = Some over.Broken }) (λ l. refl) link s) (narrow_same t (link_broken link s) refl refl)
+    restricted_then s t (link_broken link s) (restricted_link (λ (l : Link). record l { over = Some over.Broken }) (λ l. refl) link s) (restricted_same t (link_broken link s) refl refl)
 
-lost : (s : Seen) (link : ℕ) → IsNarrow s (link_lost link s)
+lost : (s : Seen) (link : ℕ) → IsRestricted s (link_lost link s)
 lost s link =
     let t : Seen = link_over over.Lost link s in
-    narrow_then s t (link_lost link s) (narrow_link (λ (l : Link). record l { over = Some over.Lost }) (λ l. refl) link s) (narrow_same t (link_lost link s) refl refl)
+    restricted_then s t (link_lost link s) (restricted_link (λ (l : Link). record l { over = Some over.Lost }) (λ l. refl) link s) (restricted_same t (link_lost link s) refl refl)
 
 -- a subchannel more
-added : (s : Seen) (a : Address) → IsNarrow s (sub_added a s)
+added : (s : Seen) (a : Address) → IsRestricted s (sub_added a s)
 added s a = record {
   subs = λ n k c here has. last_sub s.subs (new_sub a (length s.subs + 1)) refl n k c (n == suc (length s.subs)) refl here has;
   links = λ k q there. (q, (there, refl));
@@ -311,48 +311,48 @@ abbrev is_up : Action → Bool
 is_up (action.LinkUp sub) = true
 is_up _ = false
 
-act : (s : Seen) (o : OpenEntry) (a : Action) → is_up a ≡ false → IsNarrow s (after_in o a s)
-act s o (action.EntryOpens posted word e) off = narrow_same s s refl refl
-act s o (action.EventRefused why) off = narrow_same s (after_in o (action.EventRefused why) s) refl refl
-act s o (action.EventAnswered r) off = narrow_same s (after_in o (action.EventAnswered r) s) refl refl
-act s o action.SettlingBegins off = narrow_same s (after_in o action.SettlingBegins s) refl refl
-act s o action.EntryCloses off = narrow_stamped s (after_in o action.EntryCloses s) refl refl
+act : (s : Seen) (o : OpenEntry) (a : Action) → is_up a ≡ false → IsRestricted s (after_in o a s)
+act s o (action.EntryOpens posted word e) off = restricted_same s s refl refl
+act s o (action.EventRefused why) off = restricted_same s (after_in o (action.EventRefused why) s) refl refl
+act s o (action.EventAnswered r) off = restricted_same s (after_in o (action.EventAnswered r) s) refl refl
+act s o action.SettlingBegins off = restricted_same s (after_in o action.SettlingBegins s) refl refl
+act s o action.EntryCloses off = restricted_stamped s (after_in o action.EntryCloses s) refl refl
 act s o action.CallBegins off = begun s o.event
-act s o (action.MessageAccepted n) off = narrow_same s (after_in o (action.MessageAccepted n) s) refl refl
-act s o (action.RequestFinished n) off = narrow_same s (after_in o (action.RequestFinished n) s) refl refl
-act s o (action.ItemTaken n item) off = narrow_same s (after_in o (action.ItemTaken n item) s) refl refl
-act s o (action.CallEnds n why) off = narrow_same s (after_in o (action.CallEnds n why) s) refl refl
+act s o (action.MessageAccepted n) off = restricted_same s (after_in o (action.MessageAccepted n) s) refl refl
+act s o (action.RequestFinished n) off = restricted_same s (after_in o (action.RequestFinished n) s) refl refl
+act s o (action.ItemTaken n item) off = restricted_same s (after_in o (action.ItemTaken n item) s) refl refl
+act s o (action.CallEnds n why) off = restricted_same s (after_in o (action.CallEnds n why) s) refl refl
 act s o (action.ConfigRead x) off = config_is_read s x
-act s o action.ResolutionFailed off = narrow_same s (after_in o action.ResolutionFailed s) refl refl
-act s o (action.CallConfigured n config) off = narrow_same s (after_in o (action.CallConfigured n config) s) refl refl
+act s o action.ResolutionFailed off = restricted_same s (after_in o action.ResolutionFailed s) refl refl
+act s o (action.CallConfigured n config) off = restricted_same s (after_in o (action.CallConfigured n config) s) refl refl
 act s o (action.AttemptMade n number k due) off = is_made s n number k due
-act s o (action.HedgeWithheld n) off = narrow_same s (after_in o (action.HedgeWithheld n) s) refl refl
-act s o (action.PickRequested row generation answer) off = narrow_same s (after_in o (action.PickRequested row generation answer) s) refl refl
+act s o (action.HedgeWithheld n) off = restricted_same s (after_in o (action.HedgeWithheld n) s) refl refl
+act s o (action.PickRequested row generation answer) off = restricted_same s (after_in o (action.PickRequested row generation answer) s) refl refl
 act s o (action.AttemptPlaced place at) off = row_changed s (with_placing at) (mark.Placed place) place
-act s o (action.AttemptEnds place e) off = narrow_or s (attempt_ended_as e s) (ended s e) (numbered s.attempts place)
+act s o (action.AttemptEnds place e) off = restricted_or s (attempt_ended_as e s) (ended s e) (numbered s.attempts place)
 act s o (action.CallCommitted place why) off = row_changed s (with_commitment (entry s)) mark.Committed place
-act s o (action.StreamReset place number) off = narrow_or s (stream_reset_of number s) (reset s number) (numbered s.attempts place)
-act s o (action.PolicyBegins k) off = narrow_same s (after_in o (action.PolicyBegins k) s) refl refl
+act s o (action.StreamReset place number) off = restricted_or s (stream_reset_of number s) (reset s number) (numbered s.attempts place)
+act s o (action.PolicyBegins k) off = restricted_same s (after_in o (action.PolicyBegins k) s) refl refl
 act s o (action.AddressesGiven g) off = given s g o.event
 act s o (action.PolicyTakesOver g) off = took_over s g
-act s o (action.PolicyRetired g) off = narrow_same s (after_in o (action.PolicyRetired g) s) refl refl
+act s o (action.PolicyRetired g) off = restricted_same s (after_in o (action.PolicyRetired g) s) refl refl
 act s o (action.SubchannelAdded a) off = added s a
-act s o (action.SubchannelShut sub) off = narrow_sub (without_link conn.Shutdown) (λ b k e. none_there _ k e) sub s
-act s o (action.SubchannelConnects sub) off = narrow_sub (in_state conn.Connecting) (λ b k e. e) sub s
-act s o (action.DialTaken sub again until) off = narrow_or s (dial_taken_of again until s) (dialled s again until) (numbered s.subs sub)
+act s o (action.SubchannelShut sub) off = restricted_sub (without_link conn.Shutdown) (λ b k e. none_there _ k e) sub s
+act s o (action.SubchannelConnects sub) off = restricted_sub (in_state conn.Connecting) (λ b k e. e) sub s
+act s o (action.DialTaken sub again until) off = restricted_or s (dial_taken_of again until s) (dialled s again until) (numbered s.subs sub)
 act s o (action.DialFails sub) off = is_failed s sub
 act s o (action.ConnectTimesOut sub) off = is_timed s sub
-act s o (action.BackoffEnds sub) off = narrow_sub (in_state conn.Idle) (λ b k e. e) sub s
-act s o (action.SettingsArrive sub) off = narrow_sub (λ b. record b { state = conn.Ready; dials = 0; until = None }) (λ b k e. e) sub s
-act s o (action.LinkDown sub) off = narrow_sub gone_down (λ b k e. none_there _ k e) sub s
+act s o (action.BackoffEnds sub) off = restricted_sub (in_state conn.Idle) (λ b k e. e) sub s
+act s o (action.SettingsArrive sub) off = restricted_sub (λ b. record b { state = conn.Ready; dials = 0; until = None }) (λ b k e. e) sub s
+act s o (action.LinkDown sub) off = restricted_sub gone_down (λ b k e. none_there _ k e) sub s
 act s o (action.BytesArrive link) off = arrived s o.event link
 act s o (action.FrameRead link r) off =
-    narrow_or s (frame_read_on r s) (λ l. narrow_link (with_frame_read r (owed_for r.frame l s)) (λ q. refl) l.number s) (numbered s.links link)
+    restricted_or s (frame_read_on r s) (λ l. restricted_link (with_frame_read r (owed_for r.frame l s)) (λ q. refl) l.number s) (numbered s.links link)
 act s o (action.LinkBreaks link number) off = broken s link
 act s o (action.LinkLost link) off = lost s link
 act s o (action.PingQueued link) off = pinged s o.event link
-act s o (action.FrameWritten link x) off = narrow_or s (frame_written_on x s) (written s x) (numbered s.links link)
-act s o action.ChannelShuts off = narrow_same s (after_in o action.ChannelShuts s) refl refl
+act s o (action.FrameWritten link x) off = restricted_or s (frame_written_on x s) (written s x) (numbered s.links link)
+act s o action.ChannelShuts off = restricted_same s (after_in o action.ChannelShuts s) refl refl
 act s o (action.LinkUp sub) off = absurd (cc)
 
 -- a link that comes up is new: no other subchannel has it
@@ -365,7 +365,7 @@ came : (s : Seen) (o : Option ℕ) (b : Bool) (k : ℕ) → o ≡ Some k → opt
 came s None b k e up = absurd (cc)
 came s (Some n) b k e up = let one : n ≡ k = (cc) in sym (ap (came_up s) one) ∙ up
 
-module _ (s : Seen) (sub : ℕ) (kept : IsKept s) (own : AreOwnLinks s) where
+module _ (s : Seen) (sub : ℕ) (kept : IsKept s) (own : LinksAreOwn s) where
   abbrev new : Link
   new = new_link (length s.links + 1) sub s
 
@@ -401,17 +401,17 @@ module _ (s : Seen) (sub : ℕ) (kept : IsKept s) (own : AreOwnLinks s) where
   noted_by None = (refl, refl)
   noted_by (Some b) = (refl, refl)
 
-  up_own : AreOwnLinks (link_up sub s)
+  up_own : LinksAreOwn (link_up sub s)
   up_own n k c q here has there =
       let both = noted_by (numbered (changed f sub s.subs) sub) in
       own_if n k c q (n == sub) refl (ap (λ (xs : List Subchannel). numbered xs n) (sym both.0) ∙ here) has (ap (λ (ls : List Link). numbered ls k) (sym both.1) ∙ there)
 
-up_or : (s : Seen) (o : OpenEntry) (a : Action) (b : Bool) → is_up a ≡ b → IsKept s → AreOwnLinks s → AreOwnLinks (after_in o a s)
-up_or s o a false e kept own = narrow_own s (after_in o a s) (act s o a e) own
+up_or : (s : Seen) (o : OpenEntry) (a : Action) (b : Bool) → is_up a ≡ b → IsKept s → LinksAreOwn s → LinksAreOwn (after_in o a s)
+up_or s o a false e kept own = restricted_own s (after_in o a s) (act s o a e) own
 up_or s o (action.LinkUp sub) true e kept own = up_own s sub kept own
 up_or s o _ true e kept own = absurd (cc)
 
-stays_if : (s : Seen) (o : Option OpenEntry) (a : Action) → IsKept s → AreOwnLinks s → AreOwnLinks (after_if o a s)
+stays_if : (s : Seen) (o : Option OpenEntry) (a : Action) → IsKept s → LinksAreOwn s → LinksAreOwn (after_if o a s)
 stays_if s (Some o) a kept own = up_or s o a (is_up a) refl kept own
 stays_if s None (action.EntryOpens posted word e) kept own = own
 stays_if s None _ kept own = own
@@ -424,6 +424,6 @@ own_begins setup zero k b l here has there = absurd (cc)
 own_begins setup (suc n) k b l here has there = absurd (cc)
 
 pub own_along : KeptAlong → OwnAlong
-own_along kept_along [] s t kept own does = subst AreOwnLinks (sym does) own
+own_along kept_along [] s t kept own does = subst LinksAreOwn (sym does) own
 own_along kept_along (a ∷ actions) s t kept own does =
     own_along kept_along actions (after a s) t (kept_along (a ∷ []) s (after a s) kept (does.0, refl)) (own_stays s a kept own) does.1

@@ -5,9 +5,9 @@ use Rattle.std.proofs.lemmas.Bool.Decides.{nat_tests}
 use Rattle.std.specs.List.{list_all}
 use Rattle.std.specs.Prelude.{nat_le}
 use Rattle.std.specs.Set.{remove_key}
-use Rattle.channel_actions.specs.Sets.{AreExactly}
+use Rattle.channel_actions.specs.Sets.{PairsAreExactly}
 use Rattle.channel_core.specs.Timing.{due_keys, later}
-use Rattle.picker_gate.specs.Pairs.{has, is_behind, is_same}
+use Rattle.picker_gate.specs.Pairs.{has, comes_after, is_same}
 use Rattle.channel_actions.proofs.Links.Settings.Pairs.{self_same}
 
 -- all pairs begin with 0
@@ -38,29 +38,29 @@ all_by test (p ∷ pairs) each =
     or_true true = refl
     or_true false = refl
 
-pub plain_by : (pairs : List (ℕ × ℕ)) (test : ℕ → ℕ → Bool) → AreExactly pairs test → ((a b : ℕ) → test a b ≡ true → (a == 0) ≡ true) → are_plain pairs ≡ true
+pub plain_by : (pairs : List (ℕ × ℕ)) (test : ℕ → ℕ → Bool) → PairsAreExactly pairs test → ((a b : ℕ) → test a b ≡ true → (a == 0) ≡ true) → are_plain pairs ≡ true
 plain_by pairs test h zero_ = all_by (λ (p : ℕ × ℕ). p.0 == 0) pairs (λ q e. zero_ q.0 q.1 (sym (h.exact q.0 q.1) ∙ e))
 
 -- the head of such a set has the least number: none below it passes the test
 head_in : (p : ℕ × ℕ) (pairs : List (ℕ × ℕ)) → has (p ∷ pairs) p ≡ true
 head_in p pairs = ap (λ (b : Bool). b || has pairs p) (self_same p)
 
-pub head_passes : (p : ℕ × ℕ) (pairs : List (ℕ × ℕ)) (test : ℕ → ℕ → Bool) → AreExactly (p ∷ pairs) test → test p.0 p.1 ≡ true
+pub head_passes : (p : ℕ × ℕ) (pairs : List (ℕ × ℕ)) (test : ℕ → ℕ → Bool) → PairsAreExactly (p ∷ pairs) test → test p.0 p.1 ≡ true
 head_passes p pairs test h = sym (h.exact p.0 p.1) ∙ head_in p pairs
 
 not_same : (n m : ℕ) (p : ℕ × ℕ) → (p.0 == 0) ≡ true → m < p.1 → is_same (0, m) p ≡ false
 not_same n m p e below = grind (arith, nat_tests)
 
-behind_above : (m : ℕ) (p q : ℕ × ℕ) → (p.0 == 0) ≡ true → m < p.1 → is_behind p q ≡ true → is_same (0, m) q ≡ false
-behind_above m p q e below behind = grind (arith, nat_tests)
+after_above : (m : ℕ) (p q : ℕ × ℕ) → (p.0 == 0) ≡ true → m < p.1 → comes_after p q ≡ true → is_same (0, m) q ≡ false
+after_above m p q e below afterwards = grind (arith, nat_tests)
 
-none_below : (m : ℕ) (p : ℕ × ℕ) (pairs : List (ℕ × ℕ)) → (p.0 == 0) ≡ true → m < p.1 → list_all (is_behind p) pairs ≡ true → has pairs (0, m) ≡ false
+none_below : (m : ℕ) (p : ℕ × ℕ) (pairs : List (ℕ × ℕ)) → (p.0 == 0) ≡ true → m < p.1 → list_all (comes_after p) pairs ≡ true → has pairs (0, m) ≡ false
 none_below m p [] e below all = refl
 none_below m p (q ∷ pairs) e below all =
-    let both = and_parts (is_behind p q) (list_all (is_behind p) pairs) all in
-    ap (λ (b : Bool). b || has pairs (0, m)) (behind_above m p q e below both.0) ∙ none_below m p pairs e below both.1
+    let both = and_parts (comes_after p q) (list_all (comes_after p) pairs) all in
+    ap (λ (b : Bool). b || has pairs (0, m)) (after_above m p q e below both.0) ∙ none_below m p pairs e below both.1
 
-pub below_fails : (p : ℕ × ℕ) (pairs : List (ℕ × ℕ)) (test : ℕ → ℕ → Bool) (m : ℕ) → AreExactly (p ∷ pairs) test → (p.0 == 0) ≡ true → m < p.1 → test 0 m ≡ false
+pub below_fails : (p : ℕ × ℕ) (pairs : List (ℕ × ℕ)) (test : ℕ → ℕ → Bool) (m : ℕ) → PairsAreExactly (p ∷ pairs) test → (p.0 == 0) ≡ true → m < p.1 → test 0 m ≡ false
 below_fails p pairs test m h e below =
     sym (h.exact 0 m) ∙ ap (λ (b : Bool). b || has pairs (0, m)) (not_same 0 m p e below) ∙ none_below m p pairs e below h.rising.0
 

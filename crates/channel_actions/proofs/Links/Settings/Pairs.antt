@@ -8,8 +8,8 @@ use Rattle.std.specs.Ordering.{match_ordering}
 use Rattle.std.specs.Set.{remove_key}
 use Rattle.std.specs.declared.cmp.Ordering.{Ordering}
 use Rattle.std.specs.declared.cmp.Ordering.TheVariants.{Less, Equal, Greater}
-use Rattle.channel_actions.specs.Sets.{AreExactly, AreRising}
-use Rattle.picker_gate.specs.Pairs.{has, is_behind, is_same, pair_cmp}
+use Rattle.channel_actions.specs.Sets.{PairsAreExactly, PairsAreRising}
+use Rattle.picker_gate.specs.Pairs.{has, comes_after, is_same, pair_cmp}
 
 -- two pairs
 same_first : (p q : ℕ × ℕ) → is_same p q ≡ true → p.0 ≡ q.0
@@ -27,34 +27,34 @@ self_same p = grind (arith, nat_tests)
 pub same_back : (p q : ℕ × ℕ) → is_same p q ≡ is_same q p
 same_back p q = grind (arith, nat_tests)
 
-less_behind : (p q : ℕ × ℕ) → pair_cmp p q ≡ Less → is_behind p q ≡ true
-less_behind p q e = ap Rattle.std.specs.Ordering.is_lt e
+less_after : (p q : ℕ × ℕ) → pair_cmp p q ≡ Less → comes_after p q ≡ true
+less_after p q e = ap Rattle.std.specs.Ordering.is_lt e
 
 equal_same : (p q : ℕ × ℕ) → pair_cmp p q ≡ Equal → is_same p q ≡ true
 equal_same p q e = ap Rattle.std.specs.Ordering.is_eq e
 
-greater_behind : (p q : ℕ × ℕ) → pair_cmp p q ≡ Greater → is_behind q p ≡ true
-greater_behind p q e = grind (arith, nat_tests)
+greater_after : (p q : ℕ × ℕ) → pair_cmp p q ≡ Greater → comes_after q p ≡ true
+greater_after p q e = grind (arith, nat_tests)
 
-behind_on : (p q r : ℕ × ℕ) → is_behind p q ≡ true → is_behind q r ≡ true → is_behind p r ≡ true
-behind_on p q r h k = grind (arith, nat_tests)
+after_on : (p q r : ℕ × ℕ) → comes_after p q ≡ true → comes_after q r ≡ true → comes_after p r ≡ true
+after_on p q r h k = grind (arith, nat_tests)
 
-behind_not : (p q : ℕ × ℕ) → is_behind p q ≡ true → is_same p q ≡ false
-behind_not p q h = grind (arith, nat_tests)
+after_not : (p q : ℕ × ℕ) → comes_after p q ≡ true → is_same p q ≡ false
+after_not p q h = grind (arith, nat_tests)
 
--- all stand behind one that stands behind another
-pub all_behind : (p q : ℕ × ℕ) (pairs : List (ℕ × ℕ)) → is_behind p q ≡ true → list_all (is_behind q) pairs ≡ true → list_all (is_behind p) pairs ≡ true
-all_behind p q [] h all = refl
-all_behind p q (r ∷ pairs) h all =
-    let both = and_parts (is_behind q r) (list_all (is_behind q) pairs) all in
-    ap (λ (b : Bool). b && list_all (is_behind p) pairs) (behind_on p q r h both.0) ∙ all_behind p q pairs h both.1
+-- all stand after one that stands after another
+pub all_after : (p q : ℕ × ℕ) (pairs : List (ℕ × ℕ)) → comes_after p q ≡ true → list_all (comes_after q) pairs ≡ true → list_all (comes_after p) pairs ≡ true
+all_after p q [] h all = refl
+all_after p q (r ∷ pairs) h all =
+    let both = and_parts (comes_after q r) (list_all (comes_after q) pairs) all in
+    ap (λ (b : Bool). b && list_all (comes_after p) pairs) (after_on p q r h both.0) ∙ all_after p q pairs h both.1
 
--- none that stands behind is the same
-pub none_behind : (p : ℕ × ℕ) (pairs : List (ℕ × ℕ)) → list_all (is_behind p) pairs ≡ true → has pairs p ≡ false
-none_behind p [] all = refl
-none_behind p (q ∷ pairs) all =
-    let both = and_parts (is_behind p q) (list_all (is_behind p) pairs) all in
-    ap (λ (b : Bool). b || has pairs p) (behind_not p q both.0) ∙ none_behind p pairs both.1
+-- none that stands after is the same
+pub none_afterwards : (p : ℕ × ℕ) (pairs : List (ℕ × ℕ)) → list_all (comes_after p) pairs ≡ true → has pairs p ≡ false
+none_afterwards p [] all = refl
+none_afterwards p (q ∷ pairs) all =
+    let both = and_parts (comes_after p q) (list_all (comes_after p) pairs) all in
+    ap (λ (b : Bool). b || has pairs p) (after_not p q both.0) ∙ none_afterwards p pairs both.1
 
 -- put in
 or_swap : (a b c : Bool) → (a || (b || c)) ≡ (b || (a || c))
@@ -91,15 +91,15 @@ all_insert test [] p h all = ap (λ (b : Bool). b && true) h
 all_insert test (r ∷ pairs) p h all =
     all_insert_by test p r pairs (pair_cmp p r) h all (all_insert test pairs p h (and_parts (test r) (list_all test pairs) all).1)
 
-rising_by : (p r : ℕ × ℕ) (pairs : List (ℕ × ℕ)) (o : Ordering) → pair_cmp p r ≡ o → AreRising (r ∷ pairs) → AreRising (insert_key pair_cmp pairs p)
-    → AreRising (match_ordering o (p ∷ r ∷ pairs) (r ∷ pairs) (r ∷ insert_key pair_cmp pairs p))
+rising_by : (p r : ℕ × ℕ) (pairs : List (ℕ × ℕ)) (o : Ordering) → pair_cmp p r ≡ o → PairsAreRising (r ∷ pairs) → PairsAreRising (insert_key pair_cmp pairs p)
+    → PairsAreRising (match_ordering o (p ∷ r ∷ pairs) (r ∷ pairs) (r ∷ insert_key pair_cmp pairs p))
 rising_by p r pairs Less e h more =
-    let first : is_behind p r ≡ true = less_behind p r e in
-    (ap (λ (b : Bool). b && list_all (is_behind p) pairs) first ∙ all_behind p r pairs first h.0, h)
+    let first : comes_after p r ≡ true = less_after p r e in
+    (ap (λ (b : Bool). b && list_all (comes_after p) pairs) first ∙ all_after p r pairs first h.0, h)
 rising_by p r pairs Equal e h more = h
-rising_by p r pairs Greater e h more = (all_insert (is_behind r) pairs p (greater_behind p r e) h.0, more)
+rising_by p r pairs Greater e h more = (all_insert (comes_after r) pairs p (greater_after p r e) h.0, more)
 
-pub rising_insert : (pairs : List (ℕ × ℕ)) (p : ℕ × ℕ) → AreRising pairs → AreRising (insert_key pair_cmp pairs p)
+pub rising_insert : (pairs : List (ℕ × ℕ)) (p : ℕ × ℕ) → PairsAreRising pairs → PairsAreRising (insert_key pair_cmp pairs p)
 rising_insert [] p h = (refl, tt)
 rising_insert (r ∷ pairs) p h = rising_by p r pairs (pair_cmp p r) refl h (rising_insert pairs p h.1)
 
@@ -115,9 +115,9 @@ and_on : (b : Bool) → (b && true) ≡ b
 and_on true = refl
 and_on false = refl
 
-same_none : (p q : ℕ × ℕ) (pairs : List (ℕ × ℕ)) (b : Bool) → is_same p q ≡ b → list_all (is_behind p) pairs ≡ true → has pairs q ≡ ((is_same q p || has pairs q) && not b)
+same_none : (p q : ℕ × ℕ) (pairs : List (ℕ × ℕ)) (b : Bool) → is_same p q ≡ b → list_all (comes_after p) pairs ≡ true → has pairs q ≡ ((is_same q p || has pairs q) && not b)
 same_none p q pairs true e all =
-    ap (has pairs) (sym (same_is p q e)) ∙ none_behind p pairs all ∙ sym (and_off (is_same q p || has pairs q))
+    ap (has pairs) (sym (same_is p q e)) ∙ none_afterwards p pairs all ∙ sym (and_off (is_same q p || has pairs q))
 same_none p q pairs false e all =
     sym (ap (λ (b : Bool). (b || has pairs q) && true) (same_back q p ∙ e) ∙ and_on (has pairs q))
 
@@ -131,16 +131,16 @@ kept_in true true c e = absurd (cc)
 kept_in true false c e = refl
 kept_in false b c e = refl
 
-remove_by : (p q r : ℕ × ℕ) (pairs : List (ℕ × ℕ)) (b : Bool) → is_same p r ≡ b → AreRising (r ∷ pairs) → has (remove_key (is_same p) pairs) q ≡ has_other pairs p q
+remove_by : (p q r : ℕ × ℕ) (pairs : List (ℕ × ℕ)) (b : Bool) → is_same p r ≡ b → PairsAreRising (r ∷ pairs) → has (remove_key (is_same p) pairs) q ≡ has_other pairs p q
     → has (cond b pairs (r ∷ remove_key (is_same p) pairs)) q ≡ has_other (r ∷ pairs) p q
 remove_by p q r pairs true e h more =
     let one : p ≡ r = same_is p r e in
     subst (λ (z : ℕ × ℕ). has pairs q ≡ ((is_same q z || has pairs q) && not (is_same p q))) one
-    (same_none p q pairs (is_same p q) refl (subst (λ (z : ℕ × ℕ). list_all (is_behind z) pairs ≡ true) (sym one) h.0))
+    (same_none p q pairs (is_same p q) refl (subst (λ (z : ℕ × ℕ). list_all (comes_after z) pairs ≡ true) (sym one) h.0))
 remove_by p q r pairs false e h more =
     ap (λ (b : Bool). is_same q r || b) more ∙ kept_in (is_same q r) (is_same p q) (has pairs q) (not_both p q r e (is_same q r) refl)
 
-pub has_remove : (pairs : List (ℕ × ℕ)) (p q : ℕ × ℕ) → AreRising pairs → has (remove_key (is_same p) pairs) q ≡ has_other pairs p q
+pub has_remove : (pairs : List (ℕ × ℕ)) (p q : ℕ × ℕ) → PairsAreRising pairs → has (remove_key (is_same p) pairs) q ≡ has_other pairs p q
 has_remove [] p q h = refl
 has_remove (r ∷ pairs) p q h = remove_by p q r pairs (is_same p r) refl h (has_remove pairs p q h.1)
 
@@ -155,28 +155,28 @@ all_remove test [] p all = refl
 all_remove test (r ∷ pairs) p all =
     all_remove_by test p r pairs (is_same p r) all (all_remove test pairs p (and_parts (test r) (list_all test pairs) all).1)
 
-lowered : (p r : ℕ × ℕ) (pairs : List (ℕ × ℕ)) (b : Bool) → AreRising (r ∷ pairs) → AreRising (remove_key (is_same p) pairs)
-    → AreRising (cond b pairs (r ∷ remove_key (is_same p) pairs))
+lowered : (p r : ℕ × ℕ) (pairs : List (ℕ × ℕ)) (b : Bool) → PairsAreRising (r ∷ pairs) → PairsAreRising (remove_key (is_same p) pairs)
+    → PairsAreRising (cond b pairs (r ∷ remove_key (is_same p) pairs))
 lowered p r pairs true h more = h.1
-lowered p r pairs false h more = (all_remove (is_behind r) pairs p h.0, more)
+lowered p r pairs false h more = (all_remove (comes_after r) pairs p h.0, more)
 
-pub rising_remove : (pairs : List (ℕ × ℕ)) (p : ℕ × ℕ) → AreRising pairs → AreRising (remove_key (is_same p) pairs)
+pub rising_remove : (pairs : List (ℕ × ℕ)) (p : ℕ × ℕ) → PairsAreRising pairs → PairsAreRising (remove_key (is_same p) pairs)
 rising_remove [] p h = tt
 rising_remove (r ∷ pairs) p h = lowered p r pairs (is_same p r) h (rising_remove pairs p h.1)
 
 -- exactly those that pass another test
-pub exactly_by : (pairs : List (ℕ × ℕ)) (test other : ℕ → ℕ → Bool) → AreExactly pairs test → ((a b : ℕ) → test a b ≡ other a b) → AreExactly pairs other
+pub exactly_by : (pairs : List (ℕ × ℕ)) (test other : ℕ → ℕ → Bool) → PairsAreExactly pairs test → ((a b : ℕ) → test a b ≡ other a b) → PairsAreExactly pairs other
 exactly_by pairs test other h same = record { rising = h.rising; exact = λ a b. h.exact a b ∙ same a b }
 
-pub exactly_insert : (pairs : List (ℕ × ℕ)) (test : ℕ → ℕ → Bool) (p : ℕ × ℕ) → AreExactly pairs test
-    → AreExactly (insert_key pair_cmp pairs p) (λ a b. is_same (a, b) p || test a b)
+pub exactly_insert : (pairs : List (ℕ × ℕ)) (test : ℕ → ℕ → Bool) (p : ℕ × ℕ) → PairsAreExactly pairs test
+    → PairsAreExactly (insert_key pair_cmp pairs p) (λ a b. is_same (a, b) p || test a b)
 exactly_insert pairs test p h = record {
   rising = rising_insert pairs p h.rising;
   exact = λ a b. has_insert pairs p (a, b) ∙ ap (λ (z : Bool). is_same (a, b) p || z) (h.exact a b);
 }
 
-pub exactly_remove : (pairs : List (ℕ × ℕ)) (test : ℕ → ℕ → Bool) (p : ℕ × ℕ) → AreExactly pairs test
-    → AreExactly (remove_key (is_same p) pairs) (λ a b. test a b && not (is_same p (a, b)))
+pub exactly_remove : (pairs : List (ℕ × ℕ)) (test : ℕ → ℕ → Bool) (p : ℕ × ℕ) → PairsAreExactly pairs test
+    → PairsAreExactly (remove_key (is_same p) pairs) (λ a b. test a b && not (is_same p (a, b)))
 exactly_remove pairs test p h = record {
   rising = rising_remove pairs p h.rising;
   exact = λ a b. has_remove pairs p (a, b) h.rising ∙ ap (λ (z : Bool). z && not (is_same p (a, b))) (h.exact a b);

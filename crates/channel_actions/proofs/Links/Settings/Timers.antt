@@ -1,7 +1,7 @@
 -- The timers of one call move; those of the others stay.
 use Rattle.std.proofs.Common.{◌≡◌, ◌∙◌, ℕ, ◌==◌, Bool, true, false, not, ◌&&◌, ◌||◌, List, Option, None, Some, refl, ap, sym, subst, arith, if◌then◌else◌}
 use Rattle.std.proofs.lemmas.Bool.Decides.{nat_tests}
-use Rattle.channel_actions.specs.Sets.{AreExactly}
+use Rattle.channel_actions.specs.Sets.{PairsAreExactly}
 use Rattle.channel_core.specs.Timing.{is_same_moment, timer_moved, timer_off, timer_on}
 use Rattle.picker_gate.specs.Pairs.{is_same}
 use Rattle.session_actions.specs.Words.{is_number}
@@ -43,13 +43,13 @@ pub by_number : (n : ℕ) (one other : ℕ → ℕ → Bool) → ((m k : ℕ) �
 by_number n one other away here m k true e = subst (λ (z : ℕ). one m z ≡ other m z) (sym (equal_numbers k n e)) (here m)
 by_number n one other away here m k false e = away m k e
 
-module _ (n : ℕ) (timers : List (ℕ × ℕ)) (test : ℕ → ℕ → Bool) (before after : Option ℕ) (h : AreExactly timers test) (was : (m : ℕ) → test m n ≡ is_number m before) where
+module _ (n : ℕ) (timers : List (ℕ × ℕ)) (test : ℕ → ℕ → Bool) (before after : Option ℕ) (h : PairsAreExactly timers test) (was : (m : ℕ) → test m n ≡ is_number m before) where
   -- the pair of the call that is taken out
   abbrev left : Option ℕ → ℕ → ℕ → Bool
   left None m k = test m k
   left (Some moment) m k = test m k && not (is_same (moment, n) (m, k))
 
-  off_by : (o : Option ℕ) → AreExactly (timer_off n o timers) (left o)
+  off_by : (o : Option ℕ) → PairsAreExactly (timer_off n o timers) (left o)
   off_by None = h
   off_by (Some moment) = exactly_remove timers test (moment, n) h
 
@@ -68,7 +68,7 @@ module _ (n : ℕ) (timers : List (ℕ × ℕ)) (test : ℕ → ℕ → Bool) (b
   with_new None rest m k = rest m k
   with_new (Some moment) rest m k = is_same (m, k) (moment, n) || rest m k
 
-  on_by : (o : Option ℕ) (pairs : List (ℕ × ℕ)) (rest : ℕ → ℕ → Bool) → AreExactly pairs rest → AreExactly (timer_on n o pairs) (with_new o rest)
+  on_by : (o : Option ℕ) (pairs : List (ℕ × ℕ)) (rest : ℕ → ℕ → Bool) → PairsAreExactly pairs rest → PairsAreExactly (timer_on n o pairs) (with_new o rest)
   on_by None pairs rest k = k
   on_by (Some moment) pairs rest k = exactly_insert pairs rest (moment, n) k
 
@@ -82,7 +82,7 @@ module _ (n : ℕ) (timers : List (ℕ × ℕ)) (test : ℕ → ℕ → Bool) (b
       ap (λ (b : Bool). is_same (m, n) (moment, n) || b) e ∙ or_false (is_same (m, n) (moment, n)) ∙ same_back (m, n) (moment, n) ∙ own_key moment m n
 
   module _ (other : ℕ → ℕ → Bool) (away : (m k : ℕ) → (k == n) ≡ false → other m k ≡ test m k) (is : (m : ℕ) → other m n ≡ is_number m after) where
-    moved_by : (b : Bool) → is_same_moment before after ≡ b → AreExactly (if b then timers else timer_on n after (timer_off n before timers)) other
+    moved_by : (b : Bool) → is_same_moment before after ≡ b → PairsAreExactly (if b then timers else timer_on n after (timer_off n before timers)) other
     moved_by true e =
         exactly_by timers test other h
         (λ m k. by_number n test other (λ i j f. sym (away i j f)) (λ i. was i ∙ ap (is_number i) (same_moment before after e) ∙ sym (is i)) m k (k == n) refl)
@@ -92,5 +92,5 @@ module _ (n : ℕ) (timers : List (ℕ × ℕ)) (test : ℕ → ℕ → Bool) (b
         (λ i j f. new_away after (left before) i j f ∙ left_away before i j f ∙ sym (away i j f))
         (λ i. new_here after (left before) i (left_here before refl i) ∙ sym (is i)) m k (k == n) refl)
 
-    pub timers_exactly : AreExactly (timer_moved n before after timers) other
+    pub timers_exactly : PairsAreExactly (timer_moved n before after timers) other
     timers_exactly = moved_by (is_same_moment before after) refl

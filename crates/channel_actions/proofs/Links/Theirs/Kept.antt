@@ -1,20 +1,20 @@
 -- Kind by kind: no action opens a link again, or takes a link from a subchannel that goes on, but where the link goes down; and one that comes up is its subchannel's own.
 use Rattle.call_actions.proofs.Lists.{changed_away, changed_here, changed_map, numbered_last}
 use Rattle.channel_actions.proofs.ActionsFit.Lines.{next_actions_fit}
-use Rattle.channel_actions.proofs.Links.Greeted.Along.{greeted_stays}
-use Rattle.channel_actions.proofs.Links.Greeted.Fits.{FitsGreeted}
-use Rattle.channel_actions.proofs.Links.Greeted.Lines.{next_fits}
+use Rattle.channel_actions.proofs.Links.Prefaced.Along.{prefaced_stays}
+use Rattle.channel_actions.proofs.Links.Prefaced.Fits.{FitsPrefaced}
+use Rattle.channel_actions.proofs.Links.Prefaced.Lines.{next_fits}
 use Rattle.channel_actions.proofs.Calls.Kept.Along.{early_stays}
 use Rattle.channel_actions.proofs.Calls.Kept.Fits.{FitsEarly}
 use Rattle.channel_actions.proofs.Calls.Kept.Lines.{next_fits as next_early}
 use Rattle.channel_actions.proofs.KeptSessions.Along.{kept_stays}
 use Rattle.channel_actions.proofs.Links.Own.Owned.{but_last, link_mapped, some_same}
 use Rattle.channel_actions.specs.ActionsFit.Laws.{FitsNow}
-use Rattle.channel_actions.specs.GreetedLinks.Greeted.{AreGreeted}
+use Rattle.channel_actions.specs.PrefacedLinks.Prefaced.{LinksArePrefaced}
 use Rattle.channel_actions.specs.KeptCalls.Early.{IsEarlyKept}
 use Rattle.channel_actions.specs.KeptSessions.Kept.{IsKept}
 use Rattle.channel_actions.specs.TheirLinks.Laws.{TheirsAlong, TheirsBegin, TheirsStay}
-use Rattle.channel_actions.specs.TheirLinks.Theirs.{AreTheirs}
+use Rattle.channel_actions.specs.TheirLinks.Theirs.{LinksAreTheirs}
 use Rattle.grpc_base.specs.declared.address.Address.{Address}
 use Rattle.grpc_base.specs.declared.event.Conn.TheVariants as conn
 use Rattle.grpc_base.specs.declared.event.Conn.{Conn}
@@ -195,7 +195,7 @@ link_open l open_ goes down =
     let none : is_going_down l ≡ false = ap (λ (o : Option LinkOver). is_some o || is_retiring l) open_ ∙ goes in
     let bad : true ≡ false = sym down ∙ none in (cc)
 
-module _ (s : Seen) (kept : IsKept s) (early : IsEarlyKept s) (theirs : AreTheirs s) where
+module _ (s : Seen) (kept : IsKept s) (early : IsEarlyKept s) (theirs : LinksAreTheirs s) where
   -- LinkDown
   module _ (sub : ℕ) (b : Subchannel) (there : numbered s.subs sub ≡ Some b) (open_now : is_shutdown b.state ≡ false) (down : is_to_go_down s b ≡ true) where
     abbrev fallen : Seen
@@ -211,14 +211,14 @@ module _ (s : Seen) (kept : IsKept s) (early : IsEarlyKept s) (theirs : AreTheir
     down_by k q c false is here open_ goes at shut =
         theirs k q c here open_ goes (sym (changed_away gone_down sub q.sub s.subs (eqb-false q.sub sub is)) ∙ at) shut
 
-    fallen_theirs : AreTheirs fallen
+    fallen_theirs : LinksAreTheirs fallen
     fallen_theirs k q c here open_ goes at shut = down_by k q c (q.sub == sub) refl here open_ goes at shut
 
-    down_theirs : AreTheirs (with_sub gone_down sub s)
+    down_theirs : LinksAreTheirs (with_sub gone_down sub s)
     down_theirs =
         by_note (numbered (changed gone_down sub s.subs) sub)
       where
-        by_note : (o : Option Subchannel) → AreTheirs (option_map_or (λ (d : Subchannel). noted_by_policies d fallen) o fallen)
+        by_note : (o : Option Subchannel) → LinksAreTheirs (option_map_or (λ (d : Subchannel). noted_by_policies d fallen) o fallen)
         by_note None = fallen_theirs
         by_note (Some d) = fallen_theirs
 
@@ -262,21 +262,21 @@ module _ (s : Seen) (kept : IsKept s) (early : IsEarlyKept s) (theirs : AreTheir
         ∙ sym (changed_away (without_link conn.Failure) sub q.sub (timed b.link).subs (eqb-false q.sub sub is)) ∙ at in
         theirs k o.link c o.here o.over o.retiring (ap (numbered s.subs) (sym o.sub) ∙ was) shut
 
-    late_theirs : AreTheirs late
+    late_theirs : LinksAreTheirs late
     late_theirs k q c here open_ goes at shut = late_by k q c (q.sub == sub) refl here open_ goes at shut
 
     abbrev wanted : Seen
     wanted = wants_resolution (timed b.link)
 
     noted_theirs : (o : Option Subchannel)
-        → AreTheirs (option_map_or (λ (d : Subchannel). noted_by_policies d (record wanted { subs = changed (without_link conn.Failure) sub wanted.subs })) o
+        → LinksAreTheirs (option_map_or (λ (d : Subchannel). noted_by_policies d (record wanted { subs = changed (without_link conn.Failure) sub wanted.subs })) o
         (record wanted { subs = changed (without_link conn.Failure) sub wanted.subs }))
     noted_theirs None = late_theirs
     noted_theirs (Some d) = late_theirs
 
-    timed_theirs : AreTheirs (connect_timed_out sub s)
+    timed_theirs : LinksAreTheirs (connect_timed_out sub s)
     timed_theirs =
-        subst (λ (o : Option Subchannel). AreTheirs (with_sub (without_link conn.Failure) sub (wants_resolution (option_map_or (λ (d : Subchannel). link_timed_out d s) o s)))) (sym there)
+        subst (λ (o : Option Subchannel). LinksAreTheirs (with_sub (without_link conn.Failure) sub (wants_resolution (option_map_or (λ (d : Subchannel). link_timed_out d s) o s)))) (sym there)
         (noted_theirs (numbered (changed (without_link conn.Failure) sub wanted.subs) sub))
 
   -- LinkUp
@@ -317,51 +317,51 @@ module _ (s : Seen) (kept : IsKept s) (early : IsEarlyKept s) (theirs : AreTheir
     up_by k q c false is here open_ goes at shut =
         old_by k q c (q.sub == sub) refl (sym (but_last s.links new k (eqb-false k (suc (length s.links)) is)) ∙ here) open_ goes at shut
 
-    up_so : AreTheirs up
+    up_so : LinksAreTheirs up
     up_so k q c here open_ goes at shut = up_by k q c (k == suc (length s.links)) refl here open_ goes at shut
 
     abbrev more : Seen
     more = record s { links = s.links ++ new ∷ [] }
 
     by_note : (o : Option Subchannel)
-        → AreTheirs (replied (reply.Link number) (option_map_or (λ (d : Subchannel). noted_by_policies d (record more { subs = changed with_new sub more.subs })) o
+        → LinksAreTheirs (replied (reply.Link number) (option_map_or (λ (d : Subchannel). noted_by_policies d (record more { subs = changed with_new sub more.subs })) o
         (record more { subs = changed with_new sub more.subs })))
     by_note None = up_so
     by_note (Some d) = up_so
 
-    up_theirs : AreTheirs (link_up sub s)
+    up_theirs : LinksAreTheirs (link_up sub s)
     up_theirs = by_note (numbered (changed with_new sub s.subs) sub)
 
   -- by the kind of action
-  stays_in : (o : OpenEntry) (a : Action) (t : Bool) → is_apart a ≡ t → FitsSub a o s → FitsGreeted a s → FitsEarly a s → AreTheirs (after_in o a s)
-  stays_in o a false e fits greets is = goes_theirs s (after_in o a s) kept (act s o a e fits) theirs
-  stays_in o (action.LinkDown sub) true e fits greets is =
-      let h = held_in (is_to_go_down s) (numbered s.subs sub) greets in
+  stays_in : (o : OpenEntry) (a : Action) (t : Bool) → is_apart a ≡ t → FitsSub a o s → FitsPrefaced a s → FitsEarly a s → LinksAreTheirs (after_in o a s)
+  stays_in o a false e fits prefaces is = goes_theirs s (after_in o a s) kept (act s o a e fits) theirs
+  stays_in o (action.LinkDown sub) true e fits prefaces is =
+      let h = held_in (is_to_go_down s) (numbered s.subs sub) prefaces in
       down_theirs sub h.0 h.1.0 (state_open s sub fits.0 h.0 fits.1 fits.2 h.1.0) h.1.1
-  stays_in o (action.ConnectTimesOut sub) true e fits greets is =
-      let h = held_in (λ (b : Subchannel). is_connecting b.state) (numbered s.subs sub) greets in
+  stays_in o (action.ConnectTimesOut sub) true e fits prefaces is =
+      let h = held_in (λ (b : Subchannel). is_connecting b.state) (numbered s.subs sub) prefaces in
       timed_theirs sub h.0 h.1.0 (connecting_open h.0.state h.1.1)
-  stays_in o (action.LinkUp sub) true e fits greets is =
-      let h = held_in (λ (b : Subchannel). is_none b.link) (numbered s.subs sub) greets in
+  stays_in o (action.LinkUp sub) true e fits prefaces is =
+      let h = held_in (λ (b : Subchannel). is_none b.link) (numbered s.subs sub) prefaces in
       let k = held_in (λ (b : Subchannel). is_connecting b.state) (numbered s.subs sub) is in
       up_theirs sub h.0 h.1.0 (state_open s sub k.0 h.0 k.1.0 (connecting_open k.0.state k.1.1) h.1.0) (unlinked h.0.link h.1.1)
-  stays_in o _ true e fits greets is = absurd (cc)
+  stays_in o _ true e fits prefaces is = absurd (cc)
 
-stays_if : (s : Seen) (o : Option OpenEntry) (a : Action) → s.current ≡ o → IsKept s → IsEarlyKept s → AreGreeted s → AreTheirs s → IsNext a s → AreTheirs (after_if o a s)
-stays_if s (Some o) a at kept early greeted theirs next =
-    stays_in s kept early theirs o a (is_apart a) refl (fits_sub o s a kept early at next) (next_fits s a kept greeted next) (next_early s a kept early next)
-stays_if s None (action.EntryOpens posted word e) at kept early greeted theirs next = theirs
-stays_if s None _ at kept early greeted theirs next = theirs
+stays_if : (s : Seen) (o : Option OpenEntry) (a : Action) → s.current ≡ o → IsKept s → IsEarlyKept s → LinksArePrefaced s → LinksAreTheirs s → IsNext a s → LinksAreTheirs (after_if o a s)
+stays_if s (Some o) a at kept early prefaced theirs next =
+    stays_in s kept early theirs o a (is_apart a) refl (fits_sub o s a kept early at next) (next_fits s a kept prefaced next) (next_early s a kept early next)
+stays_if s None (action.EntryOpens posted word e) at kept early prefaced theirs next = theirs
+stays_if s None _ at kept early prefaced theirs next = theirs
 
 pub theirs_stay : TheirsStay
-theirs_stay s a kept early greeted theirs next = stays_if s s.current a refl kept early greeted theirs next
+theirs_stay s a kept early prefaced theirs next = stays_if s s.current a refl kept early prefaced theirs next
 
 pub theirs_begin : TheirsBegin
 theirs_begin setup zero l b here open_ goes at shut = absurd (let bad : None ≡ Some l = here in (cc))
 theirs_begin setup (suc i) l b here open_ goes at shut = absurd (let bad : None ≡ Some l = here in (cc))
 
 pub theirs_along : TheirsAlong
-theirs_along [] s t kept early greeted theirs does = subst AreTheirs (sym does) theirs
-theirs_along (a ∷ actions) s t kept early greeted theirs does =
-    theirs_along actions (after a s) t (kept_stays s a kept does.0) (early_stays s a kept early does.0) (greeted_stays s a kept greeted does.0)
-    (theirs_stay s a kept early greeted theirs does.0) does.1
+theirs_along [] s t kept early prefaced theirs does = subst LinksAreTheirs (sym does) theirs
+theirs_along (a ∷ actions) s t kept early prefaced theirs does =
+    theirs_along actions (after a s) t (kept_stays s a kept does.0) (early_stays s a kept early does.0) (prefaced_stays s a kept prefaced does.0)
+    (theirs_stay s a kept early prefaced theirs does.0) does.1

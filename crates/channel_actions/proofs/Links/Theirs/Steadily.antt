@@ -7,7 +7,7 @@ use Rattle.call_actions.proofs.Lists.{changed_away, changed_here, changed_map}
 use Rattle.channel_actions.proofs.Gone.{all_numbered}
 use Rattle.channel_actions.proofs.Links.Own.Owned.{link_mapped, numbered_map, some_same}
 use Rattle.channel_actions.specs.KeptSessions.Kept.{IsKept}
-use Rattle.channel_actions.specs.TheirLinks.Theirs.{AreTheirs}
+use Rattle.channel_actions.specs.TheirLinks.Theirs.{LinksAreTheirs}
 use Rattle.grpc_base.specs.declared.address.Address.{Address}
 use Rattle.grpc_base.specs.declared.event.ConfigFault.{ConfigFault}
 use Rattle.grpc_base.specs.declared.event.Event.TheVariants as event
@@ -80,7 +80,7 @@ dialled_one : (s : Seen) (k : ℕ) (l : Link) → IsKept s → numbered s.links 
 dialled_one s k l kept here =
     found (numbered s.subs l.sub) (all_numbered (λ (q : Link). is_some (numbered s.subs q.sub)) s.links k l here kept.dialled)
 
-pub goes_theirs : (s t : Seen) → IsKept s → GoesOn s t → AreTheirs s → AreTheirs t
+pub goes_theirs : (s t : Seen) → IsKept s → GoesOn s t → LinksAreTheirs s → LinksAreTheirs t
 goes_theirs s t kept w h k q c there open_ goes here shut =
     let o = w.links k q there open_ goes in
     let b = dialled_one s k o.link kept o.here in

@@ -16,7 +16,7 @@ use Rattle.session_actions.specs.declared.link.Sent.{Sent}
 use Rattle.session_actions.specs.declared.response.Outcome.{Outcome}
 use Rattle.session_actions.specs.declared.response.Response.{Response}
 use Rattle.session_actions.specs.declared.seen.Seen.{Seen}
-use Rattle.session_order.specs.Calm.{is_to_end, is_to_reset}
+use Rattle.session_order.specs.Quiescent.{is_to_end, is_to_reset}
 use Rattle.channel_actions.proofs.Streams.Opened.Links.{IsLinkLike, came_like, came_on, placed_like}
 use Rattle.channel_actions.proofs.Streams.Opened.Responses.{IsLike, like_by, like_join, with_sent}
 use Rattle.channel_actions.proofs.Streams.Opened.Rows.{h, over_same, t}

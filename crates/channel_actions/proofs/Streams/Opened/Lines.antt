@@ -24,7 +24,7 @@ use Rattle.session_actions.specs.declared.seen.Seen.{Seen}
 use Rattle.session_actions.specs.declared.subchannel.Subchannel.{Subchannel}
 use Rattle.session_order.proofs.Aside.{aside_request}
 use Rattle.session_order.proofs.Lists.{any_same, holds_same}
-use Rattle.session_order.specs.Calm.{IsStill, can_follow, has_outstanding, is_link_new, is_overflowing, is_to_cut, is_to_end, is_to_follow_pick, is_to_reset, is_unplaced}
+use Rattle.session_order.specs.Quiescent.{IsStill, can_follow, has_outstanding, is_link_new, is_overflowing, is_to_cut, is_to_end, is_to_follow_pick, is_to_reset, is_unplaced}
 use Rattle.session_order.specs.declared.line.Line.{Line}
 use Rattle.session_order.specs.declared.line.Line.TheVariants as line
 use Rattle.channel_actions.proofs.Streams.Opened.Dues.{final_same}

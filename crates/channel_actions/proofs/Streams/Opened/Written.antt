@@ -6,7 +6,7 @@ use Rattle.attempt_ledger.specs.declared.row.Placed.{Placed}
 use Rattle.attempt_ledger.specs.declared.row.RowEnd.{RowEnd}
 use Rattle.call_actions.proofs.Lists.{changed_away, changed_map}
 use Rattle.call_actions.proofs.Places.{place_is}
-use Rattle.call_actions.specs.Order.{AreNumbered}
+use Rattle.call_actions.specs.Order.{AttemptsAreNumbered}
 use Rattle.call_actions.proofs.CallsApart.Acts.{IsIn, at_place, in_filter}
 use Rattle.grpc_base.specs.declared.event.Event.TheVariants as event
 use Rattle.h2_frame.specs.Frames.{FrameSeen}
@@ -28,7 +28,7 @@ use Rattle.session_actions.specs.Subchannels.{is_connecting, is_going_down}
 use Rattle.session_actions.specs.declared.response.Response.{Response}
 use Rattle.session_order.proofs.Entered.{IsQuietFor, moved_on}
 use Rattle.session_order.proofs.Posts.{IsPlain, plain_as, plain_quiet}
-use Rattle.session_order.specs.Calm.{IsStill, is_to_end, is_to_reset}
+use Rattle.session_order.specs.Quiescent.{IsStill, is_to_end, is_to_reset}
 use Rattle.session_order.specs.declared.line.Line.{Line}
 use Rattle.channel_actions.proofs.Streams.Opened.Attempts.{end_same, fresh_end, fresh_head, fresh_large, fresh_reset, reset_stays, response_like}
 use Rattle.channel_actions.proofs.Streams.Opened.Lines.{IsAlikeIn, lines_still}
@@ -77,7 +77,7 @@ pub record IsFirst (l : Link) (s : Seen) (a : Attempt) : Type 0 where
   pub goes : a.row.ended ≡ None
   pub link : link_of a s ≡ Some l
 
-first_is : (l : Link) (s : Seen) (a : Attempt) → AreNumbered 1 s.attempts → numbered s.links l.number ≡ Some l → slice_get (waiting_on l s) 0 ≡ Some a → IsFirst l s a
+first_is : (l : Link) (s : Seen) (a : Attempt) → AttemptsAreNumbered 1 s.attempts → numbered s.links l.number ≡ Some l → slice_get (waiting_on l s) 0 ≡ Some a → IsFirst l s a
 first_is l s a places at got =
     let one : IsIn (outstanding_on l s) a = in_filter (λ (q : Attempt). is_none q.row.stream) (outstanding_on l s) 0 a got in
     let two : IsIn s.attempts a = in_filter (is_outstanding_on l) s.attempts one.index a one.here in

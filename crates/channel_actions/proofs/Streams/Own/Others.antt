@@ -7,11 +7,11 @@ use Rattle.h2_frame.specs.Sent.{data_frame, headers_frame}
 use Rattle.channel_actions.proofs.KeptSessions.Along.{kept_stays}
 use Rattle.channel_actions.proofs.KeptSessions.Lists.{all_at, all_get, counted_places, own_number}
 use Rattle.channel_actions.specs.KeptSessions.Kept.{IsKept}
-use Rattle.channel_actions.proofs.Links.Greeted.Along.{greeted_stays}
+use Rattle.channel_actions.proofs.Links.Prefaced.Along.{prefaced_stays}
 use Rattle.channel_actions.proofs.Streams.Own.Along.{frames_are_sendable, streams_stay}
 use Rattle.channel_actions.proofs.Streams.Own.Steps.{Each, each_filter, each_from, first_has}
 use Rattle.channel_actions.specs.OwnStreams.Laws.{WritesLeaveOthers, goes_on_at}
-use Rattle.channel_actions.specs.OwnStreams.Own.{AreOwnStreams}
+use Rattle.channel_actions.specs.OwnStreams.Own.{StreamsAreOwn}
 use Rattle.session_actions.specs.Actions.{after, after_if}
 use Rattle.session_actions.specs.Attempts.{call_of, is_outstanding, with_attempt}
 use Rattle.session_actions.specs.Links.{frames_written, has_written_end, is_stream_before, written_in}
@@ -77,7 +77,7 @@ placed_by : (l : Link) (o : Option Placed) → holds (λ (p : Placed). p.link ==
 placed_by l None e = absurd (cc)
 placed_by l (Some p) e = (p, refl, eqb-true p.link l.number e)
 
-module _ (s : Seen) (l : Link) (kept : IsKept s) (own : AreOwnStreams s) (line : numbered s.links l.number ≡ Some l) where
+module _ (s : Seen) (l : Link) (kept : IsKept s) (own : StreamsAreOwn s) (line : numbered s.links l.number ≡ Some l) where
   abbrev IsThere : Attempt → Type 0
   IsThere a = numbered s.attempts a.place ≡ Some a
 
@@ -141,21 +141,21 @@ module _ (s : Seen) (l : Link) (kept : IsKept s) (own : AreOwnStreams s) (line :
   data_first None has = tt
   data_first (Some b) has = data_of_row b b.row.stream refl has.0 has.1
 
-  abbrev Goes : Attempt → Type 0
-  Goes b = IsThere b × (is_outstanding_on l b ≡ true)
+  abbrev Continues : Attempt → Type 0
+  Continues b = IsThere b × (is_outstanding_on l b ≡ true)
 
-  going : Each Goes (outstanding_on l s)
+  going : Each Continues (outstanding_on l s)
   going = each_filter IsThere (is_outstanding_on l) s.attempts are_there
 
   less : {X : Type 0} (P Q : X → Type 0) → ((x : X) → P x → Q x) → (xs : List X) → Each P xs → Each Q xs
   less P Q wide [] e = tt
   less P Q wide (x ∷ xs) e = (wide x e.0, less P Q wide xs e.1)
 
-  streaming : Each Goes (filter (λ (a : Attempt). is_some (data_for l s a)) (streaming_on l s))
+  streaming : Each Continues (filter (λ (a : Attempt). is_some (data_for l s a)) (streaming_on l s))
   streaming =
-      less (λ b. Goes b × (is_some (data_for l s b) ≡ true)) Goes (λ b e. e.0) (filter (λ (a : Attempt). is_some (data_for l s a)) (streaming_on l s))
-      (each_filter Goes (λ (a : Attempt). is_some (data_for l s a)) (streaming_on l s)
-      (less (λ b. Goes b × (is_some b.row.stream ≡ true)) Goes (λ b e. e.0) (streaming_on l s) (each_filter Goes (λ (a : Attempt). is_some a.row.stream) (outstanding_on l s) going)))
+      less (λ b. Continues b × (is_some (data_for l s b) ≡ true)) Continues (λ b e. e.0) (filter (λ (a : Attempt). is_some (data_for l s a)) (streaming_on l s))
+      (each_filter Continues (λ (a : Attempt). is_some (data_for l s a)) (streaming_on l s)
+      (less (λ b. Continues b × (is_some b.row.stream ≡ true)) Continues (λ b e. e.0) (streaming_on l s) (each_filter Continues (λ (a : Attempt). is_some a.row.stream) (outstanding_on l s) going)))
 
   sends_data : list_all is_control l.owed ≡ true → DataIf (sendable l s)
   sends_data e =
@@ -165,7 +165,7 @@ module _ (s : Seen) (l : Link) (kept : IsKept s) (own : AreOwnStreams s) (line :
       (data_if (may_open_stream l s) (option_and_then (headers_for l s) (slice_get (waiting_on l s) 0)) None
       (data_then (headers_for l s) (λ a. headers_data a (call_of a s)) (slice_get (waiting_on l s) 0)) tt)
       (data_first (foremost is_stream_before (filter (λ (a : Attempt). is_some (data_for l s a)) (streaming_on l s)))
-      (foremost_has Goes is_stream_before (filter (λ (a : Attempt). is_some (data_for l s a)) (streaming_on l s)) streaming))))
+      (foremost_has Continues is_stream_before (filter (λ (a : Attempt). is_some (data_for l s a)) (streaming_on l s)) streaming))))
 
   data_is : (o : Option Sent) (f : FrameSeen) → o ≡ Some (sent.Frame f) → DataIf o → (f.kind == data_type) ≡ true → IsOf f
   data_is o f is e = subst DataIf is e
@@ -241,15 +241,15 @@ module _ (s : Seen) (l : Link) (kept : IsKept s) (own : AreOwnStreams s) (line :
     drained_by (Some n) x has sends e = placed_same n a.row.placed x has refl sends e
 
     -- it has no new stream
-    first_goes : (b : Attempt) → slice_get (waiting_on l s) 0 ≡ Some b → Goes b
+    first_goes : (b : Attempt) → slice_get (waiting_on l s) 0 ≡ Some b → Continues b
     first_goes b at =
-        (first_has (λ q. Goes q × (is_none q.row.stream ≡ true)) (waiting_on l s) b at (each_filter Goes (λ (q : Attempt). is_none q.row.stream) (outstanding_on l s) going)).0
+        (first_has (λ q. Continues q × (is_none q.row.stream ≡ true)) (waiting_on l s) b at (each_filter Continues (λ (q : Attempt). is_none q.row.stream) (outstanding_on l s) going)).0
 
     row_by : (f : FrameSeen) (o : Option Attempt) → slice_get (waiting_on l s) 0 ≡ o
         → slice_get (option_map_or (λ (b : Attempt). with_attempt (with_stream f.stream) b.place s) o s).attempts i ≡ Some a
     row_by f None at = got
     row_by f (Some b) at =
-        let goes : Goes b = first_goes b at in changed_away (with_stream f.stream) b.place (suc i) s.attempts (λ same. not_it b goes.0 goes.1 same) ∙ got
+        let goes : Continues b = first_goes b at in changed_away (with_stream f.stream) b.place (suc i) s.attempts (λ same. not_it b goes.0 goes.1 same) ∙ got
 
     row_if : (f : FrameSeen) (b : Bool) → slice_get (if b then stream_opened f l s else s).attempts i ≡ Some a
     row_if f true = row_by f (slice_get (waiting_on l s) 0) refl
@@ -273,7 +273,7 @@ module _ (s : Seen) (l : Link) (kept : IsKept s) (own : AreOwnStreams s) (line :
 abbrev IsLeft : ℕ → Attempt → Seen → Seen → Type 0
 IsLeft i a s t = (slice_get t.attempts i ≡ Some a) × (drained a t ≡ drained a s)
 
-one_link : (s : Seen) (link : ℕ) (x : Sent) (i : ℕ) (a : Attempt) (o : Option Link) → IsKept s → AreOwnStreams s → numbered s.links link ≡ o
+one_link : (s : Seen) (link : ℕ) (x : Sent) (i : ℕ) (a : Attempt) (o : Option Link) → IsKept s → StreamsAreOwn s → numbered s.links link ≡ o
     → ((l : Link) → numbered s.links link ≡ Some l → sendable l s ≡ Some x) → slice_get s.attempts i ≡ Some a → goes_on_at link a ≡ false
     → IsLeft i a s (option_map_or (frame_written_on x s) o s)
 one_link s link x i a None kept own at sends got off = (got, refl)
@@ -283,19 +283,19 @@ one_link s link x i a (Some l) kept own at sends got off =
     let away : goes_on_at l.number a ≡ false = ap (λ (k : ℕ). goes_on_at k a) here ∙ off in
     (row_same s l kept own line i a got away x, drained_same s l kept own line i a got away x (sends l at) (all_at (λ (k : Link). list_all is_control k.owed) s.links link l kept.queued at))
 
-one_entry : (c : Option OpenEntry) (s : Seen) (link : ℕ) (x : Sent) (i : ℕ) (a : Attempt) → IsKept s → AreOwnStreams s
+one_entry : (c : Option OpenEntry) (s : Seen) (link : ℕ) (x : Sent) (i : ℕ) (a : Attempt) → IsKept s → StreamsAreOwn s
     → ((l : Link) → numbered s.links link ≡ Some l → sendable l s ≡ Some x) → slice_get s.attempts i ≡ Some a → goes_on_at link a ≡ false
     → IsLeft i a s (after_if c (action.FrameWritten link x) s)
 one_entry None s link x i a kept own sends got off = (got, refl)
 one_entry (Some o) s link x i a kept own sends got off = one_link s link x i a (numbered s.links link) kept own refl sends got off
 
 pub writes_leave_others : WritesLeaveOthers
-writes_leave_others [] link s t kept greeted own does i a got off =
+writes_leave_others [] link s t kept prefaced own does i a got off =
     (ap (λ (u : Seen). slice_get u.attempts i) does ∙ got, ap (drained a) does)
-writes_leave_others (x ∷ sent) link s t kept greeted own does i a got off =
+writes_leave_others (x ∷ sent) link s t kept prefaced own does i a got off =
     let act : Action = action.FrameWritten link x in
     let one : IsLeft i a s (after act s)
-    = one_entry s.current s link x i a kept own (λ l at. frames_are_sendable s link x l kept greeted does.0 at) got off in
+    = one_entry s.current s link x i a kept own (λ l at. frames_are_sendable s link x l kept prefaced does.0 at) got off in
     let rest : IsLeft i a (after act s) t
-    = writes_leave_others sent link (after act s) t (kept_stays s act kept does.0) (greeted_stays s act kept greeted does.0) (streams_stay s act kept greeted own does.0) does.1 i a one.0 off in
+    = writes_leave_others sent link (after act s) t (kept_stays s act kept does.0) (prefaced_stays s act kept prefaced does.0) (streams_stay s act kept prefaced own does.0) does.1 i a one.0 off in
     (rest.0, rest.1 ∙ one.1)

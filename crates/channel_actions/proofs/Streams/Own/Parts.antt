@@ -1,7 +1,7 @@
 -- What is kept of streams, said of attempts and links alone, so that each may change by itself.
 use Rattle.attempt_ledger.specs.declared.row.Placed.{Placed}
 use Rattle.channel_actions.proofs.KeptSessions.Lists.{all_at, all_changed, all_more, all_wide, get_more}
-use Rattle.channel_actions.specs.OwnStreams.Own.{AreApart, is_below_next, is_opened}
+use Rattle.channel_actions.specs.OwnStreams.Own.{StreamsAreApart, is_below_next, is_opened}
 use Rattle.session_actions.specs.Words.{changed, holds, numbered}
 use Rattle.session_actions.specs.Writing.{next_stream, with_stream}
 use Rattle.session_actions.specs.declared.attempt.Attempt.{Attempt}
@@ -17,7 +17,7 @@ use Rattle.std.specs.Prelude.{nat_lt}
 
 pub record OwnOf (attempts : List Attempt) (links : List Link) : Type 0 where
   pub opened : list_all (is_opened links) attempts ≡ true
-  pub apart : AreApart attempts
+  pub apart : StreamsAreApart attempts
 
 abbrev pub Own : Seen → Type 0
 Own s = OwnOf s.attempts s.links

@@ -15,7 +15,7 @@ use Rattle.h2_frame.specs.Numbers.{headers_type}
 use Rattle.h2_frame.specs.Sent.{rst_stream_frame}
 use Rattle.channel_actions.proofs.KeptSessions.Lists.{all_at, counted_places, own_number}
 use Rattle.channel_actions.specs.KeptSessions.Kept.{IsKept}
-use Rattle.channel_actions.proofs.Links.Greeted.Fits.{FitsGreeted}
+use Rattle.channel_actions.proofs.Links.Prefaced.Fits.{FitsPrefaced}
 use Rattle.channel_actions.proofs.Streams.Own.Frames.{headers_open, opens_next, passed_opens, sent_next}
 use Rattle.channel_actions.proofs.Streams.Own.Parts.{Own, OwnOf, attempts_more, changes_row, link_now, links_mapped, links_more, placed_now, plain, streamed_now}
 use Rattle.service_config.specs.declared.config.Config.{Config}
@@ -250,7 +250,7 @@ module _ (o : OpenEntry) (s : Seen) (kept : IsKept s) (h : Own s) where
   abbrev same_as : (t : Seen) → t.attempts ≡ s.attempts → t.links ≡ s.links → Own t
   same_as t b d = plain s t b d h
 
-  act : (x : Action) → FitsGreeted x s → Own (after_in o x s)
+  act : (x : Action) → FitsPrefaced x s → Own (after_in o x s)
   act (action.EntryOpens posted word e) fits = h
   act (action.EventRefused why) fits = same_as (replied (reply.Refused why) s) refl refl
   act (action.EventAnswered r) fits = same_as (replied r s) refl refl
@@ -314,10 +314,10 @@ module _ (o : OpenEntry) (s : Seen) (kept : IsKept s) (h : Own s) where
   act (action.FrameWritten link x) fits = written_now x link s (numbered s.links link) kept refl fits h
   act action.ChannelShuts fits = same_as (replied reply.Done (record s { shut = true })) refl refl
 
-act_if : (c : Option OpenEntry) (x : Action) (s : Seen) → IsKept s → FitsGreeted x s → Own s → Own (after_if c x s)
+act_if : (c : Option OpenEntry) (x : Action) (s : Seen) → IsKept s → FitsPrefaced x s → Own s → Own (after_if c x s)
 act_if (Some o) x s kept fits h = act o s kept h x fits
 act_if None (action.EntryOpens posted word e) s kept fits h = plain s (opened posted word e s) refl refl h
 act_if None x s kept fits h = h
 
-pub own_after : (s : Seen) (x : Action) → IsKept s → FitsGreeted x s → Own s → Own (after x s)
+pub own_after : (s : Seen) (x : Action) → IsKept s → FitsPrefaced x s → Own s → Own (after x s)
 own_after s x kept fits h = act_if s.current x s kept fits h

@@ -1,4 +1,4 @@
-use Rattle.channel_actions.proofs.Calls.Kept.Along.{calls_are_bare, early_along, early_begins, early_stays}
+use Rattle.channel_actions.proofs.Calls.Kept.Along.{calls_are_unconfigured, early_along, early_begins, early_stays}
 use Rattle.channel_actions.proofs.Calls.Kept.Fresh.{frames_are_fresh}
 use Rattle.channel_actions.proofs.kept_calls.calls_are_kept.Goals as goal
 
@@ -11,8 +11,8 @@ returns-clause-stays c = early_stays
 pub returns-clause-along : goal.returns-clause-along
 returns-clause-along c = early_along
 
-pub returns-clause-bare : goal.returns-clause-bare
-returns-clause-bare c = calls_are_bare
+pub returns-clause-awaiting_config : goal.returns-clause-awaiting_config
+returns-clause-awaiting_config c = calls_are_unconfigured
 
 pub returns-clause-fresh : goal.returns-clause-fresh
 returns-clause-fresh c = frames_are_fresh

@@ -17,8 +17,8 @@ returns-then-not-has g c =
     (sym (c.has.ensures ∙ ap (λ (k : KindsSeen). has_kind k kind.RoundRobin) (c.set_of-kinds.ensures ∙ ap (λ ps. kinds_of (map g.P.Balancer.seen ps)) c.as_slice.ensures.value)) ∙ c.if-not-has.true, refl) in
     record {
       done = search rules;
-      refused = λ two. (words_fault_text, refused, c.tell_line.ensures.whole two);
-      writing = λ five. (c.tell_line.ensures.writing five, (words_fault_text, inr (inl refused), c.tell_line.ensures.front five));
+      refused = λ two. (words_fault_text, refused, c.report_line.ensures.whole two);
+      writing = λ five. (c.report_line.ensures.writing five, (words_fault_text, inr (inl refused), c.report_line.ensures.prefix five));
       memory = search rules;
       full = search rules;
       known = search rules;
@@ -35,10 +35,10 @@ returns-in-Ok g c =
       text_is = refl;
     } in
     record {
-      done = λ zero. (summary_line c.in-Ok.summary ++ 10 ∷ [], done, c.tell_summary.ensures.done zero);
+      done = λ zero. (summary_line c.in-Ok.summary ++ 10 ∷ [], done, c.report_summary.ensures.done zero);
       refused = search rules;
-      writing = λ five. (c.tell_summary.ensures.writing five, (summary_line c.in-Ok.summary ++ 10 ∷ [], inl done, c.tell_summary.ensures.front (inl five)));
-      memory = λ six. inr (summary_line c.in-Ok.summary ++ 10 ∷ [], inl done, c.tell_summary.ensures.front (inr six));
+      writing = λ five. (c.report_summary.ensures.writing five, (summary_line c.in-Ok.summary ++ 10 ∷ [], inl done, c.report_summary.ensures.prefix (inl five)));
+      memory = λ six. inr (summary_line c.in-Ok.summary ++ 10 ∷ [], inl done, c.report_summary.ensures.prefix (inr six));
       full = search rules;
       known = search rules;
     }
@@ -50,8 +50,8 @@ returns-in-SessionFull g c =
     record {
       done = search rules;
       refused = search rules;
-      writing = λ five. (c.tell_line-in-SessionFull.ensures.writing five, (session_full_text, inr (inr fills), c.tell_line-in-SessionFull.ensures.front five));
+      writing = λ five. (c.report_line-in-SessionFull.ensures.writing five, (session_full_text, inr (inr fills), c.report_line-in-SessionFull.ensures.prefix five));
       memory = search rules;
-      full = λ seven. (session_full_text, fills, c.tell_line-in-SessionFull.ensures.whole seven);
+      full = λ seven. (session_full_text, fills, c.report_line-in-SessionFull.ensures.whole seven);
       known = search rules;
     }

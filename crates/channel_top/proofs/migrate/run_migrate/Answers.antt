@@ -12,7 +12,7 @@ returns-in-Ok g c =
       done = λ zero. (script_of c.in-Ok.read.target c.in-Ok.read.events.items, done, c.write_read.ensures.done zero);
       line = search rules;
       reading = search rules;
-      writing = λ five. (c.write_read.ensures.writing five, (script_of c.in-Ok.read.target c.in-Ok.read.events.items, inl done, c.write_read.ensures.front (inl five)));
-      memory = λ six. inr (script_of c.in-Ok.read.target c.in-Ok.read.events.items, inl done, c.write_read.ensures.front (inr six));
+      writing = λ five. (c.write_read.ensures.writing five, (script_of c.in-Ok.read.target c.in-Ok.read.events.items, inl done, c.write_read.ensures.prefix (inl five)));
+      memory = λ six. inr (script_of c.in-Ok.read.target c.in-Ok.read.events.items, inl done, c.write_read.ensures.prefix (inr six));
       known = search rules;
     }

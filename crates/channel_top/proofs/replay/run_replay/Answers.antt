@@ -5,7 +5,7 @@ use Rattle.script_input.specs.Reading.{GivesNone}
 use Rattle.session_text.specs.Sessions.{line_fault_text}
 use Rattle.channel_top.specs.Top.{EndsFull, IsDone, IsReplayText, IsRunReport}
 use Rattle.channel_top.proofs.AgainLaws.{replay_text, report_done, report_ends, target_read}
-use Rattle.session_text.proofs.WrittenLaws.{all_as, front_as, some_as}
+use Rattle.session_text.proofs.WrittenLaws.{all_as, prefix_as, some_as}
 use Rattle.channel_top.proofs.replay.run_replay.Goals as goal
 
 pub report_script-requires-clause-target : goal.report_script-requires-clause-target
@@ -18,14 +18,14 @@ returns-in-Ok g c =
     report_done _ _ _ c.in-Ok.read.target c.in-Ok.read.value c.in-Ok.read.events.items text c.in-Ok.ensures.ok is in
     let ends : (text : List ℕ) → _ → EndsFull (map g.P.Balancer.seen c.args.policies.items) (g.S.Source.left c.args.script.now) (g.S.Source.left c.read_replay.new.source) text = λ text is.
     report_ends _ _ _ c.in-Ok.read.target c.in-Ok.read.value c.in-Ok.read.events.items text c.in-Ok.ensures.ok is in
-    let told : (text : List ℕ) → IsRunReport (map g.P.Balancer.seen c.args.policies.items) c.in-Ok.read.target c.in-Ok.read.value c.in-Ok.read.events.items text → IsReplayText (map g.P.Balancer.seen c.args.policies.items) (g.S.Source.left c.args.script.now) (g.S.Source.left c.read_replay.new.source) text = λ text is.
+    let reported : (text : List ℕ) → IsRunReport (map g.P.Balancer.seen c.args.policies.items) c.in-Ok.read.target c.in-Ok.read.value c.in-Ok.read.events.items text → IsReplayText (map g.P.Balancer.seen c.args.policies.items) (g.S.Source.left c.args.script.now) (g.S.Source.left c.read_replay.new.source) text = λ text is.
     replay_text _ _ _ c.in-Ok.read.target c.in-Ok.read.value c.in-Ok.read.events.items text c.in-Ok.ensures.ok is in
     record {
       done = λ zero. all_as _ _ _ _ done (c.report_script.ensures.done zero);
       line = search rules;
       reading = search rules;
-      writing = λ five. ((c.report_script.ensures.writing five).0, front_as _ _ _ _ told (c.report_script.ensures.writing five).1);
-      memory = λ six. some_as _ _ _ _ told (c.report_script.ensures.memory six);
+      writing = λ five. ((c.report_script.ensures.writing five).0, prefix_as _ _ _ _ reported (c.report_script.ensures.writing five).1);
+      memory = λ six. some_as _ _ _ _ reported (c.report_script.ensures.memory six);
       full = λ seven. all_as _ _ _ _ ends (c.report_script.ensures.full seven);
       known = search rules;
     }
@@ -42,5 +42,5 @@ returns-in-BadLine-clause-memory g c = λ six. inr (
         c.in-BadLine.is c.in-Err.ensures.bad;
     text_is = refl;
   }),
-  c.tell_bad.ensures.front (inr six),
+  c.report_bad.ensures.prefix (inr six),
 )

@@ -16,9 +16,9 @@ returns-in-Ok g c = (
 
 pub returns-in-SessionFull : goal.returns-in-SessionFull
 returns-in-SessionFull g c =
-    let told : c.step.result ≡ Err (failed.SessionFull c.in-SessionFull.entries c.in-SessionFull.octets) =
+    let reported : c.step.result ≡ Err (failed.SessionFull c.in-SessionFull.entries c.in-SessionFull.octets) =
     c.in-Err.is ∙ ap (λ (e : CoreError). Err e) c.in-SessionFull.is in (
       lacks_room c.args.core.now c.args.stamped.event c.in-SessionFull.entries c.in-SessionFull.octets
-          ((c.step.ensures.full c.in-SessionFull.entries c.in-SessionFull.octets).0 told),
-      c.step.ensures.refused c.in-SessionFull.entries c.in-SessionFull.octets told,
+          ((c.step.ensures.full c.in-SessionFull.entries c.in-SessionFull.octets).0 reported),
+      c.step.ensures.refused c.in-SessionFull.entries c.in-SessionFull.octets reported,
     )

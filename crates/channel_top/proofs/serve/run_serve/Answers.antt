@@ -10,14 +10,14 @@ returns-in-Ok g c =
       done = λ zero. (served_text c.args.place.links, done, c.serve_script.ensures.done zero);
       line = search rules;
       reading = search rules;
-      writing = λ five. (c.serve_script.ensures.writing five, (served_text c.args.place.links, inl done, c.serve_script.ensures.front (inl five)));
-      memory = λ six. inr (served_text c.args.place.links, inl done, c.serve_script.ensures.front (inr six));
-      unheard = λ eight. record {
+      writing = λ five. (c.serve_script.ensures.writing five, (served_text c.args.place.links, inl done, c.serve_script.ensures.prefix (inl five)));
+      memory = λ six. inr (served_text c.args.place.links, inl done, c.serve_script.ensures.prefix (inr six));
+      not_listening = λ eight. record {
         answers = c.in-Ok.read.answers;
         script = c.in-Ok.ensures.ok;
-        failed = (c.serve_script.ensures.unheard eight).1;
-        written = (c.serve_script.ensures.unheard eight).0;
+        failed = (c.serve_script.ensures.not_listening eight).1;
+        written = (c.serve_script.ensures.not_listening eight).0;
       };
-      heard = c.serve_script.ensures.heard;
+      listened = c.serve_script.ensures.listened;
       known = search rules;
     }

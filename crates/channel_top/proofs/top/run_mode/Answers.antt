@@ -1,5 +1,5 @@
 use Rattle.std.proofs.Common.{map, refl}
-use Rattle.session_text.proofs.WrittenLaws.{all_as, front_as, some_as}
+use Rattle.session_text.proofs.WrittenLaws.{all_as, prefix_as, some_as}
 use Rattle.channel_top.proofs.WrittenLaws.{live_done, live_full, live_output, load_done, load_full, load_output, load_refused, migrate_output, relay_done, relay_full, relay_output, replay_done, replay_full, replay_output}
 use Rattle.channel_top.proofs.top.run_mode.Goals as goal
 
@@ -12,7 +12,7 @@ returns-in-Replay-clause-full g c = λ seven. all_as _ _ _ _ (replay_full _ _ c.
 pub returns-in-Replay-clause-writing : goal.returns-in-Replay-clause-writing
 returns-in-Replay-clause-writing g c = λ five. (
   (c.run_replay.ensures.writing five).0,
-  front_as _ _ _ _ (replay_output _ _ c.args.mode _ _ c.in-Replay.is) (c.run_replay.ensures.writing five).1,
+  prefix_as _ _ _ _ (replay_output _ _ c.args.mode _ _ c.in-Replay.is) (c.run_replay.ensures.writing five).1,
 )
 
 pub returns-in-Replay-clause-memory : goal.returns-in-Replay-clause-memory
@@ -32,7 +32,7 @@ returns-in-Load-clause-words g c = λ two. all_as _ _ _ _ (load_refused (map g.P
 pub returns-in-Load-clause-writing : goal.returns-in-Load-clause-writing
 returns-in-Load-clause-writing g c = λ five. (
   (c.run_load.ensures.writing five).0,
-  front_as _ _ _ _ (load_output _ _ c.args.mode c.in-Load.load _ _ c.in-Load.is refl) (c.run_load.ensures.writing five).1,
+  prefix_as _ _ _ _ (load_output _ _ c.args.mode c.in-Load.load _ _ c.in-Load.is refl) (c.run_load.ensures.writing five).1,
 )
 
 pub returns-in-Load-clause-memory : goal.returns-in-Load-clause-memory
@@ -51,7 +51,7 @@ returns-in-Live-clause-full g c = λ seven. all_as _ _ _ _ (live_full _ _ c.args
 pub returns-in-Live-clause-writing : goal.returns-in-Live-clause-writing
 returns-in-Live-clause-writing g c = λ five. (
   (c.run_as_promised.ensures.writing five).0,
-  front_as _ _ _ _ (live_output _ _ c.args.mode c.in-Live.settings _ _ c.in-Live.is) (c.run_as_promised.ensures.writing five).1,
+  prefix_as _ _ _ _ (live_output _ _ c.args.mode c.in-Live.settings _ _ c.in-Live.is) (c.run_as_promised.ensures.writing five).1,
 )
 
 pub returns-in-Live-clause-memory : goal.returns-in-Live-clause-memory
@@ -67,7 +67,7 @@ returns-in-Relay-clause-full g c = λ seven. all_as _ _ _ _ (relay_full _ _ c.ar
 pub returns-in-Relay-clause-writing : goal.returns-in-Relay-clause-writing
 returns-in-Relay-clause-writing g c = λ five. (
   (c.relay_as_promised.ensures.writing five).0,
-  front_as _ _ _ _ (relay_output _ _ c.args.mode c.in-Relay.settings _ _ c.in-Relay.is) (c.relay_as_promised.ensures.writing five).1,
+  prefix_as _ _ _ _ (relay_output _ _ c.args.mode c.in-Relay.settings _ _ c.in-Relay.is) (c.relay_as_promised.ensures.writing five).1,
 )
 
 pub returns-in-Relay-clause-memory : goal.returns-in-Relay-clause-memory

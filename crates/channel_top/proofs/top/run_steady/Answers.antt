@@ -8,7 +8,7 @@ pub returns-clause-short : goal.returns-clause-short
 returns-clause-short g c = λ runs short. c.run_channel.ensures.short runs short never_rises never_rises
 
 pub returns-clause-good : goal.returns-clause-good
-returns-clause-good g c = λ given heard. c.run_channel.ensures.good given never_rises never_rises heard
+returns-clause-good g c = λ given listened. c.run_channel.ensures.good given never_rises never_rises listened
 
 pub returns-clause-bad : goal.returns-clause-bad
 returns-clause-bad g c = λ given. c.run_channel.ensures.bad given never_rises never_rises

@@ -6,7 +6,7 @@ returns-clause-result_taken c = results_are_next c.chains_are_next.ensures c.pol
 
 pub returns-clause-over : goal.returns-clause-over
 returns-clause-over c =
-    take_overs_are_next c.calm_is_exact.ensures.calm c.policies_stir_apart.ensures c.chains_are_next.ensures c.policies_come_and_go.ensures.over
+    take_overs_are_next c.quiescence_is_exact.ensures.quiescent c.policies_stir_apart.ensures c.chains_are_next.ensures c.policies_come_and_go.ensures.over
 
 pub returns-clause-shut : goal.returns-clause-shut
 returns-clause-shut c = shutdowns_are_next c.chains_are_next.ensures c.policies_come_and_go.ensures.shut

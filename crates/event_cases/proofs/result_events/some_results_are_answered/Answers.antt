@@ -6,4 +6,4 @@ pub returns-clause-shut : goal.returns-clause-shut
 returns-clause-shut c = second_shutdowns
 
 pub returns-clause-bad : goal.returns-clause-bad
-returns-clause-bad c = first_bad_configs c.calm_is_exact.ensures.calm
+returns-clause-bad c = first_bad_configs c.quiescence_is_exact.ensures.quiescent

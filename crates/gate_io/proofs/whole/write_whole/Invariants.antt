@@ -2,7 +2,7 @@ use Rattle.std.proofs.Common.{◌≡◌, ◌≤◌, ◌-◌, take, length}
 use Rattle.gate_io.specs.Outside.{Appends}
 use Rattle.gate_io.proofs.whole.write_whole.Given as goal
 
--- the front of the piece up to here was taken
+-- the prefix of the piece up to here was taken
 abbrev pub invariant-loop-at : goal.invariant-loop-at
 invariant-loop-at g l = record {
   within : l.at ≤ length l.piece;

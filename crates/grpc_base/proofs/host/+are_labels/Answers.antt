@@ -5,7 +5,7 @@ use Rattle.grpc_base.specs.Hosts.{IsLabel}
 use Rattle.grpc_base.proofs.HostLaws.{more_decided}
 use Rattle.grpc_base.proofs.host.+are_labels.Goals as goal
 
--- the first piece is a label, and those behind it are tested
+-- the first piece is a label, and those after it are tested
 pub returns-then-is_label : goal.returns-then-is_label
 returns-then-is_label t c =
     more_decided IsLabel (pieces 46 c.args.text.now) c.first_piece.result.0.now (pieces 46 c.in-Some.rest.now) c.are_labels.result

@@ -2,12 +2,12 @@ use Rattle.std.proofs.Common.{◌≡◌, ◌∙◌, ◌++◌, ◌+◌, ap, sym, 
 use Rattle.std.specs.Result.{IfOk}
 use Rattle.grpc_frame.specs.declared.next.NextMessage.TheVariants as next
 use Rattle.grpc_frame.specs.Messages.{Messages, next_of, messages_of}
-use Rattle.grpc_frame.specs.Read.{told, kept}
-use Rattle.grpc_frame.proofs.ReadLaws.{fault_alone, one_in_front, rest_whole, rest_fault, whole_size}
+use Rattle.grpc_frame.specs.Read.{reported, kept}
+use Rattle.grpc_frame.proofs.ReadLaws.{fault_alone, one_before, rest_whole, rest_fault, whole_size}
 use Rattle.grpc_frame.proofs.read.read_on.Goals as goal
 
-pub returns-in_ok-push-in-Whole-clause-told : goal.returns-in_ok-push-in-Whole-clause-told
-returns-in_ok-push-in-Whole-clause-told c =
+pub returns-in_ok-push-in-Whole-clause-reported : goal.returns-in_ok-push-in-Whole-clause-reported
+returns-in_ok-push-in-Whole-clause-reported c =
     let limit = c.args.limit in
     let octets = c.args.octets.now in
     let begun = c.in_ok-begun.begun.rest.items in
@@ -17,13 +17,13 @@ returns-in_ok-push-in-Whole-clause-told c =
     let bytes : begun ≡ c.args.rest.items ++ take taken octets =
     c.in_ok-begun.ensures.rest ∙ ap (λ (xs : List ℕ). c.args.rest.items ++ take taken xs) c.as_slice.ensures in
     let size : length begun ≡ 5 + c.in-Whole.length = whole_size (next_of limit begun) c.in-Whole.length (length begun) _ whole c.in_ok-begun.ensures.far in
-    let all = one_in_front c.push.new.self.items c.new-messages.result.items c.in_ok-message_in-in-Whole.field-0 begun (kept (messages_of limit (drop taken octets))) (kept (messages_of limit (c.args.rest.items ++ octets)))
+    let all = one_before c.push.new.self.items c.new-messages.result.items c.in_ok-message_in-in-Whole.field-0 begun (kept (messages_of limit (drop taken octets))) (kept (messages_of limit (c.args.rest.items ++ octets)))
     c.in_ok-push-in-Whole.ensures.items c.new-messages.ensures.items c.in_ok-message_in-in-Whole.ensures (rest_whole limit c.in-Whole.length taken c.args.rest.items begun octets bytes whole size) in
-    let Told : Messages → Type 0 = λ m. IfOk c.read_from-in-Whole.result (λ r. told r ≡ m) in
-    subst Told all c.read_from-in-Whole.ensures.told
+    let Report : Messages → Type 0 = λ m. IfOk c.read_from-in-Whole.result (λ r. reported r ≡ m) in
+    subst Report all c.read_from-in-Whole.ensures.reported
 
-pub returns-in-Fault-clause-told : goal.returns-in-Fault-clause-told
-returns-in-Fault-clause-told c =
+pub returns-in-Fault-clause-reported : goal.returns-in-Fault-clause-reported
+returns-in-Fault-clause-reported c =
     let limit = c.args.limit in
     let begun = c.in_ok-begun.begun.rest.items in
     let taken = c.in_ok-begun.begun.taken in

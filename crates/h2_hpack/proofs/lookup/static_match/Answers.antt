@@ -34,14 +34,14 @@ loop-place-init c =
 
 pub returns-in-Some : goal.returns-in-Some
 returns-in-Some c =
-    let none = c.places_of-start.ensures.behind in
+    let none = c.places_of-start.ensures.afterwards in
     let pair = sought_past (same_pair c.args.name.now c.args.value.now) c.places_of-start.result.1 c.loop-place.place c.loop-place-test.false (pairless c.args.name.now c.args.value.now (drop c.places_of-start.result.1 static_table) none) c.loop-place.invariant.0 in
     let name = name_past (same_name c.args.name.now) c.places_of-start.result.1 c.loop-place.place c.loop-place.named c.loop-place-test.false none c.loop-place.invariant.1 ∙ c.in-Some.is in
     sym (ap (λ p. match_of p (index_where (same_name c.args.name.now))) pair ∙ ap (match_of None) name)
 
 pub returns-in-None : goal.returns-in-None
 returns-in-None c =
-    let none = c.places_of-start.ensures.behind in
+    let none = c.places_of-start.ensures.afterwards in
     let pair = sought_past (same_pair c.args.name.now c.args.value.now) c.places_of-start.result.1 c.loop-place.place c.loop-place-test.false (pairless c.args.name.now c.args.value.now (drop c.places_of-start.result.1 static_table) none) c.loop-place.invariant.0 in
     let name = name_past (same_name c.args.name.now) c.places_of-start.result.1 c.loop-place.place c.loop-place.named c.loop-place-test.false none c.loop-place.invariant.1 ∙ c.in-None.is in
     sym (ap (λ p. match_of p (index_where (same_name c.args.name.now))) pair ∙ ap (match_of None) name)

@@ -1,5 +1,5 @@
-use Rattle.h2_server.proofs.Cuts.{heard_stays, heard_goes_on}
+use Rattle.h2_server.proofs.Cuts.{received_stays, received_goes_on}
 use Rattle.h2_server.proofs.laws.pieces_join.Goals as goal
 
 pub returns : goal.returns
-returns c = record { stays = heard_stays; goes_on = heard_goes_on }
+returns c = record { stays = received_stays; goes_on = received_goes_on }

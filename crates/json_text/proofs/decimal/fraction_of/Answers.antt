@@ -6,8 +6,8 @@ use Rattle.json_text.proofs.decimal.fraction_of.Goals as goal
 one_more : (ds : List ℕ) (i v d unit total : ℕ) → i < length ds → d ≡ get_or ds i 0 - 48
     → v + summed unit (drop i ds) ≡ total → v + d * unit + summed (unit / 10) (drop (i + 1) ds) ≡ total
 one_more ds i v d unit total lt is_d seen =
-    let front = drop-cons ds i 0 lt in
-    let here : v + ((get_or ds i 0 - 48) * unit + summed (unit / 10) (drop (suc i) ds)) ≡ total = ap (λ (x : List ℕ). v + summed unit x) (sym front) ∙ seen in
+    let prefix = drop-cons ds i 0 lt in
+    let here : v + ((get_or ds i 0 - 48) * unit + summed (unit / 10) (drop (suc i) ds)) ≡ total = ap (λ (x : List ℕ). v + summed unit x) (sym prefix) ∙ seen in
     let there : v + (d * unit + summed (unit / 10) (drop (suc i) ds)) ≡ total = ap (λ (x : ℕ). v + (x * unit + summed (unit / 10) (drop (suc i) ds))) is_d ∙ here in
     rw (add-one i) (add_assoc v (d * unit) (summed (unit / 10) (drop (suc i) ds)) ∙ there)
 

@@ -3,6 +3,6 @@ use Rattle.lb_policy.specs.Table.{is_open, has_state}
 use Rattle.lb_kinds.specs.Seen.{plain}
 use Rattle.lb_kinds.proofs.scan.any_open.Given as goal
 
--- none was found in front of here
+-- none was found before here
 abbrev pub invariant-loop-marked : goal.invariant-loop-marked
 invariant-loop-marked l = has_state is_open (plain (drop l.marked-index l.subs)) ≡ has_state is_open (plain l.fn.subs)

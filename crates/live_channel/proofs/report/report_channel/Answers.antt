@@ -1,5 +1,5 @@
 use Rattle.live_channel.proofs.ReportLaws.{reports_on}
-use Rattle.session_text.proofs.WrittenLaws.{all_as, front_as, on_err_as, on_ok_as, some_as}
+use Rattle.session_text.proofs.WrittenLaws.{all_as, prefix_as, on_err_as, on_ok_as, some_as}
 use Rattle.live_channel.proofs.report.report_channel.Goals as goal
 
 pub returns-clause-ok : goal.returns-clause-ok
@@ -13,4 +13,4 @@ returns-clause-err g c =
 pub returns-clause-write : goal.returns-clause-write
 returns-clause-write g c = λ failed.
     let wrote = c.report_turn-answer.ensures.write failed in
-    (wrote.0, front_as _ _ _ _ (λ text is. reports_on _ _ _ _ _ _ text c.connectivity.ensures.sees c.connectivity.ensures.kept c.connectivity-2.ensures.sees c.connectivity-2.ensures.kept is) wrote.1)
+    (wrote.0, prefix_as _ _ _ _ (λ text is. reports_on _ _ _ _ _ _ text c.connectivity.ensures.sees c.connectivity.ensures.kept c.connectivity-2.ensures.sees c.connectivity-2.ensures.kept is) wrote.1)

@@ -13,7 +13,7 @@ pub run_sides-requires-clause-links : goal.run_sides-requires-clause-links
 run_sides-requires-clause-links g c κs within = fresh_at _ _ _ (ap (λ (s : SeatSeen Entry). s.lock) c.handle.ensures.seat ∙ c.in_ok-jobs.ensures.splits.lock ∙ c.requires.started.lock_is) c.requires.started.fresh
 
 pub returns-clause-left : goal.returns-clause-left
-returns-clause-left g c = λ held told given. left_calls (λ h. h.seat) g.N.Dialer.coming _ held told _ _ _ _ _ _ c.args.seat c.call_jobs.new.seat _ c.requires.started given c.in_ok-jobs.ensures.splits c.handle.ensures.seat c.in_ok-jobs.ensures.lines
+returns-clause-left g c = λ held reported given. left_calls (λ h. h.seat) g.N.Dialer.coming _ held reported _ _ _ _ _ _ c.args.seat c.call_jobs.new.seat _ c.requires.started given c.in_ok-jobs.ensures.splits c.handle.ensures.seat c.in_ok-jobs.ensures.lines
     (sym (map_length (λ j. j.post.seat) c.in_ok-jobs.jobs.items)) (seats_length c.args.links.items (λ h. h.seat)) c.in_ok-left.ensures
 
 pub returns-clause-sees : goal.returns-clause-sees

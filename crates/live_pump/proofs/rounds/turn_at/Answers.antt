@@ -1,13 +1,13 @@
 use Rattle.std.proofs.Common.{sym, ◌∙◌, arith}
 use Rattle.live_pump.specs.Runs.{Eyes, eyes_of}
-use Rattle.live_pump.proofs.RunLaws.{fails_with, given_up_tells, goes_on, turned_failed, turned_off, turned_on}
+use Rattle.live_pump.proofs.RunLaws.{fails_with, given_up_reports, goes_on, turned_failed, turned_off, turned_on}
 use Rattle.live_pump.proofs.rounds.turn_at.Goals as goal
 
 pub returns-then-is_given_up-clause-part : goal.returns-then-is_given_up-clause-part
 returns-then-is_given_up-clause-part g c =
     let eyes : Eyes g.row.P.Denot g.row.T.Denot g.row.I.Denot g.row.O.Denot = eyes_of g.P.Post.made g.P.Post.errors g.P.Post.last_error g.P.Post.last_look g.T.Tender.turns g.T.Tender.last_turn
     g.I.LinkIn.left g.I.LinkIn.faults g.I.LinkIn.quiet g.O.LinkOut.taken g.O.LinkOut.faults g.O.LinkOut.closed in
-    given_up_tells (eyes.handle c.args.post.now) (eyes.handle c.turn_link-answer.new.post) c.turn_link-answer.result (sym c.is_given_up.ensures ∙ c.if-is_given_up.true) c.turn_link-answer.ensures.tells
+    given_up_reports (eyes.handle c.args.post.now) (eyes.handle c.turn_link-answer.new.post) c.turn_link-answer.result (sym c.is_given_up.ensures ∙ c.if-is_given_up.true) c.turn_link-answer.ensures.reports_that
 
 pub returns-then-is_given_up-clause-turned : goal.returns-then-is_given_up-clause-turned
 returns-then-is_given_up-clause-turned g c =

@@ -8,7 +8,7 @@ use Rattle.load_session.specs.Playing.{Plays}
 use Rattle.load_session.specs.Stopping.{StopsIn}
 use Rattle.load_session.proofs.Acts.{Plays-join}
 use Rattle.load_session.proofs.Ran.{exit_full, exit_memory, exit_ok, on_ok_as}
-use Rattle.load_session.proofs.Stops.{stops_behind, stops_in_front}
+use Rattle.load_session.proofs.Stops.{stops_after, stops_before}
 use Rattle.load_session.proofs.play.play_load.Goals as goal
 
 pub returns-in_err-opening-clause-ok : goal.returns-in_err-opening-clause-ok
@@ -23,7 +23,7 @@ returns-in_err-play_all-clause-ok g c = exit_ok _ c.from_residual-in_err-play_al
 pub returns-in_err-play_all-clause-full : goal.returns-in_err-play_all-clause-full
 returns-in_err-play_all-clause-full g c =
     exit_full c.from_residual-in_err-play_all.result c.in_err-play_all.field-0.0 c.from_residual-in_err-play_all.ensures.1
-    (λ same. stops_in_front opening (flat_map (batch_actions c.args.load.seed c.args.load.calls) (range_with_len 0 (batches_of c.args.load.calls))) (record { channel = c.args.core.now; server = c.args.server.now })
+    (λ same. stops_before opening (flat_map (batch_actions c.args.load.seed c.args.load.calls) (range_with_len 0 (batches_of c.args.load.calls))) (record { channel = c.args.core.now; server = c.args.server.now })
     (subst (λ (xs : List LoadAction). StopsIn xs (record { channel = c.args.core.now; server = c.args.server.now })) (c.into_vec.ensures ∙ c.in_ok-opening.ensures) (c.in_err-play_all.ensures.full same)))
 
 pub returns-clause-ok : goal.returns-clause-ok
@@ -38,7 +38,7 @@ returns-clause-ok g c =
 
 pub returns-clause-full : goal.returns-clause-full
 returns-clause-full g c = λ same.
-    stops_behind opening (flat_map (batch_actions c.args.load.seed c.args.load.calls) (range_with_len 0 (batches_of c.args.load.calls))) (record { channel = c.args.core.now; server = c.args.server.now })
+    stops_after opening (flat_map (batch_actions c.args.load.seed c.args.load.calls) (range_with_len 0 (batches_of c.args.load.calls))) (record { channel = c.args.core.now; server = c.args.server.now })
     (record { channel = c.play_all.new.core; server = c.play_all.new.server })
     (subst (λ (xs : List LoadAction). Plays xs (record { channel = c.args.core.now; server = c.args.server.now }) (record { channel = c.play_all.new.core; server = c.play_all.new.server }))
     (c.into_vec.ensures ∙ c.in_ok-opening.ensures) c.in_ok-play_all.ensures.ok)

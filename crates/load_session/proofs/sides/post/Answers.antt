@@ -18,10 +18,10 @@ returns-in-Ok-clause-full g c = not_ok _
 
 pub returns-in-SessionFull-clause-full : goal.returns-in-SessionFull-clause-full
 returns-in-SessionFull-clause-full g c = λ _.
-    (let told : c.step.result ≡ Err (failed.SessionFull c.in-SessionFull.entries c.in-SessionFull.octets) =
+    (let reported : c.step.result ≡ Err (failed.SessionFull c.in-SessionFull.entries c.in-SessionFull.octets) =
     c.in-Err.is ∙ ap (λ (e : CoreError). Err e) c.in-SessionFull.is in
     lacks_room c.args.core.now c.args.event c.in-SessionFull.entries c.in-SessionFull.octets
-    ((c.step.ensures.full c.in-SessionFull.entries c.in-SessionFull.octets).0 told))
+    ((c.step.ensures.full c.in-SessionFull.entries c.in-SessionFull.octets).0 reported))
 
 pub returns-in-NoMemory-clause-full : goal.returns-in-NoMemory-clause-full
 returns-in-NoMemory-clause-full g c = not_memory

@@ -13,7 +13,7 @@ returns-clause-runs g c = record {
   output = out_same _ _ c.close.ensures.bytes c.close.ensures.count;
 }
 
-pub returns-clause-tells : goal.returns-clause-tells
-returns-clause-tells g c =
+pub returns-clause-reports_that : goal.returns-clause-reports_that
+returns-clause-reports_that g c =
     let start : HandleSeen = record { made = g.P.Post.made c.args.post.now; errors = g.P.Post.errors c.args.post.now; last = g.P.Post.last_error c.args.post.now } in
-    c.finish-turn.ensures.tells start c.run_rounds-end.ensures.tells
+    c.finish-turn.ensures.reports_that start c.run_rounds-end.ensures.reports_that

@@ -12,7 +12,7 @@ loop-preserved g c =
     let eyes : LinkEyes g.row.P.Denot g.row.I.Denot g.row.O.Denot = link_eyes_of (eyes_of g.P.Post.made g.P.Post.errors g.P.Post.last_error g.P.Post.looks g.P.Post.last_look)
     g.I.LinkIn.left g.I.LinkIn.faults g.I.LinkIn.quiet g.O.LinkOut.taken g.O.LinkOut.faults in
     record {
-      errors = c.in_default.ensures.tells ∙ c.loop.invariant.errors;
+      errors = c.in_default.ensures.reports_that ∙ c.loop.invariant.errors;
       share = c.round.ensures.share ∙ c.loop.invariant.share;
       rounds = c.loop.invariant.rounds ++ record { core = c.round.new.core; post = c.round.new.post; input = c.round.new.input; output = c.round.new.output } ∷ [];
       goes_on = rounds_more eyes (record { core = c.args.core.now; post = c.args.post.now; input = c.args.input.now; output = c.args.output.now }) c.loop.invariant.rounds

@@ -1,5 +1,5 @@
 use Rattle.std.proofs.Common.{refl, rules}
-use Rattle.relay_mode.proofs.FrontLaws.{links_joined, links_still}
+use Rattle.relay_mode.proofs.RelaySideLaws.{links_joined, links_still}
 use Rattle.relay_mode.proofs.accepting.+links.Goals as goal
 
 pub relay_links-returns-clause-each : goal.relay_links-returns-clause-each

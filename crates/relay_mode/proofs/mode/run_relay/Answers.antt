@@ -2,7 +2,7 @@ use Rattle.std.proofs.Common.{List, ℕ, inr, map, refl, rules, subst}
 use Rattle.script_input.specs.declared.fault.InputFault.{InputFault}
 use Rattle.script_input.specs.Relays.{GivesNoRelay}
 use Rattle.session_text.specs.Sessions.{line_fault_text}
-use Rattle.session_text.proofs.WrittenLaws.{all_as, front_as, some_as}
+use Rattle.session_text.proofs.WrittenLaws.{all_as, prefix_as, some_as}
 use Rattle.relay_mode.specs.Relayed.{EndsRelayFull, IsAnyRelayReport, IsRelayText, IsRelayed}
 use Rattle.relay_mode.proofs.RelayLaws.{full_of, relay_target, relay_text, relayed_of}
 use Rattle.relay_mode.proofs.mode.run_relay.Goals as goal
@@ -16,17 +16,17 @@ returns-in-Ok g c =
     relayed_of _ _ _ _ _ c.in-Ok.read text c.in-Ok.ensures.ok is in
     let ends : (text : List ℕ) → _ → EndsRelayFull (map g.P.Balancer.seen c.args.policies.items) (g.W.World.held c.args.world) c.args.settings.links (g.S.Source.left c.args.script.now) (g.S.Source.left c.read_relay.new.source) text = λ text is.
     full_of _ _ _ _ _ c.in-Ok.read text c.in-Ok.ensures.ok is in
-    let told : (text : List ℕ) → IsAnyRelayReport (map g.P.Balancer.seen c.args.policies.items) (g.W.World.held c.args.world) c.args.settings.links c.in-Ok.read text → IsRelayText (map g.P.Balancer.seen c.args.policies.items) (g.W.World.held c.args.world) c.args.settings.links (g.S.Source.left c.args.script.now) (g.S.Source.left c.read_relay.new.source) text = λ text is.
+    let reported : (text : List ℕ) → IsAnyRelayReport (map g.P.Balancer.seen c.args.policies.items) (g.W.World.held c.args.world) c.args.settings.links c.in-Ok.read text → IsRelayText (map g.P.Balancer.seen c.args.policies.items) (g.W.World.held c.args.world) c.args.settings.links (g.S.Source.left c.args.script.now) (g.S.Source.left c.read_relay.new.source) text = λ text is.
     relay_text _ _ _ _ _ c.in-Ok.read text c.in-Ok.ensures.ok is in
     record {
       done = λ zero. all_as _ _ _ _ done (c.relay_script.ensures.done zero);
       line = search rules;
       reading = search rules;
-      writing = λ five. ((c.relay_script.ensures.writing five).0, front_as _ _ _ _ told (c.relay_script.ensures.writing five).1);
-      memory = λ six. some_as _ _ _ _ told (c.relay_script.ensures.memory six);
+      writing = λ five. ((c.relay_script.ensures.writing five).0, prefix_as _ _ _ _ reported (c.relay_script.ensures.writing five).1);
+      memory = λ six. some_as _ _ _ _ reported (c.relay_script.ensures.memory six);
       full = λ seven. all_as _ _ _ _ ends (c.relay_script.ensures.full seven);
-      unheard = λ eight. record { script = c.in-Ok.read; read = c.in-Ok.ensures.ok; failed = (c.relay_script.ensures.unheard eight).1; written = (c.relay_script.ensures.unheard eight).0 };
-      heard = c.relay_script.ensures.heard;
+      not_listening = λ eight. record { script = c.in-Ok.read; read = c.in-Ok.ensures.ok; failed = (c.relay_script.ensures.not_listening eight).1; written = (c.relay_script.ensures.not_listening eight).0 };
+      listened = c.relay_script.ensures.listened;
       known = search rules;
     }
 
@@ -42,5 +42,5 @@ returns-in-BadLine-clause-memory g c = λ six. inr (
         c.in-BadLine.is c.in-Err.ensures.bad;
     text_is = refl;
   }),
-  c.tell_bad.ensures.front (inr six),
+  c.report_bad.ensures.prefix (inr six),
 )

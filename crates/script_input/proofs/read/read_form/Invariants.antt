@@ -3,7 +3,7 @@ use Rattle.gate_io.specs.Outside.{Takes}
 use Rattle.script_input.specs.Collecting.{HasRead, IsReady, room_of}
 use Rattle.script_input.proofs.read.read_form.Given as goal
 
--- the bytes that were read are whole lines and the front of another
+-- the bytes that were read are whole lines and the prefix of another
 abbrev pub invariant-loop-count : goal.invariant-loop-count
 invariant-loop-count g l =
     (input : List ℕ) × Takes (g.S.Source.left l.fn.source) (g.S.Source.left l.source) input × HasRead input l.collected

@@ -1,7 +1,7 @@
 use Rattle.std.proofs.Common.{◌≡◌, arith, inr}
 use Rattle.script_text.specs.declared.report.ReportFault.TheVariants as unwritten_by
 use Rattle.session_text.proofs.WrittenLaws.{err_holds, err_write, on_err_as, on_ok_as}
-use Rattle.session_actions_run.proofs.ScriptLaws.{first_front, first_part, first_some, first_written}
+use Rattle.session_actions_run.proofs.ScriptLaws.{first_prefix, first_part, first_some, first_written}
 use Rattle.session_actions_run.proofs.session.write_first.Goals as goal
 
 pub returns-in-Ok-clause-ok : goal.returns-in-Ok-clause-ok
@@ -13,13 +13,13 @@ returns-in-Ok-clause-ok g c =
 pub returns-in-Ok-clause-err : goal.returns-in-Ok-clause-err
 returns-in-Ok-clause-err g c =
     on_err_as c.write_text.result
-    (λ second. inr (first_front c.args.target.now c.args.value.now c.args.events.items _ _ _ _ c.requires.long c.truncate.ensures.items c.in-Ok.ensures.ok second))
+    (λ second. inr (first_prefix c.args.target.now c.args.value.now c.args.events.items _ _ _ _ c.requires.long c.truncate.ensures.items c.in-Ok.ensures.ok second))
     c.write_text.ensures.err
 
 pub returns-in-Ok-clause-write : goal.returns-in-Ok-clause-write
 returns-in-Ok-clause-write g c = λ failed. (
   omega (arith, c.write_text.ensures.write failed, c.write_session.ensures.count),
-  first_front c.args.target.now c.args.value.now c.args.events.items _ _ _ _ c.requires.long c.truncate.ensures.items c.in-Ok.ensures.ok
+  first_prefix c.args.target.now c.args.value.now c.args.events.items _ _ _ _ c.requires.long c.truncate.ensures.items c.in-Ok.ensures.ok
       (err_holds c.write_text.result unwritten_by.Write failed c.write_text.ensures.err),
 )
 

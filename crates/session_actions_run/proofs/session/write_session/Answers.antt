@@ -16,4 +16,4 @@ returns-clause-err g c =
     let text : List ℕ = report_of c.args.target.now c.in_ok-report.report.journal c.in_ok-report.report.ledger in
     let is : IsReport c.args.target.now c.args.value.now c.args.events.items text =
     record { journal = c.in_ok-report.report.journal; ledger = c.in_ok-report.report.ledger; session = c.in_ok-report.ensures; text_is = refl } in
-    on_err_as c.write_report.result (λ front. inr (text, is, front)) c.write_report.ensures.err
+    on_err_as c.write_report.result (λ prefix. inr (text, is, prefix)) c.write_report.ensures.err

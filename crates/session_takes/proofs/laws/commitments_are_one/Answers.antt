@@ -1,4 +1,4 @@
-use Rattle.session_takes.proofs.HandedAlong.{commits_are_one}
+use Rattle.session_takes.proofs.CommitmentPassesAlong.{commits_are_one}
 use Rattle.session_takes.proofs.laws.commitments_are_one.Goals as goal
 
 pub returns : goal.returns

@@ -1,6 +1,6 @@
 use Rattle.std.proofs.Common.{length}
 use Rattle.slow_calls.proofs.writing.+first_waiting_in.Given as goal
 
--- one less behind the first
+-- one less after the first
 abbrev pub decreases-first_waiting_in : goal.decreases-first_waiting_in
 decreases-first_waiting_in l = length l.attempts.now

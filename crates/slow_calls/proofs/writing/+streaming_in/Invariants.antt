@@ -1,6 +1,6 @@
 use Rattle.std.proofs.Common.{length}
 use Rattle.slow_calls.proofs.writing.+streaming_in.Given as goal
 
--- one less behind the first
+-- one less after the first
 abbrev pub decreases-streaming_in : goal.decreases-streaming_in
 decreases-streaming_in l = length l.attempts.now

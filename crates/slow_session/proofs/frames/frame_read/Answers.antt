@@ -1,4 +1,4 @@
--- The link was found, and what the frame makes the client queue was told of it.
+-- The link was found, and what the frame makes the client queue was reported of it.
 use Rattle.std.proofs.Common.{◌≡◌, ◌∙◌, OnOk, Some, subst, sym}
 use Rattle.std.specs.Prelude.{List, option_map}
 use Rattle.h2_frame.specs.Frames.{FrameSeen}

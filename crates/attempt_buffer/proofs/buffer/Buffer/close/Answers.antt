@@ -3,7 +3,7 @@ use Rattle.std.specs.List.{filter}
 use Rattle.std.specs.Option.{option_map}
 use Rattle.attempt_buffer.specs.Buffers.{Buffered, closed, is_committed_row}
 use Rattle.attempt_buffer.specs.Buffers.{Cursor as Seen}
-use Rattle.attempt_buffer.specs.Cursors.{AreAt, seen_committed, seen_cursor, seen_state}
+use Rattle.attempt_buffer.specs.Cursors.{CursorsAreAt, seen_committed, seen_cursor, seen_state}
 use Rattle.attempt_buffer.specs.declared.cursors.Cursor.{Cursor}
 use Rattle.attempt_buffer.proofs.BufferLaws.{alone_kept, closed_at, closed_else, closed_seen}
 use Rattle.attempt_buffer.proofs.buffer.Buffer.close.Goals as goal
@@ -11,7 +11,7 @@ use Rattle.attempt_buffer.proofs.buffer.Buffer.close.Goals as goal
 pub invariant_of-self-else-is_committed_row : goal.invariant_of-self-else-is_committed_row
 invariant_of-self-else-is_committed_row c =
     let s = c.self.inside.state in
-    let P : List Cursor → Type 0 = λ l. AreAt s.messages l in
+    let P : List Cursor → Type 0 = λ l. CursorsAreAt s.messages l in
     let Q : List Cursor → Type 0 = λ l. IfSome s.committed (λ x. x.is_open ≡ true → l ≡ []) in
     record {
       sized = c.self.invariant.sized;

@@ -1,6 +1,6 @@
 use Rattle.std.proofs.Common.{◌≡◌, ◌∷◌, ◌++◌, [], true, not, List, subst, sym}
 use Rattle.attempt_buffer.specs.Buffers.{Buffered, can_open, is_open}
-use Rattle.attempt_buffer.specs.Cursors.{AreAt, seen_state}
+use Rattle.attempt_buffer.specs.Cursors.{CursorsAreAt, seen_state}
 use Rattle.attempt_buffer.specs.declared.cursors.Cursor.{Cursor}
 use Rattle.attempt_buffer.proofs.BufferLaws.{alone_opened, begun_at}
 use Rattle.attempt_buffer.proofs.SpotLaws.{at_start}
@@ -13,7 +13,7 @@ invariant_of-self-2 c =
     let Q : Buffered → Type 0 = λ b. can_open c.args.row b ≡ true in
     let begun : Cursor = record { row = c.args.row; spot = record { message = 0; offset = 0; taken = 0 } } in
     let more : c.push.new.self.items ≡ c.self.inside.state.cursors.items ++ begun ∷ [] = c.in_ok-push.ensures.items in
-    let P : List Cursor → Type 0 = λ l. AreAt ms l in
+    let P : List Cursor → Type 0 = λ l. CursorsAreAt ms l in
     record {
       sized = c.self.invariant.sized;
       spots = subst P (sym more) (begun_at ms c.self.inside.state.cursors.items begun c.self.invariant.spots (at_start ms c.self.invariant.sized));

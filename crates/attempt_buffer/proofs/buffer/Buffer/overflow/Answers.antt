@@ -3,7 +3,7 @@ use Rattle.std.specs.List.{concat}
 use Rattle.std.specs.Option.{option_map}
 use Rattle.attempt_buffer.specs.Buffers.{Buffered}
 use Rattle.attempt_buffer.specs.Cursors.{seen_committed}
-use Rattle.attempt_buffer.specs.Spots.{AreSized}
+use Rattle.attempt_buffer.specs.Spots.{MessagesAreSized}
 use Rattle.attempt_buffer.proofs.BufferLaws.{uncommitted_most}
 use Rattle.attempt_buffer.proofs.SpotLaws.{bytes_more, sized_more}
 use Rattle.attempt_buffer.proofs.buffer.Buffer.overflow.Goals as goal
@@ -12,7 +12,7 @@ pub commit_at-requires-clause-sized : goal.commit_at-requires-clause-sized
 commit_at-requires-clause-sized c =
     let ms = c.self.inside.state.messages in
     let more : c.push.new.self ≡ ms ++ c.args.framed ∷ [] = c.in_ok-push.ensures.ok in
-    subst AreSized (sym more) (sized_more ms c.args.framed c.self.invariant.sized c.requires.filled c.requires.limit)
+    subst MessagesAreSized (sym more) (sized_more ms c.args.framed c.self.invariant.sized c.requires.filled c.requires.limit)
 
 pub commit_at-requires-clause-fits : goal.commit_at-requires-clause-fits
 commit_at-requires-clause-fits c =

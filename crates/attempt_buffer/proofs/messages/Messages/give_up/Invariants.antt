@@ -1,11 +1,11 @@
 use Rattle.std.proofs.Common.{◌≡◌, length, drop}
 use Rattle.std.specs.List.{concat}
-use Rattle.attempt_buffer.specs.Spots.{AreSized}
+use Rattle.attempt_buffer.specs.Spots.{MessagesAreSized}
 use Rattle.attempt_buffer.proofs.messages.Messages.give_up.Given as goal
 
 abbrev pub invariant-loop-message : goal.invariant-loop-message
 invariant-loop-message l = record {
   rest : l.self-inside.list.items ≡ drop l._message l.fn.self;
   bytes : l.self-inside.bytes ≡ length (concat l.self-inside.list.items);
-  sized : AreSized l.self-inside.list.items;
+  sized : MessagesAreSized l.self-inside.list.items;
 }

@@ -1,5 +1,5 @@
 use Rattle.std.proofs.Common.{arith}
-use Rattle.h2_link.proofs.Fronts.{partial_size}
+use Rattle.h2_link.proofs.Prefixes.{partial_size}
 use Rattle.h2_link.proofs.link.Link.kept.Goals as goal
 
 pub returns-clause-within : goal.returns-clause-within

@@ -1,8 +1,8 @@
-use Rattle.relay_calls.proofs.TellLaws.{tells_cancelled}
+use Rattle.relay_calls.proofs.ReportLaws.{reports_cancelled}
 use Rattle.relay_calls.proofs.calls.RelayCalls.cancel.Goals as goal
 
 pub returns-clause-posted : goal.returns-clause-posted
 returns-clause-posted g c = (c.post-came.result, record { made = c.post-came.ensures.made; errors = c.post-came.ensures.errors }, c.note_cancelled.ensures)
 
-pub returns-clause-tells : goal.returns-clause-tells
-returns-clause-tells g c = tells_cancelled c.args.call c.args.stream _ _ c.args.self.now c.note_cancelled.new.self c.post-came.result c.note_cancelled.result (record { made = c.post-came.ensures.made; errors = c.post-came.ensures.errors }) (c.note_cancelled.ensures)
+pub returns-clause-reports_that : goal.returns-clause-reports_that
+returns-clause-reports_that g c = reports_cancelled c.args.call c.args.stream _ _ c.args.self.now c.note_cancelled.new.self c.post-came.result c.note_cancelled.result (record { made = c.post-came.ensures.made; errors = c.post-came.ensures.errors }) (c.note_cancelled.ensures)

@@ -1,13 +1,13 @@
 use Rattle.std.proofs.Common.{◌≡◌, ◌++◌, ◌∙◌, ◌+◌, List, ℕ, refl, subst, sym, true}
 use Rattle.script_lines.specs.Lines.{IsRawLine}
-use Rattle.script_input.proofs.FeedLaws.{decided_raw, decided_refused, fed_line, told_for}
+use Rattle.script_input.proofs.FeedLaws.{decided_raw, decided_refused, fed_line, reported_for}
 use Rattle.script_input.proofs.feed.Feed.take_line.Goals as goal
 
 pub returns-in-Err-clause-bad : goal.returns-in-Err-clause-bad
 returns-in-Err-clause-bad g c =
     let joined : c.as_slice.result.now ≡ c.args.self.now.line.items ++ c.args.text.now = c.as_slice.ensures.value ∙ c.in_ok-extend_from_slice.ensures.items in
     decided_raw g.T.Lines.has_taken g.T.Lines.refuses c.args.self.now c.args.lines.now c.args.text.now c.as_slice.result.now c.fault_at.result c.requires joined
-    (told_for c.args.self.now.count _ c.as_slice.result.now true c.in-Err.fault c.fault_at.result refl c.in-Err.ensures.bad c.fault_at.ensures.bad c.fault_at.ensures.no_memory)
+    (reported_for c.args.self.now.count _ c.as_slice.result.now true c.in-Err.fault c.fault_at.result refl c.in-Err.ensures.bad c.fault_at.ensures.bad c.fault_at.ensures.no_memory)
 
 pub returns-in-Err-take-clause-bad : goal.returns-in-Err-take-clause-bad
 returns-in-Err-take-clause-bad g c =

@@ -14,7 +14,7 @@ returns g c =
     record {
       read = record {
         core = looks.core;
-        told = search rules;
+        reported = search rules;
         sees = looks.sees;
         seen = looks.seen;
         own = looks.own;

@@ -1,5 +1,0 @@
-use Rattle.channel_actions.proofs.Links.Greeted.Along.{links_are_joined}
-use Rattle.channel_actions.proofs.greeted_links.links_are_joined.Goals as goal
-
-pub returns : goal.returns
-returns c = links_are_joined

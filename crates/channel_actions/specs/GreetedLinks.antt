@@ -1,3 +1,0 @@
-pub mod Greeted
-pub mod Joined
-pub mod Laws

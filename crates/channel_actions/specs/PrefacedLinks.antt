@@ -1,0 +1,3 @@
+pub mod Prefaced
+pub mod Joined
+pub mod Laws

@@ -1,6 +1,0 @@
-// Plain requests that a link is lent, for tests and measurements of links.
-#![tactic(auto)]
-
-mod desk;
-
-pub use desk::Desk;
