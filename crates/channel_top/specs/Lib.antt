@@ -2,7 +2,6 @@ pub mod Complete
 pub mod ConfigMode
 pub mod Ending
 pub mod Inputs
-pub mod Links
 pub mod Live
 pub mod Load
 pub mod Migrate

@@ -5,16 +5,15 @@ ghost use Rattle.grpc_base.specs.Scripts.{IsServerScript};
 ghost use Rattle.channel_top.specs.Serve.{EndsNotListening, IsServeText, IsServed, StopsInServer, ReportsBadAnswer, served_text};
 ghost use Rattle.session_text.specs.Writing.{WritesAll, WritesPrefix, WritesSome};
 
-use crate::links::{Place, Served, serve_at};
+use crate::links::{Place, serve_at};
 use crate::reporting::report_served;
 use gate_io::{Listener, Sink, Source};
 use grpc_base::ServerScript;
-use loop_server::ServerCore;
+use link_server::{ScriptSeat, Served};
 use script_input::{InputFault, read_server};
 use session_text::{report_bad, unwritten};
 use std::alloc::Global;
-use std::sync::{Mutex, Wait};
-use std::thread::Threads;
+use std::sync::Wait;
 
 /// Reads a server script, serves so many links of the listener by it until each has ended, says so, and gives the status of
 /// the program. It may never return.
@@ -27,7 +26,7 @@ use std::thread::Threads;
 /// | 5 | a write failed | a prefix of the output |
 /// | 6 | out of memory, also for one link | nothing, or a prefix of the output |
 /// | 8 | the listener did not open, or did not accept a link | nothing |
-pub fn run_serve<R: Threads + Wait + Sync, S: Source, K: Sink, L: Listener>(
+pub fn run_serve<R: Wait, S: Source, K: Sink, L: Listener>(
     rt: &R,
     alloc: Global,
     place: Place,
@@ -56,7 +55,7 @@ pub fn run_serve<R: Threads + Wait + Sync, S: Source, K: Sink, L: Listener>(
 }
 
 /// Serves by a script that was read.
-fn serve_script<R: Threads + Wait + Sync, K: Sink, L: Listener>(
+fn serve_script<R: Wait, K: Sink, L: Listener>(
     rt: &R,
     alloc: Global,
     place: Place,
@@ -72,10 +71,10 @@ fn serve_script<R: Threads + Wait + Sync, K: Sink, L: Listener>(
     ensures listened { result ≢ 6 → result ≢ 8 → L.faults listener.new ≡ L.faults listener.old }
     ensures known { (result ≡ 0) ⊎ (result ≡ 5) ⊎ (result ≡ 6) ⊎ (result ≡ 8) }
 {
-    let Ok(core) = ServerCore::new(alloc, script) else {
+    let Ok(mut seat) = ScriptSeat::new(alloc, script) else {
         return 6;
     };
-    match serve_at(rt, &Mutex::new(core), place, listener) {
+    match serve_at(rt, alloc, &mut seat, place, listener) {
         Served::Whole => report_whole(alloc, place.links, report),
         Served::NotListening => 8,
         Served::NoMemory => 6,

@@ -1,7 +1,9 @@
 -- What reads of a link and dials do to the bytes that are left, and when their counts rise.
-use Rattle.std.specs.Prelude.{◌≡◌, ◌≤◌, ◌<◌, ℕ, Option, Some, None, List, ◌∷◌, take}
+use Rattle.std.specs.Prelude.{◌≡◌, ◌≤◌, ◌<◌, ℕ, Bool, true, Option, Some, None, List, ◌∷◌, take}
 use Rattle.gate_io.specs.declared.link.Dialed.{Dialed}
 use Rattle.gate_io.specs.declared.link.Dialed.TheVariants as dialed
+use Rattle.gate_io.specs.declared.link.Happened.{Happened}
+use Rattle.gate_io.specs.declared.link.Happened.TheVariants as happened
 use Rattle.gate_io.specs.declared.link.LinkRead.{LinkRead}
 use Rattle.gate_io.specs.declared.link.LinkRead.TheVariants as link
 use Rattle.gate_io.specs.Outside.{IsAtEnd, Takes, one_more}
@@ -42,3 +44,11 @@ AcceptCounts faults faults_after dialed.Failed = faults_after ≡ one_more fault
 -- what a dialer says of the links to come that reports nothing of them
 abbrev pub untold : {D : Type 0} → D → Option (List (List ℕ))
 untold dialer = None
+
+-- of what happens at a listener only an accept fails, which raises the count of faults by one, and nothing else changes it
+abbrev pub HappensSo : {I O : Type 0} → Bool → ℕ → ℕ → Happened I O → Type 0
+HappensSo accepts faults faults_after happened.Failed = (accepts ≡ true) × (faults_after ≡ one_more faults)
+HappensSo accepts faults faults_after (happened.Came input output) = faults_after ≡ faults
+HappensSo accepts faults faults_after (happened.At number) = faults_after ≡ faults
+HappensSo accepts faults faults_after happened.Anywhere = faults_after ≡ faults
+HappensSo accepts faults faults_after happened.Nothing = faults_after ≡ faults

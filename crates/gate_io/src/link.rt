@@ -1,7 +1,7 @@
 // Links, and what opens them: what they answer, and what a caller may rest on.
 ghost use Rattle.std.specs.Prelude.{◌≡◌, ◌<◌, List, ℕ, Bool, true, false, Option, length};
 ghost use Rattle.gate_io.specs.Outside.{CountsWrite, Writes, one_more};
-ghost use Rattle.gate_io.specs.Links.{AcceptCounts, CountsFaults, CountsQuiet, DialGives, LinkReads};
+ghost use Rattle.gate_io.specs.Links.{AcceptCounts, CountsFaults, CountsQuiet, DialGives, HappensSo, LinkReads};
 
 use crate::{Pause, WriteAnswer};
 use grpc_base::Address;
@@ -24,6 +24,21 @@ pub enum LinkRead {
 pub enum Dialed<I, O> {
     /// A link is open: what comes and what goes.
     Open(I, O),
+    Failed,
+}
+
+/// What happened at a listener whose links are waited for together.
+#[derive(Debug, Drop)]
+pub enum Happened<I, O> {
+    /// A link was accepted: what comes and what goes.
+    Came(I, O),
+    /// Something may have changed at the link that was accepted as this one, from 1.
+    At(u32),
+    /// Something may have changed at each link.
+    Anywhere,
+    /// Nothing so far.
+    Nothing,
+    /// The next link can't be accepted.
     Failed,
 }
 
@@ -119,4 +134,31 @@ pub trait Listener: Send + Drop {
     /// The next link, as soon as there is one.
     fn accept(&mut self) -> Dialed<Self::In, Self::Out>
         ensures { AcceptCounts (faults self.old) (faults self.new) result };
+
+    /// Listens at a port for links that are waited for together, whose reads and writes do not wait, and says whether that is so.
+    fn open_together(&mut self, port: u16) -> bool
+        ensures open { result ≡ true → faults self.new ≡ faults self.old }
+        ensures failed { result ≡ false → faults self.new ≡ one_more (faults self.old) }
+    {
+        self.open(port)
+    }
+
+    /// What happened next at a listener that is open for such links. It accepts a link only where `accepts` is true. Where nothing happened
+    /// so far and `waits` is true, it waits until something does, or until some seconds are over: then something may have changed at each
+    /// link.
+    ///
+    /// A link at which a read was quiet is named once there is something to be read, or once its peer takes bytes that were held. A link
+    /// whose last read was not quiet need not be named. A listener that can't wait for its links accepts one where it may, and else says
+    /// that each may be read.
+    fn next(&mut self, accepts: bool, _waits: bool) -> Happened<Self::In, Self::Out>
+        ensures { HappensSo accepts (faults self.old) (faults self.new) result }
+    {
+        if !accepts {
+            return Happened::Anywhere;
+        }
+        match self.accept() {
+            Dialed::Open(input, output) => Happened::Came(input, output),
+            Dialed::Failed => Happened::Failed,
+        }
+    }
 }

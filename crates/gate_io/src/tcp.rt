@@ -42,10 +42,23 @@ pub(crate) fn link_over(
     sleeper: Option<Arc<Sleeper>>,
 ) -> io::Result<(TcpIn, TcpOut)> {
     let wire = Wire::new(alloc, stream, waits, answer, sleeper)?;
+    ends_of(alloc, wire, Pause::Long)
+}
+
+/// Both ends of a connection that was accepted and does not wait, since it is waited for with others. Its reads are quiet as long as its
+/// peer did not take what is held.
+pub(crate) fn polled_link_over(alloc: Global, stream: TcpStream) -> io::Result<(TcpIn, TcpOut)> {
+    let mut wire = Wire::new(alloc, stream, false, FirstAnswer::new(None), None)?;
+    wire.read_last();
+    ends_of(alloc, wire, Pause::None)
+}
+
+/// Both ends of a connection, whose reads wait so long.
+fn ends_of(alloc: Global, wire: Wire, pause: Pause) -> io::Result<(TcpIn, TcpOut)> {
     let wire = Arc::new(alloc, Mutex::new(wire))?;
     let input = TcpIn {
         wire: wire.clone()?,
-        pause: Pause::Long,
+        pause,
         faults: 0,
         quiet: 0,
     };

@@ -1,18 +1,17 @@
-// A dialer and a listener over TCP.
-ghost use Rattle.std.specs.Prelude.{◌≡◌, None, Some, true, false};
+// A dialer over TCP.
+ghost use Rattle.std.specs.Prelude.{◌≡◌, None, Some};
 
 use crate::first_answer::FirstAnswer;
 use crate::lately::{Lately, Turn};
 use crate::sleepers::Sleeper;
-use crate::standard::TRIES;
 use crate::std_clock::nanos_now;
 use crate::tcp::link_over;
 use crate::waiting::Waiting;
-use crate::{Dialed, Dialer, Listener, Pause, TcpIn, TcpOut};
+use crate::{Dialed, Dialer, Pause, TcpIn, TcpOut};
 use grpc_base::Address;
 use std::alloc::Global;
 use std::io::ErrorKind;
-use std::net::{Ipv4Addr, Net, SocketAddr, SocketAddrV4, TcpListener, TcpStream};
+use std::net::{Ipv4Addr, Net, SocketAddr, SocketAddrV4, TcpStream};
 use std::sync::{Arc, Mutex};
 use std::{io, time};
 
@@ -124,84 +123,5 @@ fn longest(pause: Pause) -> u64 {
         Pause::Brief => 1_000_000,
         Pause::Short => 5_000_000,
         Pause::Long => 50_000_000,
-    }
-}
-
-/// Listens over TCP on the loopback address.
-#[derive(Drop)]
-pub struct TcpListen<R> {
-    rt: R,
-    alloc: Global,
-    listener: Option<TcpListener>,
-    faults: u64,
-}
-
-impl<R: Net<Stream = TcpStream, Listener = TcpListener>> TcpListen<R> {
-    /// A listener of this runtime that is not open yet.
-    pub fn new(rt: R, alloc: Global) -> TcpListen<R> {
-        TcpListen {
-            rt,
-            alloc,
-            listener: None,
-            faults: 0,
-        }
-    }
-
-    /// The port at which it listens, where it is open.
-    pub fn port(&self) -> Option<u16> {
-        let listener = self.listener.as_ref()?;
-        let addr = listener.local_addr().ok()?;
-        Some(addr.port())
-    }
-
-    /// The next connection. One that its peer gave up before it was accepted is passed over.
-    fn next_link(&self) -> io::Result<(TcpIn, TcpOut)> {
-        let Some(listener) = &self.listener else {
-            return Err(io::Error::from(ErrorKind::NotConnected));
-        };
-        for _ in 0..TRIES {
-            match listener.accept() {
-                Ok((stream, _)) => {
-                    return link_over(self.alloc, stream, true, FirstAnswer::new(None), None);
-                }
-                Err(error) => match error.kind() {
-                    ErrorKind::ConnectionAborted | ErrorKind::Interrupted => {}
-                    _ => return Err(error),
-                },
-            }
-        }
-        Err(io::Error::from(ErrorKind::ConnectionAborted))
-    }
-}
-
-impl<R: Net<Stream = TcpStream, Listener = TcpListener> + Send + Drop> Listener for TcpListen<R> {
-    type In = TcpIn;
-
-    type Out = TcpOut;
-
-    ghost faults = { λ l. l.faults };
-
-    fn open(&mut self, port: u16) -> bool {
-        let addr = SocketAddr::V4(SocketAddrV4::new(Ipv4Addr::LOCALHOST, port));
-        match TcpListener::bind(&self.rt, addr) {
-            Ok(listener) => {
-                self.listener = Some(listener);
-                true
-            }
-            Err(_) => {
-                self.faults = self.faults.saturating_add(1);
-                false
-            }
-        }
-    }
-
-    fn accept(&mut self) -> Dialed<TcpIn, TcpOut> {
-        match self.next_link() {
-            Ok((input, output)) => Dialed::Open(input, output),
-            Err(_) => {
-                self.faults = self.faults.saturating_add(1);
-                Dialed::Failed
-            }
-        }
     }
 }

@@ -53,6 +53,9 @@ pub(crate) struct Wire {
     held: Vec<u8>,
     sent: usize,
     broken: bool,
+    /// Whether nothing is read as long as something is held: so a peer that reads nothing makes its server hold no more than one read of
+    /// it asks for, and the end of what it sends is seen after all that it was sent.
+    reads_last: bool,
     /// Whether an answer came, for the dialer.
     answer: FirstAnswer,
     /// Who waits for its dialer's links, until it is closed.
@@ -78,6 +81,7 @@ impl Wire {
             held: Vec::new(alloc),
             sent: 0,
             broken: false,
+            reads_last: false,
             answer,
             sleeper,
         })
@@ -91,11 +95,24 @@ impl Wire {
         }
     }
 
+    /// From now on nothing is read as long as something is held.
+    pub(crate) fn read_last(&mut self) {
+        self.reads_last = true;
+    }
+
+    /// Whether something is to be sent before the next read.
+    fn comes_after(&self) -> bool {
+        self.reads_last && !self.broken && self.sent < self.held.len()
+    }
+
     /// One read, which waits unless the pause is none. What is held goes out before it.
     pub(crate) fn receive(&mut self, pause: Pause, buf: &mut [u8]) -> Received
         ensures { (n : ℕ) → result ≡ received.Count n → n ≤ length buf.new }
     {
         self.send_held();
+        if self.comes_after() {
+            return Received::Quiet;
+        }
         let got = self.receive_within(pause, buf);
         if let Received::Count(count) = got {
             self.answer.receive(&buf[..count]);

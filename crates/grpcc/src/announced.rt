@@ -1,5 +1,5 @@
 // A listener that says on standard error that it listens.
-use gate_io::{Dialed, Listener, TcpIn, TcpListen, TcpOut};
+use gate_io::{Dialed, Happened, Listener, TcpIn, TcpListen, TcpOut};
 use std::alloc::Global;
 use std::net::{Net, TcpListener, TcpStream};
 
@@ -20,6 +20,16 @@ impl<R: Net<Stream = TcpStream, Listener = TcpListener> + Copy> Announced<R> {
     }
 }
 
+impl<R: Net<Stream = TcpStream, Listener = TcpListener> + Eprint> Announced<R> {
+    /// Says at which port it listens, if it does.
+    fn announce(&self) {
+        if let Some(port) = self.listener.port() {
+            // Where standard error takes nothing, the listener listens all the same.
+            let _ = eprintln!(self.rt; "listening {port}");
+        }
+    }
+}
+
 impl<R: Net<Stream = TcpStream, Listener = TcpListener> + Eprint + Send + Drop> Listener
     for Announced<R> {
     type In = TcpIn;
@@ -30,14 +40,21 @@ impl<R: Net<Stream = TcpStream, Listener = TcpListener> + Eprint + Send + Drop> 
 
     fn open(&mut self, port: u16) -> bool {
         let is_open = self.listener.open(port);
-        if let Some(port) = self.listener.port() {
-            // Where standard error takes nothing, the listener listens all the same.
-            let _ = eprintln!(self.rt; "listening {port}");
-        }
+        self.announce();
         is_open
     }
 
     fn accept(&mut self) -> Dialed<TcpIn, TcpOut> {
         self.listener.accept()
+    }
+
+    fn open_prefix(&mut self, port: u16) -> bool {
+        let is_open = self.listener.open_prefix(port);
+        self.announce();
+        is_open
+    }
+
+    fn next(&mut self, accepts: bool, waits: bool) -> Happened<TcpIn, TcpOut> {
+        self.listener.next(accepts, waits)
     }
 }

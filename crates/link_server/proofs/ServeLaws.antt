@@ -1,13 +1,16 @@
 -- Serving that goes on: what two turns move is what one turn after another moves.
-use Rattle.std.proofs.Common.{◌≡◌, ◌≢◌, ◌≤◌, ◌∙◌, ℕ, zero, suc, ◌+◌, Option, Some, None, List, [], ◌∷◌, ◌++◌, ap, append_assoc, append-nil, arith, length, length-append, refl, subst, sym, take}
+use Rattle.std.proofs.Common.{◌≡◌, ◌∙◌, ℕ, zero, suc, ◌+◌, Option, Some, None, List, [], ◌∷◌, ◌++◌, ap, append_assoc, append-nil, arith, length, length-append, refl, subst, inl, inr, sym, take}
+use Rattle.std.specs.Prelude.{◌⊎◌}
 use Rattle.std.specs.List.{concat}
 use Rattle.grpc_base.specs.Counts.{one_more}
 use Rattle.gate_io.specs.Outside.{Appends, AppendsPrefix, IsAtEnd, Takes}
 use Rattle.gate_io.proofs.AppendLaws.{Appends-append}
 use Rattle.link_server.specs.declared.done.LinkDone.{LinkDone}
 use Rattle.link_server.specs.declared.done.LinkDone.TheVariants as done
+use Rattle.link_server.specs.declared.done.Turned.{Turned}
+use Rattle.link_server.specs.declared.done.Turned.TheVariants as turned
 use Rattle.link_server.specs.Serving.{AddsAll, Gains, IsSame, Report}
-use Rattle.link_server.specs.Serves.{CountsSeen, GoesIn, GoesOut, HasCause, IsRefusal, IsSent, IsWritten}
+use Rattle.link_server.specs.Serves.{CountsSeen, GoesIn, GoesOut, HasCause, IsRefusal, IsSent, IsWritten, over_of}
 
 concat_append : (xs ys : List (List ℕ)) → concat (xs ++ ys) ≡ concat xs ++ concat ys
 concat_append [] ys = refl
@@ -197,3 +200,11 @@ out_nothing link a taken = out_none link a a taken taken None (λ other. refl) r
 
 pub in_nothing : (link : ℕ) (a : Report) (left : Option (List ℕ)) → GoesIn link a a left left
 in_nothing link a left = in_none link a a left left (λ other. refl) refl
+
+-- a turn in which the link did not end
+pub goes_on : (t : Turned) → (t ≡ turned.More) ⊎ (t ≡ turned.Quiet) → over_of t ≡ None
+goes_on t h =
+    elim h [
+      | inl e ↦ ap over_of e
+      | inr e ↦ ap over_of e
+    ]

@@ -1,2 +1,4 @@
+pub mod Receiving
+pub mod Holds
 pub mod Serves
 pub mod Serving

@@ -1,11 +1,19 @@
 -- What the serving of a link moved, and why it ended.
-use Rattle.std.specs.Prelude.{◌≡◌, ◌≢◌, ℕ, Option, Some, None, List}
+use Rattle.std.specs.Prelude.{◌≡◌, ℕ, Option, Some, None, List}
 use Rattle.std.specs.List.{concat}
 use Rattle.grpc_base.specs.Counts.{one_more}
 use Rattle.gate_io.specs.Outside.{Appends, AppendsPrefix, IsAtEnd, Takes}
 use Rattle.link_server.specs.declared.done.LinkDone.{LinkDone}
 use Rattle.link_server.specs.declared.done.LinkDone.TheVariants as done
+use Rattle.link_server.specs.declared.done.Turned.{Turned}
+use Rattle.link_server.specs.declared.done.Turned.TheVariants as turned
 use Rattle.link_server.specs.Serving.{Gains, Report}
+
+-- how the link ended in a turn, if it did
+abbrev pub over_of : Turned → Option LinkDone
+over_of turned.Quiet = None
+over_of turned.More = None
+over_of (turned.Over end) = Some end
 
 -- what was read of the link went to the server, piece by piece and in order
 pub record GoesIn (link : ℕ) (reported reported' : Report) (left left' : Option (List ℕ)) : Type 0 where

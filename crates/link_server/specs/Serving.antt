@@ -1,5 +1,5 @@
 -- What a server reports of its links: the pieces that it was given, what it gave, and how often it refused a piece.
-use Rattle.std.specs.Prelude.{◌≡◌, ◌≢◌, ℕ, Option, Some, None, Result, Ok, Err, List, [], ◌∷◌, ◌++◌}
+use Rattle.std.specs.Prelude.{◌≡◌, ◌≢◌, ℕ, Option, Some, None, Result, Ok, Err, List, ◌++◌}
 use Rattle.grpc_base.specs.Counts.{one_more}
 use Rattle.loop_server.specs.declared.fault.ServerFault.{ServerFault}
 use Rattle.loop_server.specs.declared.fault.ServerFault.TheVariants as fault

@@ -14,3 +14,14 @@ pub enum LinkDone {
     /// Out of memory.
     NoMemory,
 }
+
+/// What a turn of a link came to.
+#[derive(Clone, Copy, Debug, PartialEq, Eq)]
+pub enum Turned {
+    /// All that the server had for the link was written, and nothing more has come so far.
+    Quiet,
+    /// More may have come, or is to be written.
+    More,
+    /// The link has ended.
+    Over(LinkDone),
+}

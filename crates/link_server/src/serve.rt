@@ -1,18 +1,21 @@
-// The rounds in which a link is served.
-ghost use Rattle.std.specs.Prelude.{◌≡◌, ◌<◌, ◌∷◌, [], List, Option, Some, false, length, true, ℕ};
+// The turns in which a link is served.
+ghost use Rattle.std.specs.Prelude.{◌≡◌, ◌<◌, ◌∷◌, [], List, Option, Some, IfSome, false, length, true, ℕ};
 ghost use Rattle.grpc_base.specs.Counts.{one_more};
 ghost use Rattle.gate_io.specs.Outside.{Appends, AppendsPrefix};
-ghost use Rattle.link_server.specs.Serves.{GoesIn, GoesOut, HasCause, IsRefusal, IsSent, IsWritten};
+ghost use Rattle.link_server.specs.Serves.{GoesIn, GoesOut, HasCause, IsRefusal, IsSent, IsWritten, over_of};
 ghost use Rattle.link_server.specs.Serving.{Gains, IsSame};
 ghost use Rattle.link_server.specs.declared.done.LinkDone.TheVariants as ended_by;
 
-use crate::{LinkDone, Serving};
+use crate::{LinkDone, Serving, Turned};
 use gate_io::{LinkIn, LinkOut, LinkRead, WriteAnswer};
 use loop_server::ServerFault;
 use std::sync::Wait;
 
 /// The most bytes that one read takes.
 const READ_BYTES: usize = 16_384;
+
+/// The most rounds of one turn, so that a link that sends without an end leaves the others theirs.
+const ROUNDS: usize = 16;
 
 /// Writes a piece whole, and says whether all of it was taken. It is not exactly where a write of this call
 /// failed: that write is the only one that failed, and what was taken before it is a prefix of the piece.
@@ -71,19 +74,29 @@ fn hand<V: Serving>(core: &mut V, link: u32, piece: &[u8]) -> Option<LinkDone>
     }
 }
 
+/// What a turn came to in which the server answered so.
+fn transferred(done: Option<LinkDone>) -> Turned
+    ensures { over_of result ≡ done }
+{
+    match done {
+        None => Turned::More,
+        Some(done) => Turned::Over(done),
+    }
+}
+
 /// Reads once, and hands what came to the server.
-fn take<V: Serving, I: LinkIn>(core: &mut V, link: u32, input: &mut I) -> Option<LinkDone>
+fn take<V: Serving, I: LinkIn>(core: &mut V, link: u32, input: &mut I) -> Turned
     ensures into { GoesIn link (V.given core.old) (V.given core.new) (I.left input.old) (I.left input.new) }
     ensures drained { IsSame (V.drained core.old) (V.drained core.new) }
-    ensures cause { (writes : ℕ) → HasCause result (record { breaks = V.breaks core.old; last_code = V.last_code core.old; read_faults = I.faults input.old; write_faults = writes }) (record { breaks = V.breaks core.new; last_code = V.last_code core.new; read_faults = I.faults input.new; write_faults = writes }) (I.left input.new) }
-    ensures written { result ≡ Some ended_by.WriteFailed → ⊥ }
+    ensures cause { (writes : ℕ) → HasCause (over_of result) (record { breaks = V.breaks core.old; last_code = V.last_code core.old; read_faults = I.faults input.old; write_faults = writes }) (record { breaks = V.breaks core.new; last_code = V.last_code core.new; read_faults = I.faults input.new; write_faults = writes }) (I.left input.new) }
+    ensures written { over_of result ≡ Some ended_by.WriteFailed → ⊥ }
 {
     let mut piece = [0u8; READ_BYTES];
     match input.read(&mut piece) {
-        LinkRead::Got(count) => hand(core, link, &piece[..count]),
-        LinkRead::Quiet => None,
-        LinkRead::End => Some(LinkDone::Ended),
-        LinkRead::Failed => Some(LinkDone::ReadFailed),
+        LinkRead::Got(count) => transferred(hand(core, link, &piece[..count])),
+        LinkRead::Quiet => Turned::Quiet,
+        LinkRead::End => Turned::Over(LinkDone::Ended),
+        LinkRead::Failed => Turned::Over(LinkDone::ReadFailed),
     }
 }
 
@@ -93,19 +106,71 @@ fn round<V: Serving, I: LinkIn, O: LinkOut>(
     link: u32,
     input: &mut I,
     output: &mut O,
-) -> Option<LinkDone>
+) -> Turned
     ensures into { GoesIn link (V.given core.old) (V.given core.new) (I.left input.old) (I.left input.new) }
-    ensures out { GoesOut link (V.drained core.old) (V.drained core.new) (O.taken output.old) (O.taken output.new) result }
-    ensures cause { HasCause result (record { breaks = V.breaks core.old; last_code = V.last_code core.old; read_faults = I.faults input.old; write_faults = O.faults output.old }) (record { breaks = V.breaks core.new; last_code = V.last_code core.new; read_faults = I.faults input.new; write_faults = O.faults output.new }) (I.left input.new) }
+    ensures out { GoesOut link (V.drained core.old) (V.drained core.new) (O.taken output.old) (O.taken output.new) (over_of result) }
+    ensures cause { HasCause (over_of result) (record { breaks = V.breaks core.old; last_code = V.last_code core.old; read_faults = I.faults input.old; write_faults = O.faults output.old }) (record { breaks = V.breaks core.new; last_code = V.last_code core.new; read_faults = I.faults input.new; write_faults = O.faults output.new }) (I.left input.new) }
 {
     match give(core, link, output) {
         None => take(core, link, input),
-        Some(done) => Some(done),
+        Some(done) => Turned::Over(done),
     }
 }
 
-/// The rounds alone.
-fn run_rounds<W: Wait, V: Serving, I: LinkIn, O: LinkOut>(
+/// The rounds of a turn.
+fn run_rounds<V: Serving, I: LinkIn, O: LinkOut>(
+    core: &mut V,
+    link: u32,
+    input: &mut I,
+    output: &mut O,
+) -> Turned
+    ensures into { GoesIn link (V.given core.old) (V.given core.new) (I.left input.old) (I.left input.new) }
+    ensures out { GoesOut link (V.drained core.old) (V.drained core.new) (O.taken output.old) (O.taken output.new) (over_of result) }
+    ensures cause { HasCause (over_of result) (record { breaks = V.breaks core.old; last_code = V.last_code core.old; read_faults = I.faults input.old; write_faults = O.faults output.old }) (record { breaks = V.breaks core.new; last_code = V.last_code core.new; read_faults = I.faults input.new; write_faults = O.faults output.new }) (I.left input.new) }
+{
+    for _ in 0..ROUNDS {
+        match round(core, link, input, output) {
+            Turned::More => {}
+            Turned::Quiet => return Turned::Quiet,
+            Turned::Over(done) => return Turned::Over(done),
+        }
+    }
+    Turned::More
+}
+
+/// A turn of one link: in at most sixteen rounds all that the server has for it is written, and what one read brings, at most 16,384
+/// bytes, goes to the server. The turn is over where a read is quiet. At the link's end its output is closed.
+///
+/// | Over with | Only where |
+/// |---|---|
+/// | Ended | a read gave the link's end |
+/// | ReadFailed | a read failed |
+/// | WriteFailed | a write failed; what was taken is a prefix of what the server gave |
+/// | Broken | the server answered that the link is broken, with this code |
+/// | NoMemory | the server found no memory |
+pub fn serve_turn<V: Serving, I: LinkIn, O: LinkOut>(
+    core: &mut V,
+    link: u32,
+    input: &mut I,
+    output: &mut O,
+) -> Turned
+    ensures into { GoesIn link (V.given core.old) (V.given core.new) (I.left input.old) (I.left input.new) }
+    ensures out { GoesOut link (V.drained core.old) (V.drained core.new) (O.taken output.old) (O.taken output.new) (over_of result) }
+    ensures cause { HasCause (over_of result) (record { breaks = V.breaks core.old; last_code = V.last_code core.old; read_faults = I.faults input.old; write_faults = O.faults output.old }) (record { breaks = V.breaks core.new; last_code = V.last_code core.new; read_faults = I.faults input.new; write_faults = O.faults output.new }) (I.left input.new) }
+    ensures closed { IfSome (over_of result) (λ _. O.closed output.new ≡ true) }
+{
+    match run_rounds(core, link, input, output) {
+        Turned::Over(done) => {
+            output.close();
+            Turned::Over(done)
+        }
+        Turned::Quiet => Turned::Quiet,
+        Turned::More => Turned::More,
+    }
+}
+
+/// The rounds of a link alone.
+fn run_link<W: Wait, V: Serving, I: LinkIn, O: LinkOut>(
     rt: &W,
     core: &mut V,
     link: u32,
@@ -118,8 +183,8 @@ fn run_rounds<W: Wait, V: Serving, I: LinkIn, O: LinkOut>(
 {
     for _ in rt.forever() {
         match round(core, link, input, output) {
-            None => {}
-            Some(done) => return done,
+            Turned::More | Turned::Quiet => {}
+            Turned::Over(done) => return done,
         }
     }
     unreachable!()
@@ -147,7 +212,7 @@ pub fn serve_link<W: Wait, V: Serving, I: LinkIn, O: LinkOut>(
     ensures cause { HasCause (Some result) (record { breaks = V.breaks core.old; last_code = V.last_code core.old; read_faults = I.faults input.old; write_faults = O.faults output.old }) (record { breaks = V.breaks core.new; last_code = V.last_code core.new; read_faults = I.faults input.new; write_faults = O.faults output.new }) (I.left input.new) }
     ensures closed { O.closed output.new ≡ true }
 {
-    let done = run_rounds(rt, core, link, input, output);
+    let done = run_link(rt, core, link, input, output);
     output.close();
     done
 }

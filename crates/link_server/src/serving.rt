@@ -33,4 +33,13 @@ pub trait Serving {
         ensures drained { IfOk result (λ octets. Gains (drained self.old) (drained self.new) link (octets ∷ [])) }
         ensures kept { OnErr result (IsSame (drained self.old) (drained self.new)) }
         ensures breaks { (breaks self.new ≡ breaks self.old) × (last_code self.new ≡ last_code self.old) };
+
+    /// Whether what was done since this was last asked may let the server give something on other links.
+    fn frees_others(&mut self) -> bool
+        ensures given { IsSame (given self.old) (given self.new) }
+        ensures drained { IsSame (drained self.old) (drained self.new) }
+        ensures breaks { (breaks self.new ≡ breaks self.old) × (last_code self.new ≡ last_code self.old) }
+    {
+        false
+    }
 }

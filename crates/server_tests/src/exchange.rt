@@ -2,6 +2,9 @@
 //
 // `answer ..` is a line of its script. `in LINK HEX` hands bytes in, `out LINK HEX` is all that may be sent then (`-`: nothing), and
 // `bad LINK CODE HEX` breaks the link with a code of HTTP/2.
+ghost use Rattle.std.specs.Prelude.{IfOk};
+ghost use Rattle.grpc_base.specs.Scripts.{IsServerScript};
+
 use grpc_base::{AnswerLine, Items, Octets, ServerScript};
 use loop_server::{ServerCore, ServerFault};
 use script_fields::message_of;
@@ -35,15 +38,22 @@ fn answers_of(alloc: Global, lines: &str) -> Result<Items<AnswerLine>, Fail> {
     Ok(answers)
 }
 
-/// A server with the script's lines among these.
-pub fn server_of(alloc: Global, lines: &str) -> Result<ServerCore, Fail> {
+/// The script of the script's lines among these.
+pub fn script_of(alloc: Global, lines: &str) -> Result<ServerScript, Fail>
+    ensures { IfOk result IsServerScript }
+{
     let script = ServerScript {
         answers: answers_of(alloc, lines)?,
     };
     if !script.is_valid() {
         return Err("a script".into());
     }
-    Ok(ServerCore::new(alloc, script)?)
+    Ok(script)
+}
+
+/// A server with the script's lines among these.
+pub fn server_of(alloc: Global, lines: &str) -> Result<ServerCore, Fail> {
+    Ok(ServerCore::new(alloc, script_of(alloc, lines)?)?)
 }
 
 /// Hands bytes in, in pieces of at most so many; the code that broke the link, or 0.

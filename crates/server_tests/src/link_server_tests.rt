@@ -1,7 +1,9 @@
 // One link of a scripted server, over memory: what goes out, and how it ends.
-use crate::exchange::{bytes_of, server_of};
-use gate_io::{MemLinkIn, MemLinkOut, MemSink, MemSource};
-use link_server::{LinkDone, SharedServer, serve_link};
+use crate::exchange::{bytes_of, script_of, server_of};
+use gate_io::{Listener, MemLink, MemLinkIn, MemLinkOut, MemListener, MemSink, MemSource};
+use link_server::{
+    LinkDone, ScriptSeat, Served, SharedServer, Turned, serve_prefix, serve_link, serve_turn,
+};
 use std::alloc::Global;
 use std::process::Abort;
 use std::sync::{Mutex, Wait};
@@ -126,4 +128,48 @@ fn a_link_that_breaks_or_fails_is_closed(rt: HostRuntime) -> Result<(), Fail> {
         ..nothing
     };
     expect(&rt, alloc, &unsent, cut, LinkDone::WriteFailed)
+}
+
+/// A link of an exchange, whole.
+fn link_of(alloc: Global, exchange: &Exchange) -> Result<MemLink, Fail> {
+    let comes = bytes_of(alloc, exchange.comes)?;
+    let bytes = Vec::from_slice(alloc, comes.as_slice())?;
+    let source = MemSource::new(bytes, 65_536, Vec::new(alloc));
+    let sink = MemSink::new(alloc, 65_536, Vec::new(alloc));
+    Ok(MemLink {
+        input: MemLinkIn::new(source, true),
+        output: MemLinkOut::new(sink),
+    })
+}
+
+#[test]
+fn a_turn_serves_what_has_come(rt: HostRuntime) -> Result<(), Fail> {
+    let alloc = rt.alloc();
+    let mut seat = ScriptSeat::new(alloc, script_of(alloc, UNARY.script)?)?;
+    let MemLink {
+        mut input,
+        mut output,
+    } = link_of(alloc, &UNARY)?;
+    let turned = serve_turn(&mut seat, 1, &mut input, &mut output);
+    assert_eq!(rt; turned, Turned::Over(LinkDone::Ended));
+    assert!(rt; output.taken() == bytes_of(alloc, UNARY.goes)?.as_slice());
+    assert!(rt; output.is_closed());
+    Ok(())
+}
+
+/// Two links of a listener in memory, and one more than it has.
+#[test]
+fn links_take_turns_to_their_ends(rt: HostRuntime) -> Result<(), Fail> {
+    let alloc = rt.alloc();
+    for (asked, served) in [(2, Served::Whole), (3, Served::Unreceived)] {
+        let mut seat = ScriptSeat::new(alloc, script_of(alloc, UNARY.script)?)?;
+        let mut links = Vec::new(alloc);
+        links.push(link_of(alloc, &UNARY)?)?;
+        links.push(link_of(alloc, &WINDOWS)?)?;
+        let mut listener = MemListener::new(true, links, Vec::new(alloc));
+        assert!(rt; listener.open_prefix(1));
+        let done = serve_prefix(&rt, alloc, &mut seat, &mut listener, asked);
+        assert_eq!(rt; done, served);
+    }
+    Ok(())
 }

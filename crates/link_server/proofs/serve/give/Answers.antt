@@ -1,6 +1,6 @@
-use Rattle.std.proofs.Common.{refl, subst}
+use Rattle.std.proofs.Common.{subst}
 use Rattle.link_server.specs.Serves.{IsSent}
-use Rattle.link_server.proofs.ServeLaws.{out_none, out_one, wanting_cause, written_cause}
+use Rattle.link_server.proofs.ServeLaws.{out_one, written_cause}
 use Rattle.link_server.proofs.serve.give.Goals as goal
 
 pub returns-in-Ok-clause-out : goal.returns-in-Ok-clause-out

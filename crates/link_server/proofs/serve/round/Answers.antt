@@ -1,4 +1,5 @@
 use Rattle.std.proofs.Common.{refl}
+use Rattle.link_server.specs.Serves.{over_of}
 use Rattle.link_server.proofs.ServeLaws.{cause_after, cause_as, in_none, in_then, out_after, out_as, out_none}
 use Rattle.link_server.proofs.serve.round.Goals as goal
 
@@ -7,12 +8,12 @@ returns-in-None-clause-into g c = in_then _ _ _ _ _ _ _ (in_none _ _ _ _ _ c.giv
 
 pub returns-in-None-clause-out : goal.returns-in-None-clause-out
 returns-in-None-clause-out g c =
-    out_after _ _ _ _ _ _ _ c.give.result c.take.result c.in-None.is c.give.ensures.out
-    (out_none _ _ _ _ _ c.take.result c.take.ensures.drained refl c.take.ensures.written)
+    out_after _ _ _ _ _ _ _ c.give.result (over_of c.take.result) c.in-None.is c.give.ensures.out
+    (out_none _ _ _ _ _ (over_of c.take.result) c.take.ensures.drained refl c.take.ensures.written)
 
 pub returns-in-None-clause-cause : goal.returns-in-None-clause-cause
 returns-in-None-clause-cause g c =
-    cause_after c.give.result c.take.result _ _ _ (g.I.LinkIn.left c.args.input.now) _ c.in-None.is
+    cause_after c.give.result (over_of c.take.result) _ _ _ (g.I.LinkIn.left c.args.input.now) _ c.in-None.is
     (c.give.ensures.cause (g.I.LinkIn.faults c.args.input.now) (g.I.LinkIn.left c.args.input.now))
     (c.take.ensures.cause (g.O.LinkOut.faults c.give.new.output))
 

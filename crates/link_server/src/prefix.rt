@@ -1,0 +1,137 @@
+// The links of a prefix, served side by side by one thread.
+ghost use Rattle.std.specs.Prelude.{◌≡◌, false, true};
+ghost use Rattle.link_server.specs.Receiving.{ReceivesSo, ServesSo};
+
+use crate::{OpenLinks, Serving};
+use gate_io::{Happened, Listener};
+use std::alloc::Global;
+use std::sync::Wait;
+
+/// What was received of a prefix.
+#[derive(Clone, Copy, Debug, PartialEq, Eq)]
+pub enum Received {
+    /// A link came.
+    Link,
+    /// Something else, or nothing.
+    Other,
+    /// The next link was not accepted.
+    Failed,
+    /// There was no memory for the next link.
+    NoMemory,
+}
+
+/// How the serving of links ended.
+#[derive(Clone, Copy, Debug, PartialEq, Eq)]
+pub enum Served {
+    /// Each link has ended.
+    Whole,
+    /// The next link was not accepted; those before it have ended.
+    Unreceived,
+    /// The server found no memory for a link.
+    NoMemory,
+}
+
+/// Hears what happens next at a prefix, and notes it.
+fn receive<L: Listener>(listener: &mut L, open: &mut OpenLinks<L::In, L::Out>, accepts: bool) -> Received
+    ensures { ReceivesSo accepts (L.faults listener.old) (L.faults listener.new) result }
+{
+    let waits = !open.has_due();
+    match listener.next(accepts, waits) {
+        Happened::Came(input, output) => match open.push(input, output) {
+            Ok(()) => Received::Link,
+            Err(_) => Received::NoMemory,
+        },
+        Happened::At(number) => {
+            open.note(number);
+            Received::Other
+        }
+        Happened::Anywhere => {
+            open.note_all();
+            Received::Other
+        }
+        Happened::Nothing => Received::Other,
+        Happened::Failed => Received::Failed,
+    }
+}
+
+/// A turn of each link that is to have one; where that may let the server give something on others, all are to have one then.
+fn turn<V: Serving, L: Listener>(core: &mut V, open: &mut OpenLinks<L::In, L::Out>) -> bool {
+    let found = open.turn(core);
+    if core.frees_others() {
+        open.note_all();
+    }
+    found
+}
+
+/// Accepts so many links, and serves those that came meanwhile.
+fn accept_links<W: Wait, V: Serving, L: Listener>(
+    rt: &W,
+    core: &mut V,
+    listener: &mut L,
+    open: &mut OpenLinks<L::In, L::Out>,
+    links: u32,
+) -> Served
+    ensures { ServesSo (L.faults listener.old) (L.faults listener.new) result }
+{
+    let mut left = links;
+    let mut found = true;
+    for _ in rt.forever() {
+        if left == 0 {
+            return if found {
+                Served::Whole
+            } else {
+                Served::NoMemory
+            };
+        }
+        match receive(listener, open, true) {
+            Received::Link => left -= 1,
+            Received::Other => {}
+            Received::Failed => return Served::Unreceived,
+            Received::NoMemory => return Served::NoMemory,
+        }
+        let has_memory = turn::<V, L>(core, open);
+        found = found && has_memory;
+    }
+    unreachable!()
+}
+
+/// Serves the links that came, each to its end, and says whether the server found memory for all of them.
+fn end_links<W: Wait, V: Serving, L: Listener>(
+    rt: &W,
+    core: &mut V,
+    listener: &mut L,
+    open: &mut OpenLinks<L::In, L::Out>,
+) -> bool
+    ensures { L.faults listener.new ≡ L.faults listener.old }
+{
+    let mut found = true;
+    for _ in rt.forever() {
+        let has_memory = turn::<V, L>(core, open);
+        found = found && has_memory;
+        if open.is_empty() {
+            return found;
+        }
+        receive(listener, open, false);
+    }
+    unreachable!()
+}
+
+/// Serves so many links of a prefix that is open, side by side, each to its end. The one thread waits for all of them at once. It may
+/// never return.
+pub fn serve_prefix<W: Wait, V: Serving, L: Listener>(
+    rt: &W,
+    alloc: Global,
+    core: &mut V,
+    listener: &mut L,
+    links: u32,
+) -> Served
+    ensures { ServesSo (L.faults listener.old) (L.faults listener.new) result }
+{
+    let mut open = OpenLinks::new(alloc);
+    let served = accept_links(rt, core, listener, &mut open, links);
+    if end_links(rt, core, listener, &mut open) {
+        served
+    } else {
+        Served::NoMemory
+    }
+}
