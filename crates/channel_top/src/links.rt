@@ -1,8 +1,8 @@
 // The links of a listener, served side by side.
-ghost use Rattle.link_server.specs.Receiving.{ServesSo};
+ghost use Rattle.link_server.specs.Listening.{ServesSo};
 
 use gate_io::Listener;
-use link_server::{ScriptSeat, Served, serve_prefix};
+use link_server::{ScriptServer, Served, serve_links};
 use std::alloc::Global;
 use std::sync::Wait;
 
@@ -19,14 +19,14 @@ pub struct Place {
 pub fn serve_at<R: Wait, L: Listener>(
     rt: &R,
     alloc: Global,
-    seat: &mut ScriptSeat,
+    core: &mut ScriptServer,
     place: Place,
     listener: &mut L,
 ) -> Served
     ensures { ServesSo (L.faults listener.old) (L.faults listener.new) result }
 {
-    if !listener.open_prefix(place.port) {
+    if !listener.open_together(place.port) {
         return Served::NotListening;
     }
-    serve_prefix(rt, alloc, seat, listener, place.links)
+    serve_links(rt, alloc, core, listener, place.links)
 }

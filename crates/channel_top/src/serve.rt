@@ -9,7 +9,7 @@ use crate::links::{Place, serve_at};
 use crate::reporting::report_served;
 use gate_io::{Listener, Sink, Source};
 use grpc_base::ServerScript;
-use link_server::{ScriptSeat, Served};
+use link_server::{ScriptServer, Served};
 use script_input::{InputFault, read_server};
 use session_text::{report_bad, unwritten};
 use std::alloc::Global;
@@ -71,10 +71,10 @@ fn serve_script<R: Wait, K: Sink, L: Listener>(
     ensures listened { result ≢ 6 → result ≢ 8 → L.faults listener.new ≡ L.faults listener.old }
     ensures known { (result ≡ 0) ⊎ (result ≡ 5) ⊎ (result ≡ 6) ⊎ (result ≡ 8) }
 {
-    let Ok(mut seat) = ScriptSeat::new(alloc, script) else {
+    let Ok(mut core) = ScriptServer::new(alloc, script) else {
         return 6;
     };
-    match serve_at(rt, alloc, &mut seat, place, listener) {
+    match serve_at(rt, alloc, &mut core, place, listener) {
         Served::Whole => report_whole(alloc, place.links, report),
         Served::NotListening => 8,
         Served::NoMemory => 6,

@@ -48,8 +48,8 @@ impl<R: Net<Stream = TcpStream, Listener = TcpListener> + Eprint + Send + Drop> 
         self.listener.accept()
     }
 
-    fn open_prefix(&mut self, port: u16) -> bool {
-        let is_open = self.listener.open_prefix(port);
+    fn open_together(&mut self, port: u16) -> bool {
+        let is_open = self.listener.open_together(port);
         self.announce();
         is_open
     }

@@ -1,4 +1,4 @@
-pub mod Receiving
 pub mod Holds
+pub mod Listening
 pub mod Serves
 pub mod Serving

@@ -2,17 +2,15 @@
 #![tactic(auto)]
 
 mod done;
-mod prefix;
+mod links;
 mod open_links;
-mod script_seat;
+mod script_server;
 mod serve;
 mod serving;
-mod shared;
 
 pub use done::{LinkDone, Turned};
-pub use prefix::{Received, Served, serve_prefix};
+pub use links::{Noted, Served, serve_links};
 pub use open_links::OpenLinks;
-pub use script_seat::ScriptSeat;
+pub use script_server::ScriptServer;
 pub use serve::{serve_link, serve_turn};
 pub use serving::Serving;
-pub use shared::SharedServer;

@@ -74,8 +74,8 @@ fn hand<V: Serving>(core: &mut V, link: u32, piece: &[u8]) -> Option<LinkDone>
     }
 }
 
-/// What a turn came to in which the server answered so.
-fn transferred(done: Option<LinkDone>) -> Turned
+/// What a round came to in which the server answered a piece so.
+fn answered(done: Option<LinkDone>) -> Turned
     ensures { over_of result ≡ done }
 {
     match done {
@@ -93,7 +93,7 @@ fn take<V: Serving, I: LinkIn>(core: &mut V, link: u32, input: &mut I) -> Turned
 {
     let mut piece = [0u8; READ_BYTES];
     match input.read(&mut piece) {
-        LinkRead::Got(count) => transferred(hand(core, link, &piece[..count])),
+        LinkRead::Got(count) => answered(hand(core, link, &piece[..count])),
         LinkRead::Quiet => Turned::Quiet,
         LinkRead::End => Turned::Over(LinkDone::Ended),
         LinkRead::Failed => Turned::Over(LinkDone::ReadFailed),
@@ -169,29 +169,7 @@ pub fn serve_turn<V: Serving, I: LinkIn, O: LinkOut>(
     }
 }
 
-/// The rounds of a link alone.
-fn run_link<W: Wait, V: Serving, I: LinkIn, O: LinkOut>(
-    rt: &W,
-    core: &mut V,
-    link: u32,
-    input: &mut I,
-    output: &mut O,
-) -> LinkDone
-    ensures into { GoesIn link (V.given core.old) (V.given core.new) (I.left input.old) (I.left input.new) }
-    ensures out { GoesOut link (V.drained core.old) (V.drained core.new) (O.taken output.old) (O.taken output.new) (Some result) }
-    ensures cause { HasCause (Some result) (record { breaks = V.breaks core.old; last_code = V.last_code core.old; read_faults = I.faults input.old; write_faults = O.faults output.old }) (record { breaks = V.breaks core.new; last_code = V.last_code core.new; read_faults = I.faults input.new; write_faults = O.faults output.new }) (I.left input.new) }
-{
-    for _ in rt.forever() {
-        match round(core, link, input, output) {
-            Turned::More | Turned::Quiet => {}
-            Turned::Over(done) => return done,
-        }
-    }
-    unreachable!()
-}
-
-/// Serves one link to its end: in rounds, all that the server has for it is written, and what one read brings, at most 16,384
-/// bytes, goes to the server. At its end the output is closed. It may never return.
+/// Serves one link to its end, turn by turn. It may never return.
 ///
 /// | Answer | Only where |
 /// |---|---|
@@ -212,7 +190,11 @@ pub fn serve_link<W: Wait, V: Serving, I: LinkIn, O: LinkOut>(
     ensures cause { HasCause (Some result) (record { breaks = V.breaks core.old; last_code = V.last_code core.old; read_faults = I.faults input.old; write_faults = O.faults output.old }) (record { breaks = V.breaks core.new; last_code = V.last_code core.new; read_faults = I.faults input.new; write_faults = O.faults output.new }) (I.left input.new) }
     ensures closed { O.closed output.new ≡ true }
 {
-    let done = run_link(rt, core, link, input, output);
-    output.close();
-    done
+    for _ in rt.forever() {
+        match serve_turn(core, link, input, output) {
+            Turned::More | Turned::Quiet => {}
+            Turned::Over(done) => return done,
+        }
+    }
+    unreachable!()
 }

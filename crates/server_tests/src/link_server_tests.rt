@@ -1,12 +1,10 @@
 // One link of a scripted server, over memory: what goes out, and how it ends.
-use crate::exchange::{bytes_of, script_of, server_of};
+use crate::exchange::{bytes_of, script_of};
 use gate_io::{Listener, MemLink, MemLinkIn, MemLinkOut, MemListener, MemSink, MemSource};
-use link_server::{
-    LinkDone, ScriptSeat, Served, SharedServer, Turned, serve_prefix, serve_link, serve_turn,
-};
+use link_server::{LinkDone, ScriptServer, Served, Turned, serve_link, serve_links, serve_turn};
 use std::alloc::Global;
 use std::process::Abort;
-use std::sync::{Mutex, Wait};
+use std::sync::Wait;
 use std::test::Fail;
 
 /// The script, what comes and what goes, in hex.
@@ -62,7 +60,7 @@ struct Ran {
 }
 
 fn run<R: Wait>(rt: &R, alloc: Global, exchange: &Exchange, cut: Cut) -> Result<Ran, Fail> {
-    let core = Mutex::new(server_of(alloc, exchange.script)?);
+    let mut core = ScriptServer::new(alloc, script_of(alloc, exchange.script)?)?;
     let comes = bytes_of(alloc, exchange.comes)?;
     let source = MemSource::new(
         Vec::from_slice(alloc, comes.as_slice())?,
@@ -72,8 +70,7 @@ fn run<R: Wait>(rt: &R, alloc: Global, exchange: &Exchange, cut: Cut) -> Result<
     let mut input = MemLinkIn::new(source, true);
     let sink = MemSink::new(alloc, cut.write.max(1), vec![in alloc; cut.failed_write]?);
     let mut output = MemLinkOut::new(sink);
-    let mut seat = SharedServer::new(rt, &core);
-    let done = serve_link(rt, &mut seat, 1, &mut input, &mut output);
+    let done = serve_link(rt, &mut core, 1, &mut input, &mut output);
     Ok(Ran { output, done })
 }
 
@@ -145,12 +142,12 @@ fn link_of(alloc: Global, exchange: &Exchange) -> Result<MemLink, Fail> {
 #[test]
 fn a_turn_serves_what_has_come(rt: HostRuntime) -> Result<(), Fail> {
     let alloc = rt.alloc();
-    let mut seat = ScriptSeat::new(alloc, script_of(alloc, UNARY.script)?)?;
+    let mut core = ScriptServer::new(alloc, script_of(alloc, UNARY.script)?)?;
     let MemLink {
         mut input,
         mut output,
     } = link_of(alloc, &UNARY)?;
-    let turned = serve_turn(&mut seat, 1, &mut input, &mut output);
+    let turned = serve_turn(&mut core, 1, &mut input, &mut output);
     assert_eq!(rt; turned, Turned::Over(LinkDone::Ended));
     assert!(rt; output.taken() == bytes_of(alloc, UNARY.goes)?.as_slice());
     assert!(rt; output.is_closed());
@@ -161,14 +158,14 @@ fn a_turn_serves_what_has_come(rt: HostRuntime) -> Result<(), Fail> {
 #[test]
 fn links_take_turns_to_their_ends(rt: HostRuntime) -> Result<(), Fail> {
     let alloc = rt.alloc();
-    for (asked, served) in [(2, Served::Whole), (3, Served::Unreceived)] {
-        let mut seat = ScriptSeat::new(alloc, script_of(alloc, UNARY.script)?)?;
+    for (asked, served) in [(2, Served::Whole), (3, Served::NotListening)] {
+        let mut core = ScriptServer::new(alloc, script_of(alloc, UNARY.script)?)?;
         let mut links = Vec::new(alloc);
         links.push(link_of(alloc, &UNARY)?)?;
         links.push(link_of(alloc, &WINDOWS)?)?;
         let mut listener = MemListener::new(true, links, Vec::new(alloc));
-        assert!(rt; listener.open_prefix(1));
-        let done = serve_prefix(&rt, alloc, &mut seat, &mut listener, asked);
+        assert!(rt; listener.open_together(1));
+        let done = serve_links(&rt, alloc, &mut core, &mut listener, asked);
         assert_eq!(rt; done, served);
     }
     Ok(())

@@ -7,10 +7,10 @@ pub returns-in-Got-clause-into : goal.returns-in-Got-clause-into
 returns-in-Got-clause-into g c = in_one _ _ _ _ _ _ c.in-Got.ensures.bytes.2 c.hand.ensures.given
 
 pub returns-in-Got-clause-cause : goal.returns-in-Got-clause-cause
-returns-in-Got-clause-cause g c = λ writes. cause_as c.hand.result (over_of c.transferred.result) _ _ _ (sym c.transferred.ensures) (refused_cause c.hand.result _ _ _ _ _ _ writes _ c.hand.ensures.cause c.in-Got.ensures.faults)
+returns-in-Got-clause-cause g c = λ writes. cause_as c.hand.result (over_of c.answered.result) _ _ _ (sym c.answered.ensures) (refused_cause c.hand.result _ _ _ _ _ _ writes _ c.hand.ensures.cause c.in-Got.ensures.faults)
 
 pub returns-in-Got-clause-written : goal.returns-in-Got-clause-written
-returns-in-Got-clause-written g c = λ e. refused_not_written c.hand.result _ _ _ _ c.hand.ensures.cause (sym c.transferred.ensures ∙ e)
+returns-in-Got-clause-written g c = λ e. refused_not_written c.hand.result _ _ _ _ c.hand.ensures.cause (sym c.answered.ensures ∙ e)
 
 pub returns-in-Quiet-clause-into : goal.returns-in-Quiet-clause-into
 returns-in-Quiet-clause-into g c = in_none _ _ _ _ _ (λ link. refl) c.in-Quiet.ensures.bytes

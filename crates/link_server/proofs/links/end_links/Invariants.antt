@@ -1,5 +1,5 @@
 use Rattle.std.proofs.Common.{◌≡◌}
-use Rattle.link_server.proofs.prefix.end_links.Given as goal
+use Rattle.link_server.proofs.links.end_links.Given as goal
 
 -- nothing has failed
 abbrev pub invariant-loop : goal.invariant-loop

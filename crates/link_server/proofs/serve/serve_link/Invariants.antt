@@ -1,8 +1,8 @@
 use Rattle.std.proofs.Common.{None}
 use Rattle.link_server.specs.Serves.{CountsSeen, GoesIn, GoesOut, HasCause}
-use Rattle.link_server.proofs.serve.run_link.Given as goal
+use Rattle.link_server.proofs.serve.serve_link.Given as goal
 
--- what the rounds so far moved; nothing has failed
+-- what the turns so far moved; nothing has failed
 abbrev pub invariant-loop : goal.invariant-loop
 invariant-loop g l =
     let before : CountsSeen = record {

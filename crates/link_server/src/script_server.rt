@@ -1,4 +1,4 @@
-// The links' seat at a scripted server.
+// A scripted server that one thread has.
 ghost use Rattle.std.specs.Prelude.{◌≡◌, None};
 ghost use Rattle.std.specs.List.{list_any};
 ghost use Rattle.grpc_base.specs.Scripts.{IsServerScript};
@@ -10,9 +10,9 @@ use loop_server::{ServerCore, ServerFault};
 use std::alloc::Global;
 use std::mem;
 
-/// The seat of all links at a scripted server. It counts itself what it was answered.
+/// A scripted server with all of its links. It counts what its core refused.
 #[derive(Drop)]
-pub struct ScriptSeat {
+pub struct ScriptServer {
     core: ServerCore,
     /// Whether an answer may wait until others were given.
     has_holds: bool,
@@ -22,13 +22,13 @@ pub struct ScriptSeat {
     last_code: u32,
 }
 
-impl ScriptSeat {
-    /// A seat at a server of this script.
-    pub fn new(alloc: Global, script: ServerScript) -> Result<ScriptSeat, NoMemory>
+impl ScriptServer {
+    /// A server of this script.
+    pub fn new(alloc: Global, script: ServerScript) -> Result<ScriptServer, NoMemory>
         requires { IsServerScript script }
     {
         let has_holds = has_holds(script.answers.as_slice());
-        Ok(ScriptSeat {
+        Ok(ScriptServer {
             core: ServerCore::new(alloc, script)?,
             has_holds,
             gave: false,
@@ -73,7 +73,7 @@ fn has_holds(lines: &[AnswerLine]) -> bool
     false
 }
 
-impl Serving for ScriptSeat {
+impl Serving for ScriptServer {
     ghost given = { λ _ _. None };
 
     ghost drained = { λ _ _. None };

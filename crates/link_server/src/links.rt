@@ -1,15 +1,15 @@
-// The links of a prefix, served side by side by one thread.
+// The links of a listener, served side by side by one thread.
 ghost use Rattle.std.specs.Prelude.{◌≡◌, false, true};
-ghost use Rattle.link_server.specs.Receiving.{ReceivesSo, ServesSo};
+ghost use Rattle.link_server.specs.Listening.{NotesSo, ServesSo};
 
 use crate::{OpenLinks, Serving};
 use gate_io::{Happened, Listener};
 use std::alloc::Global;
 use std::sync::Wait;
 
-/// What was received of a prefix.
+/// What was noted of what happened at a listener.
 #[derive(Clone, Copy, Debug, PartialEq, Eq)]
-pub enum Received {
+pub enum Noted {
     /// A link came.
     Link,
     /// Something else, or nothing.
@@ -26,31 +26,35 @@ pub enum Served {
     /// Each link has ended.
     Whole,
     /// The next link was not accepted; those before it have ended.
-    Unreceived,
+    NotListening,
     /// The server found no memory for a link.
     NoMemory,
 }
 
-/// Hears what happens next at a prefix, and notes it.
-fn receive<L: Listener>(listener: &mut L, open: &mut OpenLinks<L::In, L::Out>, accepts: bool) -> Received
-    ensures { ReceivesSo accepts (L.faults listener.old) (L.faults listener.new) result }
+/// Notes what happens next at a listener.
+fn note_next<L: Listener>(
+    listener: &mut L,
+    open: &mut OpenLinks<L::In, L::Out>,
+    accepts: bool,
+) -> Noted
+    ensures { NotesSo accepts (L.faults listener.old) (L.faults listener.new) result }
 {
     let waits = !open.has_due();
     match listener.next(accepts, waits) {
         Happened::Came(input, output) => match open.push(input, output) {
-            Ok(()) => Received::Link,
-            Err(_) => Received::NoMemory,
+            Ok(()) => Noted::Link,
+            Err(_) => Noted::NoMemory,
         },
         Happened::At(number) => {
             open.note(number);
-            Received::Other
+            Noted::Other
         }
         Happened::Anywhere => {
             open.note_all();
-            Received::Other
+            Noted::Other
         }
-        Happened::Nothing => Received::Other,
-        Happened::Failed => Received::Failed,
+        Happened::Nothing => Noted::Other,
+        Happened::Failed => Noted::Failed,
     }
 }
 
@@ -83,11 +87,11 @@ fn accept_links<W: Wait, V: Serving, L: Listener>(
                 Served::NoMemory
             };
         }
-        match receive(listener, open, true) {
-            Received::Link => left -= 1,
-            Received::Other => {}
-            Received::Failed => return Served::Unreceived,
-            Received::NoMemory => return Served::NoMemory,
+        match note_next(listener, open, true) {
+            Noted::Link => left -= 1,
+            Noted::Other => {}
+            Noted::Failed => return Served::NotListening,
+            Noted::NoMemory => return Served::NoMemory,
         }
         let has_memory = turn::<V, L>(core, open);
         found = found && has_memory;
@@ -111,14 +115,14 @@ fn end_links<W: Wait, V: Serving, L: Listener>(
         if open.is_empty() {
             return found;
         }
-        receive(listener, open, false);
+        note_next(listener, open, false);
     }
     unreachable!()
 }
 
-/// Serves so many links of a prefix that is open, side by side, each to its end. The one thread waits for all of them at once. It may
+/// Serves so many links of a listener that is open, side by side, each to its end. The one thread waits for all of them at once. It may
 /// never return.
-pub fn serve_prefix<W: Wait, V: Serving, L: Listener>(
+pub fn serve_links<W: Wait, V: Serving, L: Listener>(
     rt: &W,
     alloc: Global,
     core: &mut V,

@@ -1,5 +1,5 @@
 use Rattle.std.proofs.Common.{◌≡◌}
-use Rattle.link_server.proofs.prefix.accept_links.Given as goal
+use Rattle.link_server.proofs.links.accept_links.Given as goal
 
 -- no accept has failed
 abbrev pub invariant-loop : goal.invariant-loop
