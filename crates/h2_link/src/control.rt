@@ -138,7 +138,7 @@ impl Controls {
     pub(crate) fn first(&self) -> Option<Control>
         ensures { result ≡ slice_get self.now.items 0 }
     {
-        self.items.prefix().copied()
+        self.items.front().copied()
     }
 
     /// Takes the first frame off.

@@ -99,7 +99,7 @@ impl Controls {
     pub(crate) fn first(&self) -> Option<Control>
         ensures { result ≡ slice_get self.now 0 }
     {
-        self.items.prefix().copied()
+        self.items.front().copied()
     }
 
     /// Takes the first frame off.
