@@ -17,4 +17,5 @@ pub use client_calls::{
 pub use live_channel::NETS;
 pub use options::{ChannelOptions, Ended};
 pub use session::{record_clients, run_clients};
+pub use session_meter::{Meter, Room};
 pub use work::ClientWork;

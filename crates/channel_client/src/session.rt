@@ -20,6 +20,7 @@ use live_channel::{WorkerContext, open_channel, ran_of, report_channel, start_li
 use live_run::Outcome;
 use resolver_core::Target;
 use script_text::ReportFault;
+use session_meter::{Meter, MeteredDraws, metered};
 use session_text::Ran;
 use shared_channel::{Seat, SharedChannel};
 use std::alloc::Global;
@@ -35,7 +36,8 @@ struct Keeping {
 }
 
 /// Opens a channel for a target over this world with these policies, does all work over it, each in a thread of its own with a handle
-/// of its own, shuts the channel down after it, joins everything, and gives the work back. May never return.
+/// of its own, shuts the channel down after it, joins everything, and gives the work back. What the session has is counted in the meter.
+/// May never return.
 pub fn run_clients<
     R: Threads + Wait + Sync,
     P: Balancer + Send,
@@ -48,6 +50,7 @@ pub fn run_clients<
     policies: Vec<P>,
     world: W,
     works: Vec<J>,
+    meter: &Meter,
 ) -> Result<(Vec<J>, Ended), NoMemory>
     requires ready { are_ready (map P.seen policies.items) ≡ true }
     requires target { IsTarget options.target }
@@ -64,7 +67,7 @@ pub fn run_clients<
     let (channel, seat) = open_channel(alloc, policies, &target)?;
     let keeping = Keeping { nets, keep, seed };
     let (_seat, outcome, works) = run_world(
-        rt, alloc, keeping, world, &channel, seat, target, config, works,
+        rt, alloc, keeping, world, &channel, seat, target, config, works, meter,
     )?;
     Ok((works, ended_of(outcome)))
 }
@@ -92,6 +95,7 @@ pub fn record_clients<
     policies: Vec<P>,
     world: W,
     works: Vec<J>,
+    meter: &Meter,
     name: &Text,
     report: &mut K,
 ) -> Result<(Vec<J>, Result<Ran, ReportFault>), NoMemory>
@@ -110,7 +114,7 @@ pub fn record_clients<
     let (channel, seat) = open_channel(alloc, policies, &target)?;
     let keeping = Keeping { nets, keep, seed };
     let (mut seat, outcome, works) = run_world(
-        rt, alloc, keeping, world, &channel, seat, target, config, works,
+        rt, alloc, keeping, world, &channel, seat, target, config, works, meter,
     )?;
     let ran = ran_of(outcome)?;
     let written = report_channel(rt, alloc, &channel, &mut seat, name, ran, report);
@@ -136,6 +140,7 @@ fn run_world<
     target: Target,
     config: Option<Octets>,
     works: Vec<J>,
+    meter: &Meter,
 ) -> Result<(Seat<P>, Outcome, Vec<J>), NoMemory>
     requires seat { IsFirstSeat channel.now seat }
     requires few { length works.items ≤ 1024 }
@@ -143,7 +148,9 @@ fn run_world<
     ensures reported { IfOk result (λ r. ReportsTarget target config r.0.seen) }
 {
     let lookup = world.lookup();
-    let (clock, mut draws, dialers) = world.parts(keeping.seed);
+    let (clock, draws, dialers) = world.parts(keeping.seed);
+    let mut draws = MeteredDraws::new(draws, meter);
+    let dialers = metered(alloc, dialers, meter)?;
     let context = WorkerContext {
         rt,
         alloc,
