@@ -21,7 +21,7 @@ Follows does from (s ∷ steps) to = does s.before from s.made s.after × Follow
 
 -- steps of work are all that a handle did between these entries and those
 abbrev pub Serves : {J : Type 0} → (J → List Entry → List Entry → J → Type 0) → List Entry → List Entry → Type 0
-Serves does from to = (steps : List (Step J)) × Follows does from steps to
+Serves does from to = (steps : List (Step _)) × Follows does from steps to
 
 -- What is seen of a session: the entries of each of its handles, with their places, and its history
 pub record SessionSeen : Type 0 where

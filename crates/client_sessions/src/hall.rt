@@ -1,6 +1,6 @@
 // Where work is between two sessions.
+use crate::opening::OpenError;
 use std::alloc::Global;
-use std::mem;
 use std::sync::{Condvar, Mutex, Wait};
 
 /// How all sessions ended.
@@ -8,8 +8,8 @@ use std::sync::{Condvar, Mutex, Wait};
 pub enum Over {
     /// All work is done.
     Done,
-    /// There was no memory for a session or for work. Work that is not done is given back too.
-    NoMemory,
+    /// A session was not opened, or there was no memory to keep work. Work that is not done is given back too.
+    Stopped(OpenError),
 }
 
 /// Work between two sessions, and which session is open.
@@ -31,7 +31,7 @@ pub(crate) struct Waiting<J> {
 impl<J> Waiting<J> {
     /// Whether no work goes on.
     fn is_over(&self) -> bool {
-        self.going == 0 || self.over == Over::NoMemory
+        self.going == 0 || self.over != Over::Done
     }
 
     /// Keeps work that waits for a session after this one.
@@ -40,7 +40,7 @@ impl<J> Waiting<J> {
         J: Drop,
     {
         if self.waiting.push(work).is_err() {
-            self.over = Over::NoMemory;
+            self.over = Over::Stopped(OpenError::NoMemory);
         }
         if self.session == session {
             self.session = session.saturating_add(1);
@@ -54,7 +54,7 @@ impl<J> Waiting<J> {
         J: Drop,
     {
         if self.done.push(work).is_err() {
-            self.over = Over::NoMemory;
+            self.over = Over::Stopped(OpenError::NoMemory);
         }
         self.going = self.going.saturating_sub(1);
     }
@@ -81,7 +81,7 @@ impl<J> Waiting<J> {
         } = self;
         for work in waiting {
             if done.push(work).is_err() {
-                over = Over::NoMemory;
+                over = Over::Stopped(OpenError::NoMemory);
             }
         }
         (done, over)
@@ -155,8 +155,8 @@ impl<J: Drop> Hall<J> {
     }
 
     /// No session is opened any more.
-    pub(crate) fn give_up<R: Wait>(&self, rt: &R) {
-        self.waiting.lock(rt).over = Over::NoMemory;
+    pub(crate) fn give_up<R: Wait>(&self, rt: &R, error: OpenError) {
+        self.waiting.lock(rt).over = Over::Stopped(error);
         self.changed.notify_all();
     }
 

@@ -3,12 +3,11 @@ ghost use Rattle.std.specs.Prelude.{◌≡◌, ◌≤◌, ◌+◌, IfOk, OnOk, t
 ghost use Rattle.client_sessions.specs.Served.{AreServed, IsServed, SessionSeen};
 
 use crate::hall::Hall;
-use crate::opening::Opener;
+use crate::opening::{OpenError, Opener};
 use crate::session::{Recorded, run_session};
 use crate::work::SessionWork;
 use dns_watch::NamedWorld;
 use gate_io::Sink;
-use grpc_base::NoMemory;
 use lb_policy::Balancer;
 use std::alloc::Global;
 use std::sync::Wait;
@@ -65,12 +64,12 @@ fn run_next<
     hall: &Hall<J>,
     session: u64,
     threads: usize,
-) -> Result<Recorded, NoMemory>
+) -> Result<Recorded, OpenError>
     requires few { threads ≤ 1024 }
     ensures served { OnOk result ((s : SessionSeen) × IsServed J.does s) }
 {
     let opening = opener.open(session)?;
-    run_session(rt, alloc, hall, opening, session, threads)
+    Ok(run_session(rt, alloc, hall, opening, session, threads)?)
 }
 
 /// Runs one session after another, until all work is done or there is no memory for one.
@@ -96,12 +95,16 @@ pub(crate) fn run_lane<
         let Some(session) = hall.next_session(rt) else {
             return;
         };
-        let Ok(recorded) = run_next(rt, alloc, opener, hall, session, threads) else {
-            hall.give_up(rt);
-            return;
-        };
-        if !lane.note(recorded) {
-            return;
+        match run_next(rt, alloc, opener, hall, session, threads) {
+            Ok(recorded) => {
+                if !lane.note(recorded) {
+                    return;
+                }
+            }
+            Err(error) => {
+                hall.give_up(rt, error);
+                return;
+            }
         }
     }
     unreachable!()

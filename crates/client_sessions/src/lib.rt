@@ -15,7 +15,7 @@ pub use channel_client::{
     begin, cancel, exchange, finish, next, send, send_all, unary,
 };
 pub use hall::Over;
-pub use opening::{Opener, Opening};
+pub use opening::{OpenError, Opener, Opening};
 pub use lane::Lane;
 pub use run::{Sessions, run_sessions};
 pub use session_meter::{Meter, Room};

@@ -10,6 +10,25 @@ use grpc_base::{NoMemory, Text};
 use lb_policy::Balancer;
 use session_meter::Room;
 
+/// Why a session is not opened.
+#[derive(Clone, Copy, Debug, PartialEq, Eq)]
+pub enum OpenError {
+    NoMemory,
+    /// What opens sessions does not open it.
+    Refused,
+}
+
+impl From<NoMemory> for OpenError {
+    ghost use Rattle.std.specs.Prelude.{◌≡◌};
+    ghost use Rattle.client_sessions.specs.declared.opening.OpenError.TheVariants as failed;
+
+    ghost from_gives = { λ _ e. e ≡ failed.NoMemory };
+
+    fn from(_e: NoMemory) -> OpenError {
+        OpenError::NoMemory
+    }
+}
+
 /// What a session is opened with.
 #[derive(Drop)]
 pub struct Opening<P, W, K> {
@@ -25,7 +44,7 @@ pub struct Opening<P, W, K> {
 /// Opens sessions, one after another. Each is asked for when it is wanted, so it has the newest config and the newest addresses.
 pub trait Opener<P: Balancer, W: NamedWorld, K: Sink> {
     /// What the session of this number, counted from 0, is opened with.
-    fn open(&self, session: u64) -> Result<Opening<P, W, K>, NoMemory>
+    fn open(&self, session: u64) -> Result<Opening<P, W, K>, OpenError>
         ensures ready { IfOk result (λ o. are_ready (map P.seen o.policies.items) ≡ true) }
         ensures target { IfOk result (λ o. IsTarget o.options.target) };
 }

@@ -7,7 +7,7 @@ use crate::command::command;
 use crate::units::nanos_of;
 use anyhow::{Result, anyhow, bail};
 use base64::engine::general_purpose::{STANDARD, STANDARD_NO_PAD};
-use channel_client::ChannelOptions;
+use client_sessions::{ChannelOptions, Room};
 use clap::ArgMatches;
 use clap::error::ErrorKind;
 use grpc_base::{Metadata, Octets, Request, Text};
@@ -19,8 +19,8 @@ use std::rt::Files;
 /// How many threads keep links open.
 const NETS: u32 = 2;
 
-/// How many calls are made over one channel, at most: its session has room for twice as many small ones.
-pub const CALLS_OF_A_CHANNEL: u64 = 50_000;
+/// How many entries a session may have.
+const MOST_ENTRIES: u64 = 1_048_576;
 
 /// What is called, and how often.
 #[derive(Drop)]
@@ -42,7 +42,9 @@ pub struct Asked {
     /// The service config as JSON.
     pub config: Option<Octets>,
     pub plan: Plan,
-    /// The file for the report of the session.
+    /// How full a session gets before further calls go to the next.
+    pub mark: Room,
+    /// The file for the report of the first session; those of others go beside it.
     pub record: Option<String>,
 }
 
@@ -105,13 +107,9 @@ fn asked_of<R: Files<File = File> + AllocGlobal>(
         target,
         config,
         plan,
+        mark: mark_of(matches)?,
         record,
     };
-    if asked.record.is_some() && asked.plan.count > CALLS_OF_A_CHANNEL {
-        bail!(
-            "--record keeps the report of one channel, over which at most {CALLS_OF_A_CHANNEL} calls are made"
-        );
-    }
     // (a target that is none is reported before anything is called)
     options_of(alloc, &asked)?;
     Ok(asked)
@@ -169,6 +167,18 @@ fn number_of(matches: &ArgMatches<'_>, id: &str, most: u64) -> Result<u64> {
         Ok(number) if number > 0 && number <= most => Ok(number),
         _ => bail!("--{id}: '{text}' is not a number from 1 to {most}"),
     }
+}
+
+/// How full a session gets before further calls go to the next: to so many entries, or half of what it may have.
+fn mark_of(matches: &ArgMatches<'_>) -> Result<Room> {
+    let half = Room::half();
+    if matches.get_str("mark").is_none() {
+        return Ok(half);
+    }
+    Ok(Room {
+        entries: number_of(matches, "mark", MOST_ENTRIES)?,
+        octets: half.octets,
+    })
 }
 
 /// The request of each call.

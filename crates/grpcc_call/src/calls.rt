@@ -6,7 +6,7 @@ use crate::ask::Plan;
 use crate::once::{Shown, call_once};
 use crate::tally::Tally;
 use anyhow::Result;
-use channel_client::{CallError, ClientWork, Status, exchange};
+use client_sessions::{After, CallError, SessionWork, Status, exchange};
 use grpc_base::{Caller, Code, NoMemory, Octets, Request};
 use std::alloc::Global;
 use std::sync::Wait;
@@ -19,7 +19,8 @@ pub struct Calls<R> {
     pub shown: Shown<R>,
     request: Request,
     messages: Vec<Octets>,
-    count: u64,
+    /// How many calls are still to be made.
+    left: u64,
     /// Whether it is one call, which is shown.
     is_alone: bool,
     /// The end of the one call, or of the first that did not end OK.
@@ -84,41 +85,59 @@ fn call_many_once<W: Wait, H: Caller>(
     }
 }
 
-/// Makes the calls, one after another, up to the first that has no answer.
-fn call_many<W: Wait, R: time::Clock, H: Caller>(rt: &W, calls: &mut Calls<R>, handle: &mut H)
+/// Makes the next call. After one that has no answer no further is made.
+fn call_next<W: Wait, R: time::Clock, H: Caller>(
+    rt: &W,
+    calls: &mut Calls<R>,
+    handle: &mut H,
+) -> After
     ensures others { others_in (H.made handle.new) ≡ others_in (H.made handle.old) }
     ensures share { H.share handle.new ≡ H.share handle.old }
 {
-    for _ in 0..calls.count {
-        let begun = moment(&calls.shown.rt);
-        let alloc = calls.shown.alloc;
-        let answer = call_many_once(rt, alloc, handle, &calls.request, calls.messages.as_slice());
-        let has_failed = answer.is_err();
-        let nanos = nanos_since(&calls.shown.rt, begun);
-        calls.note(answer, nanos);
-        if has_failed {
-            return;
-        }
+    let begun = moment(&calls.shown.rt);
+    let alloc = calls.shown.alloc;
+    let answer = call_many_once(rt, alloc, handle, &calls.request, calls.messages.as_slice());
+    let has_failed = answer.is_err();
+    let nanos = nanos_since(&calls.shown.rt, begun);
+    calls.note(answer, nanos);
+    calls.left = calls.left.saturating_sub(1);
+    if has_failed || calls.left == 0 {
+        After::Nothing
+    } else {
+        After::More
     }
 }
 
-impl<R: Print + Eprint + time::Clock> ClientWork for Calls<R> {
+/// Makes the one call, and shows it.
+fn call_alone<W: Wait, R: Print + Eprint, H: Caller>(
+    rt: &W,
+    calls: &mut Calls<R>,
+    handle: &mut H,
+) -> After
+    ensures others { others_in (H.made handle.new) ≡ others_in (H.made handle.old) }
+    ensures share { H.share handle.new ≡ H.share handle.old }
+{
+    let answer = call_once(
+        rt,
+        &mut calls.shown,
+        handle,
+        &calls.request,
+        calls.messages.as_slice(),
+    );
+    calls.end = Some(answer);
+    After::Nothing
+}
+
+impl<R: Print + Eprint + time::Clock> SessionWork for Calls<R> {
     ghost use Rattle.std.specs.Bool.{⊤};
 
-    ghost shows = { λ _ _. ⊤ };
+    ghost does = { λ _ _ _ _. ⊤ };
 
-    fn work<W: Wait, H: Caller>(&mut self, rt: &W, handle: &mut H) {
+    fn step<W: Wait, H: Caller>(&mut self, rt: &W, handle: &mut H) -> After {
         if self.is_alone {
-            let answer = call_once(
-                rt,
-                &mut self.shown,
-                handle,
-                &self.request,
-                self.messages.as_slice(),
-            );
-            self.end = Some(answer);
+            call_alone(rt, self, handle)
         } else {
-            call_many(rt, self, handle);
+            call_next(rt, self, handle)
         }
     }
 }
@@ -149,7 +168,7 @@ where
         },
         request,
         messages,
-        count,
+        left: count,
         is_alone: plan.count == 1,
         end: None,
         tally: Tally::new(Vec::new(alloc)),
@@ -165,12 +184,13 @@ fn share_of(count: u64, workers: u64, place: u64) -> u64 {
     }
 }
 
-/// The work of each thread, which share so many calls of this plan out.
-pub fn calls_of<R>(rt: R, alloc: Global, plan: &Plan, count: u64) -> Result<Vec<Calls<R>>>
+/// The work of each thread, which share the calls of this plan out.
+pub fn calls_of<R>(rt: R, alloc: Global, plan: &Plan) -> Result<Vec<Calls<R>>>
 where
     R: Copy + Drop,
     ensures { IfOk result (λ works. length works.items ≤ 1024) }
 {
+    let count = plan.count;
     let workers = plan.workers.min(count).min(1024);
     let mut works = Vec::new(alloc);
     while works.len() < workers as usize {

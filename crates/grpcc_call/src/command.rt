@@ -91,8 +91,19 @@ fn with_counts<'a>(alloc: Global, command: Command<'a>) -> Result<Command<'a>, A
         "How many threads make them, from 1 to 1024 (default 1)",
     )
     .short('c');
-    let record = option(alloc, "record", "FILE", "Writes the report of the session");
-    command.arg(count)?.arg(workers)?.arg(record)
+    let mark = option(
+        alloc,
+        "mark",
+        "N",
+        "Past so many entries of a session further calls go to the next, from 1 to 1048576 (default 524288)",
+    );
+    let record = option(
+        alloc,
+        "record",
+        "FILE",
+        "Writes the report of the first session; of later ones the last seven go to FILE.1 to FILE.7",
+    );
+    command.arg(count)?.arg(workers)?.arg(mark)?.arg(record)
 }
 
 /// The command.

@@ -3,7 +3,7 @@ ghost use Rattle.std.specs.Prelude.{◌≡◌};
 ghost use Rattle.client_calls.specs.Entries.{others_in};
 
 use crate::said::{code_name, text_of};
-use channel_client::{CallError, Received, Status, begin, cancel, finish, next, send_all};
+use client_sessions::{CallError, Received, Status, begin, cancel, finish, next, send_all};
 use gate_io::{StdSink, write_whole};
 use grpc_base::{Caller, Metadata, Octets, Request};
 use std::alloc::Global;

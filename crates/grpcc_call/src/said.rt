@@ -2,7 +2,7 @@
 use crate::ask::Plan;
 use crate::calls::Calls;
 use anyhow::Result;
-use channel_client::{CallError, Status, StatusSource};
+use client_sessions::{CallError, Sessions, Status, StatusSource};
 use grpc_base::{Code, NoMemory};
 use std::alloc::Global;
 use std::str;
@@ -170,14 +170,33 @@ fn first_end<R>(works: &[Calls<R>]) -> Option<&Result<Status, CallError>> {
     None
 }
 
+/// Says over how many sessions the calls went, where it is more than one, and how many reports could not be written.
+fn say_sessions<R, E: Eprint>(rt: &E, sessions: &Sessions<Calls<R>>) -> Result<()> {
+    let mut count: u64 = 0;
+    let mut unwritten: u64 = 0;
+    for lane in &sessions.lanes {
+        count = count.saturating_add(lane.sessions);
+        unwritten = unwritten.saturating_add(lane.unwritten);
+    }
+    if count > 1 {
+        eprintln!(rt; "{count} sessions")?;
+    }
+    if unwritten > 0 {
+        eprintln!(rt; "error: {unwritten} reports could not be written")?;
+    }
+    Ok(())
+}
+
 /// Says how the calls ended, which took so long in all.
 pub fn sum_up<R, E: Eprint>(
     rt: &E,
     alloc: Global,
     plan: &Plan,
-    works: &[Calls<R>],
+    sessions: &Sessions<Calls<R>>,
     nanos: u64,
 ) -> Result<()> {
+    let works = sessions.works.as_slice();
+    say_sessions(rt, sessions)?;
     if let Some(end) = first_end(works) {
         say_end(rt, alloc, end)?;
     }
@@ -191,14 +210,17 @@ pub fn sum_up<R, E: Eprint>(
 }
 
 /// The status of the program.
-pub fn status_of<R>(works: &[Calls<R>]) -> u8 {
+pub fn status_of<R>(sessions: &Sessions<Calls<R>>) -> u8 {
+    let works = sessions.works.as_slice();
     match first_end(works) {
         Some(Ok(status)) => {
             u8::try_from(AFTER_ARGUMENTS + status.code.number()).unwrap_or(NO_ANSWER)
         }
         Some(Err(_)) => NO_ANSWER,
         None => {
-            if works.iter().any(|w| w.shown.is_broken) {
+            if sessions.lanes.iter().any(|l| l.unwritten > 0) {
+                NO_ANSWER
+            } else if works.iter().any(|w| w.shown.is_broken) {
                 NOT_WRITTEN
             } else {
                 0
