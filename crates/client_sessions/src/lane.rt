@@ -35,8 +35,8 @@ impl Lane {
 
     /// Counts a session; false where the count is at its end.
     fn note(&mut self, recorded: Recorded) -> bool
-        ensures { result ≡ true → self.new.sessions ≡ self.old.sessions + 1 }
-        ensures { result ≡ false → self.new.sessions ≡ self.old.sessions }
+        ensures counted { result ≡ true → self.new.sessions ≡ self.old.sessions + 1 }
+        ensures kept { result ≡ false → self.new.sessions ≡ self.old.sessions }
     {
         if self.sessions == u64::MAX {
             return false;

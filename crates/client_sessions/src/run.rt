@@ -29,6 +29,7 @@ pub struct Sessions<J> {
 }
 
 /// Nothing ran yet.
+#[tactic(auto, using(live_channel::proofs::OwnLaws::each_snoc))]
 fn lanes_of(alloc: Global) -> Result<Vec<Lane>, NoMemory>
     ensures { IfOk result (λ r. AllByRecursion (λ l. l.sessions ≡ 0) r.items) }
 {
