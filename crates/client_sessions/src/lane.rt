@@ -80,14 +80,7 @@ pub(crate) fn run_lane<
     J: SessionWork + Send + Drop,
     K: Sink + Drop,
     O: Opener<P, W, K>,
->(
-    rt: &R,
-    alloc: Global,
-    opener: &O,
-    hall: &Hall<J>,
-    threads: usize,
-    lane: &mut Lane,
-)
+>(rt: &R, alloc: Global, opener: &O, hall: &Hall<J>, threads: usize, lane: &mut Lane)
     requires few { threads ≤ 1024 }
     ensures served { AreServed J.does lane.old.sessions → AreServed J.does lane.new.sessions }
 {

@@ -15,8 +15,8 @@ pub use channel_client::{
     begin, cancel, exchange, finish, next, send, send_all, unary,
 };
 pub use hall::Over;
-pub use opening::{OpenError, Opener, Opening};
 pub use lane::Lane;
+pub use opening::{OpenError, Opener, Opening};
 pub use run::{Sessions, run_sessions};
 pub use session_meter::{Meter, Room};
 pub use work::{After, SessionWork};

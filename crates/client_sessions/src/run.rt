@@ -48,14 +48,7 @@ fn run_lanes<
     J: SessionWork + Send + Drop,
     K: Sink + Drop,
     O: Opener<P, W, K> + Sync,
->(
-    rt: &R,
-    alloc: Global,
-    opener: &O,
-    hall: &Hall<J>,
-    threads: usize,
-    lanes: &mut [Lane],
-)
+>(rt: &R, alloc: Global, opener: &O, hall: &Hall<J>, threads: usize, lanes: &mut [Lane])
     requires few { threads ≤ 1024 }
     ensures count { length lanes.new ≡ length lanes.old }
     ensures each { (i : ℕ) (d : Lane) → i < length lanes.old → AreServed J.does (slice_index_or lanes.old i d).sessions → AreServed J.does (slice_index_or lanes.new i d).sessions }
@@ -81,12 +74,7 @@ pub fn run_sessions<
     J: SessionWork + Send + Drop,
     K: Sink + Drop,
     O: Opener<P, W, K> + Sync,
->(
-    rt: &R,
-    alloc: Global,
-    opener: &O,
-    works: Vec<J>,
-) -> Result<Sessions<J>, NoMemory>
+>(rt: &R, alloc: Global, opener: &O, works: Vec<J>) -> Result<Sessions<J>, NoMemory>
     requires few { length works.items ≤ 1024 }
     ensures served { IfOk result (λ r. AllByRecursion (λ l. AreServed J.does l.sessions) r.lanes.items) }
 {
