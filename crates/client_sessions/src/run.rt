@@ -44,9 +44,9 @@ fn lanes_of(alloc: Global) -> Result<Vec<Lane>, NoMemory>
 fn run_lanes<
     R: Threads + Wait + Sync,
     P: Balancer + Send,
-    W: NamedWorld,
+    W: NamedWorld + Send,
     J: SessionWork + Send + Drop,
-    K: Sink + Drop,
+    K: Sink + Send + Drop,
     O: Opener<P, W, K> + Sync,
 >(rt: &R, alloc: Global, opener: &O, hall: &Hall<J>, threads: usize, lanes: &mut [Lane])
     requires few { threads ≤ 1024 }
@@ -70,9 +70,9 @@ fn run_lanes<
 pub fn run_sessions<
     R: Threads + Wait + Sync,
     P: Balancer + Send,
-    W: NamedWorld,
+    W: NamedWorld + Send,
     J: SessionWork + Send + Drop,
-    K: Sink + Drop,
+    K: Sink + Send + Drop,
     O: Opener<P, W, K> + Sync,
 >(rt: &R, alloc: Global, opener: &O, works: Vec<J>) -> Result<Sessions<J>, NoMemory>
     requires few { length works.items ≤ 1024 }

@@ -196,7 +196,6 @@ pub fn sum_up<R, E: Eprint>(
     nanos: u64,
 ) -> Result<()> {
     let works = sessions.works.as_slice();
-    say_sessions(rt, sessions)?;
     if let Some(end) = first_end(works) {
         say_end(rt, alloc, end)?;
     }
@@ -206,7 +205,7 @@ pub fn sum_up<R, E: Eprint>(
     } else if plan.is_verbose {
         eprintln!(rt; "* {} us", nanos / 1000)?;
     }
-    Ok(())
+    say_sessions(rt, sessions)
 }
 
 /// The status of the program.
