@@ -64,6 +64,22 @@ fn run_lanes<
     );
 }
 
+/// The same of a list.
+fn run_all_lanes<
+    R: Threads + Wait + Sync,
+    P: Balancer + Send,
+    W: NamedWorld + Send,
+    J: SessionWork + Send + Drop,
+    K: Sink + Send + Drop,
+    O: Opener<P, W, K> + Sync,
+>(rt: &R, alloc: Global, opener: &O, hall: &Hall<J>, threads: usize, lanes: &mut Vec<Lane>)
+    requires few { threads ≤ 1024 }
+    ensures count { length lanes.new.items ≡ length lanes.old.items }
+    ensures each { (i : ℕ) (d : Lane) → i < length lanes.old.items → AreServed J.does (slice_index_or lanes.old.items i d).sessions → AreServed J.does (slice_index_or lanes.new.items i d).sessions }
+{
+    run_lanes(rt, alloc, opener, hall, threads, lanes.as_mut_slice());
+}
+
 /// Does all work, each step over a handle of one session. Where a session is full to its mark, work that comes to its next step goes to the
 /// next session, which is opened when the first comes; the old one goes on until its last step is done, and is then shut down, and its
 /// memory given back. Up to four sessions are there at one time. May never return.
@@ -81,7 +97,7 @@ pub fn run_sessions<
     let threads = works.len();
     let mut lanes = lanes_of(alloc)?;
     let hall = Hall::new(alloc, works);
-    run_lanes(rt, alloc, opener, &hall, threads, lanes.as_mut_slice());
+    run_all_lanes(rt, alloc, opener, &hall, threads, &mut lanes);
     let (works, over) = hall.all();
     Ok(Sessions { works, over, lanes })
 }
