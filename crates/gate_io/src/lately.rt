@@ -68,7 +68,7 @@ pub(crate) struct Lately {
 /// What becomes of a dial.
 #[derive(Drop)]
 pub(crate) enum Turn {
-    /// It is made, and reported whether an answer comes, where there was memory for a note of it.
+    /// It is made, and it is noted whether an answer comes, where there was memory for a note of it.
     Made(Option<Arc<AtomicBool>>),
     /// It is not made.
     TooSoon,
@@ -115,7 +115,7 @@ fn again(alloc: Global, last: &mut LastDial, until: u64, now: u64) -> Turn {
     Turn::Made(reported)
 }
 
-/// Where the connection of a dial reports that an answer came; None where there is no memory.
+/// Where the connection of a dial notes that an answer came; None where there is no memory.
 fn reported_by(dial: &LastDial) -> Option<Arc<AtomicBool>> {
     dial.answered.clone().ok()
 }

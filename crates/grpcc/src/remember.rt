@@ -6,7 +6,7 @@ use std::alloc::Global;
 use std::io;
 use std::io::{ErrorKind, IsTerminal, Read, Write};
 
-/// How many bytes of the prefix of standard output are remembered: more than a fault line has.
+/// How many of the first bytes of standard output are remembered: more than a fault line has.
 const PREFIX: usize = 256;
 
 /// The status where a session had no room for an event.
@@ -88,12 +88,12 @@ impl<R: Read + IsTerminal, E: Eprint> Read for Remembering<R, E> {
     }
 }
 
-/// A writer that remembers the prefix of what it wrote, and why a write failed. Of a run over a network it counts how its calls ended.
+/// A writer that remembers the first bytes of what it wrote, and why a write failed. Of a run over a network it counts how its calls ended.
 #[derive(Drop)]
 pub struct PrefixKept<W> {
     writer: W,
     prefix: [u8; PREFIX],
-    /// How many bytes the prefix has.
+    /// How many bytes that is.
     count: usize,
     failure: Option<Failure>,
     tally: Option<RunTally>,
@@ -117,7 +117,7 @@ impl<W: Write> PrefixKept<W> {
 }
 
 impl<W> PrefixKept<W> {
-    /// The prefix of what was written.
+    /// The first bytes of what was written.
     fn first_bytes(&self) -> &[u8] {
         match self.prefix.as_slice().get(0..self.count) {
             Some(prefix) => prefix,
@@ -150,7 +150,7 @@ impl<W: Write> Write for PrefixKept<W> {
     }
 }
 
-/// Appends to a prefix of so many bytes what it has room for.
+/// Appends to these first bytes what they have room for.
 fn keep(prefix: &mut [u8; PREFIX], count: &mut usize, piece: &[u8]) {
     for byte in piece {
         if *count >= PREFIX {
@@ -209,7 +209,7 @@ fn sum_up<E: Eprint>(rt: &E, alloc: Global, ended: &Ended<'_>, tally: &Option<Ru
     }
 }
 
-/// Prints on standard error; where that fails, nothing is left to be notified it.
+/// Prints on standard error; where that fails, there is nobody left to say it to.
 fn print<E: Eprint>(rt: &E, text: &[u8]) {
     if let Ok(text) = std::str::from_utf8(text) {
         let _ = rt.eprint(text);

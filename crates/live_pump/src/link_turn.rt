@@ -42,7 +42,7 @@ fn tend_link<P: Post, C: Clock, T: Tender>(
     }
 }
 
-/// reports to the tender of bytes that came on a link.
+/// Reports to the tender that bytes came on a link.
 fn report_tender<C: Clock, T: Tender>(clock: &C, tender: &mut T, link: u32, came: bool)
     ensures { (T.turns tender.new ≡ T.turns tender.old) × (T.last_turn tender.new ≡ T.last_turn tender.old) }
 {

@@ -1,4 +1,4 @@
-// A channel in memory: it makes an entry of each event, and replies by what it is reported.
+// A channel in memory: it makes an entry of each event, and replies as it is made to.
 ghost use Rattle.std.specs.Prelude.{◌≡◌, ◌++◌, ◌∷◌, [], IfOk, OnErr, Some, false};
 ghost use Rattle.grpc_base.specs.Counts.{one_more};
 ghost use Rattle.grpc_base.specs.Posts.{AddsEntry, CountsErrors, MayReply, Posts, is_not_yet};

@@ -45,7 +45,7 @@ impl<P: Balancer> State<P> {
         }
     }
 
-    /// The news of one frame. The ledger is given how far the link is read before they are handled; ends are applied by the rows' places.
+    /// The news of one frame. The ledger gets how far the link is read before they are handled; ends are applied by the rows' places.
     fn receive_frame(&mut self, link: u32, read: u64, news: Items<News>) -> Result<(), NoMemory>
         ensures { OnOk result (self.new ≡ arrivals.handled link news (arrivals.read_to link read self.old)) }
     {
