@@ -1,4 +1,4 @@
--- What a journal reports of one link and of one call. Entries, calls, links and streams are numbered from 1.
+-- What a journal shows of one link and of one call. Entries, calls, links and streams are numbered from 1.
 use Rattle.std.specs.Prelude.{ℕ, Bool, false, Option, Some, None, List, [], ◌∷◌, ◌==◌, nat_le, if◌then◌else◌, flat_map}
 use Rattle.std.specs.List.{list_any}
 use Rattle.std.specs.Option.{option_map_or}

@@ -76,7 +76,7 @@ abbrev pub Runs : CoreSeen → List Stamped → CoreSeen → Type 0
 Runs old [] new = new ≡ old
 Runs old (s ∷ events) new = (next : CoreSeen) × (reply : Reply) × Steps old next s reply × Runs next events new
 
--- what a look at a channel reports: its state after the last step, and what it waits for
+-- what a look at a channel shows: its state after the last step, and what it waits for
 abbrev pub view_of : CoreSeen → View
 view_of core = record {
   state = last_state core.journal.entries;

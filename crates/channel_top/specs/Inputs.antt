@@ -1,4 +1,4 @@
--- What each mode reads. By it is given how a mode ends, where no device fails.
+-- What each mode reads. By it is said how a mode ends, where no device fails.
 -- Example: `migrate` reads a report. It ends with status 0, or with 6 for want of memory. Given the line `channel 3 x`, which is none, it ends with 3 or 6.
 use Rattle.std.specs.Prelude.{◌≡◌, ◌⊎◌, true, ℕ, IsSomeAnd, Option, Some, List, [], Ok}
 use Rattle.grpc_base.specs.Kinds.{has_kind}

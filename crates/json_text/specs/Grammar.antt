@@ -172,6 +172,6 @@ IsObject v = ⊥
 abbrev pub IsText : Tree → List ℕ → Type 0
 IsText v t = Ended IsBlank (IsValue v) t × IsObject v
 
--- The prefix of a JSON text: some further bytes make one of these.
+-- A prefix of a JSON text: some further bytes make one of these.
 abbrev pub CanEnd : List ℕ → Type 0
 CanEnd p = (more : List ℕ) × (v : Tree) × IsText v (p ++ more)
