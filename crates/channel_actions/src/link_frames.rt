@@ -8,7 +8,7 @@ pub fn links_stay()
     ensures all { LinksStay }
 {}
 
-/// An action cannot be distinguished by the links on which it does not bear, nor can a list of actions.
+/// An action makes no difference to the links on which it does not bear, nor does a list of actions.
 pub fn actions_are_untold()
     ensures nothing { NothingIsReported }
     ensures joins { DistinguishingJoins }

@@ -53,7 +53,7 @@ nothing_given room links link lines (Some d) after lines_after cannot gives =
     let none : next wire lines ≡ None = nothing_next room wire.broken (next wire lines) gives.drains.may (sym (ap (can_drain_at lines) gives.was) ∙ cannot) in
     gives.drains.sends.whole ∙ nothing_sent wire lines gives.drains.sends.frames gives.after.link.link.wire lines_after none gives.drains.sends.sends
 
--- a drain gives nothing of a link of which it is reported that it cannot be drained
+-- a drain gives nothing of a link of which a look shows that it cannot be drained
 pub gives_nothing : (link room : ℕ) (s t : StateSeen) (r : Reply) → can_drain_at (lines_of s.book) (numbered s.links link) ≡ false → DrainLeaves link room s r t → r ≡ reply.Octets []
 gives_nothing link room s t r cannot leaves =
     leaves.reply_is ∙ ap (λ o. reply.Octets o) (nothing_given room s.links link (lines_of s.book) leaves.drained t.links (lines_of leaves.fed) cannot leaves.gives)
@@ -109,7 +109,7 @@ some_given room links link lines (Some d) after lines_after can enough fits give
     let sends = gives.drains.sends in
     some_sent room wire lines x.0 d.octets sends.frames gives.after.link.link.wire lines_after x.1 (fits gives.before x.0 gives.was x.1) sends.sends sends.whole sends.stops
 
--- and it gives some bytes of one of which it is reported that it can, with room for the next frame
+-- and it gives some bytes of one of which a look shows that it can, with room for the next frame
 pub gives_some : (link room : ℕ) (s t : StateSeen) (r : Reply) → can_drain_at (lines_of s.book) (numbered s.links link) ≡ true → nat_le 16393 room ≡ true
     → NextFits room (lines_of s.book) (numbered s.links link) → DrainLeaves link room s r t → (octets : List ℕ) × (r ≡ reply.Octets octets) × (0 < length octets)
 gives_some link room s t r can enough fits leaves =

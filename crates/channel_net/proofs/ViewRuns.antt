@@ -71,7 +71,7 @@ sees-along : (old new : List SubRecord) (addresses : List Address) (ps : List Po
 sees-along old new addresses ps None v x = tt
 sees-along old new addresses ps (Some live) v x = (x.0, (x.1.0, x.1.1 ∙ sym v))
 
--- a subchannel changed, and the rack was reported
+-- a subchannel changed, and the rack was given its state
 abbrev reported-net : (SubRecord → SubRecord) → ℕ → Option Conn → NetSeen → List OwnLink → NetSeen
 reported-net f sub state n links = record { asker = reported state sub n.asker; board = changed_at f n.board sub; current = n.current; pending = n.pending; links = links }
 

@@ -17,7 +17,7 @@ use Rattle.channel_top.specs.declared.words.ModeName.{ModeName}
 use Rattle.channel_top.specs.declared.words.ModeName.TheVariants as name
 use Rattle.channel_top.specs.Words.{WordsAreWrong, AskForText, AskPlainly, IsAlone, IsAskWord, IsLiveBy, IsLoadBy, IsRelayBy, IsServeBy, Runs, RunsPlain, app_for, mode_command, dashes, kinds_at, kinds_of, mode_named, mode_of, name_of, name_text}
 
--- each command is of the form whose answers clap reports exactly
+-- each command is of the form whose answers clap states exactly
 pub is_free : (m : Option ModeName) → is_simple_and_free (app_for m) ≡ true
 unfolding clap_on_literals app_for mode_command
 is_free (Some name.Replay) = refl

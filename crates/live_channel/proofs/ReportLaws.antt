@@ -26,7 +26,7 @@ use Rattle.live_channel.proofs.SeatLaws.{owns_between}
 pub new_fits : (alloc : Global) (authority : List ℕ) (policies : List PolicySeen) (core : CoreSeen) → IsNewBy alloc authority policies core → length core.journal.entries ≤ 1048576
 new_fits alloc authority policies core new = omega (arith, ap length new.journal)
 
--- the channel of a lock whose origin reports this authority and these policies: the events that it was given are a session
+-- the channel of a lock whose origin says this authority and these policies: the events that it was given are a session
 pub session_at : (authority : List ℕ) (policies : List PolicySeen) (core : CoreSeen) (origin : List ℕ) → origin ≡ origin_of authority policies → HasRun origin core
     → (events : List Stamped) × IsSession authority policies events core.journal (ledger_in core)
 session_at authority policies core origin is has =
@@ -39,7 +39,7 @@ run_still : (lock origin : List ℕ) (core : CoreSeen) → lock ≡ origin → I
 run_still lock origin core same (inl run) unspent = subst (λ (o : List ℕ). HasRun o core) (sym same) run
 run_still lock origin core same (inr spent) unspent = absurd (cc)
 
--- what was reported of the channel under the lock
+-- what was said of the channel under the lock
 pub reported_ok : (r : Ran) (t : List ℕ) (result : Result Unit ReportFault) (before after : SeatSeen Entry) (taken taken' : Option (List ℕ)) (faults faults' : ℕ) (core : CoreSeen) (lock : LockId) → before.lock ≡ lock → IsRunning lock.origin core → StartsWith core.journal.entries before.seen → after.seen ≡ core.journal.entries → after.own ≡ before.own → after.parts ≡ before.parts
     → ReportsThat r t core result taken taken' faults faults' → OnOk result (WritesAll (ReportsAt r t before after) taken taken')
 reported_ok r t (Err fault) before after taken taken' faults faults' core lock at running sees seen own parts reports_that = tt

@@ -127,7 +127,7 @@ pub same_after : (head x y : List ℕ) → head ++ x ≡ head ++ y → x ≡ y
 same_after [] x y e = e
 same_after (h ∷ head) x y e = (let tail : head ++ x ≡ head ++ y = (cc) in same_after head x y tail)
 
--- bytes that are reported by their spelling
+-- bytes that are known by their spelling
 pub bytes_from : (v : List ℕ) → IsBytes v → AllByRecursion (λ b. b < 256) v
 bytes_from v all = recursion_from_All (λ b. b < 256) v all
 

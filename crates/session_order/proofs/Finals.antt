@@ -1,4 +1,4 @@
--- Where calls are notified of something that leaves alone which ends count and which attempts are over, it is as final as before which end is so.
+-- Where something is posted to calls that leaves alone which ends count and which attempts are over, it is as final as before which end is so.
 use Rattle.std.proofs.Common.{◌≡◌, ◌-◌, ◌∷◌, ◌||◌, ◌&&◌, not, nat_le, ap, refl, ◌∙◌, Bool, List, [], Option, None, Some, ℕ, cond, filter, if◌then◌else◌, is_none, is_some, max, slice_get, suc, zero}
 use Rattle.std.specs.Option.{option_map_or}
 use Rattle.std.specs.Prelude.{filter_map, fold}
@@ -50,7 +50,7 @@ rows_same : (g h : Mark → Option ℕ) → ((m : Mark) → g m ≡ h m) → (ma
 rows_same g h same [] = refl
 rows_same g h same (m ∷ marks) = rows_by m g h marks (h m) (same m) refl (rows_same g h same marks)
 
--- another session with the same attempts, configs and runs, where calls were notified of something
+-- another session with the same attempts, configs and runs, where something was posted to calls
 module _ (s u : Seen) (cs : List Call) (messages : Call → List (List ℕ)) (finished : Call → Bool) (taken : Call → ℕ) (end_taken : Call → Bool)
     (counts : (k : ℕ) (a : Attempt) → numbered s.attempts k ≡ Some a → (e : RowEnd) → counts_by a (record u { calls = cs; attempts = s.attempts; configs = s.configs; runs = s.runs }) e ≡ counts_by a s e) where
   abbrev t : Seen

@@ -120,7 +120,7 @@ module _ (s : Seen) (reached : IsReached s) (c : Call) (own : numbered s.calls c
       other (action.FrameWritten link x) (ap (λ (p : Option Link). is_number c.number (option_and_then (call_opened x s) p)) got) (ap (holds (stream_of_sent c s x)) got)
   written_by link x next (Some l) got = into (action.FrameWritten link x) 0 (written_goes s reached c own o current link x next l got)
 
-  -- an action that only reports to a call something
+  -- an action that only posts something to a call
   reported : (a : Action) (f : Call → Call) (call : ℕ) → ((d : Call) → own_key (f d) ≡ own_key d) → is_quiet a ≡ true → (after_in o a s).calls ≡ changed f call s.calls
       → (after_in o a s).attempts ≡ s.attempts → (after_in o a s).links ≡ s.links → Continues s (after a s) c 0
   reported a f call same quiet calls rows lines =

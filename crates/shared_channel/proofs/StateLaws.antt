@@ -1,4 +1,4 @@
--- The state that a history reports, and what one entry more does to it.
+-- The state that a history shows, and what one entry more does to it.
 use Rattle.std.proofs.Common.{◌≡◌, ◌≤◌, ◌<◌, ◌∙◌, ◌↔◌, ℕ, ◌+◌, Bool, true, false, ◌||◌, Result, Ok, Err, IfOk, List, [], ◌∷◌, ◌++◌, length, refl, sym, ap, subst, inl, length-append, arith}
 use Rattle.std.proofs.Math.Nat.{lt_of_not-le}
 use Rattle.grpc_base.specs.Conns.{conn_number}
@@ -97,7 +97,7 @@ watched_more shut shuts es new e more is kept fits =
       omega (arith, length-append es (e ∷ []), fits),
     )
 
--- what an answer reports
+-- what an answer says
 pub ok_of : {A E : Type 0} (P : A → Type 0) (r : Result A E) (x : A) → r ≡ Ok x → IfOk r P → P x
 ok_of {A = A} {E = E} P r x is reported = let Q : Result A E → Type 0 = λ s. IfOk s P in subst Q is reported
 

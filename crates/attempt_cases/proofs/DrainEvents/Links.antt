@@ -1,4 +1,4 @@
--- The links after a drain: the one that was drained agrees, with its readers and the lines of the session; and the others cannot distinguish.
+-- The links after a drain: the one that was drained agrees, with its readers and the lines of the session; and the others see no difference.
 use Rattle.std.proofs.Common.{◌≡◌, ◌-◌, ◌∷◌, ◌==◌, ◌||◌, ap, refl, sym, ◌∙◌, Bool, false, List, [], Option, None, Some, ℕ, drop, is_some, length, map, min, slice_get}
 use Rattle.std.proofs.Math.Nat.{zero-min}
 use Rattle.std.specs.Option.{option_map_or}
@@ -123,7 +123,7 @@ drained_slot l s t before slot sent g kept goes sees is streams reads fresh =
       };
     }
 
--- what is written is reported by the other links neither
+-- and what is written makes no difference to the other links
 pub all_kept : (actions : List Action) (s t : Seen) → IsKept s → Does actions s t → SessionsAreKept actions s
 all_kept [] s t kept does = kept
 all_kept (a ∷ actions) s t kept does = (kept, all_kept actions (after a s) t (kept_stays s a kept does.0) does.1)

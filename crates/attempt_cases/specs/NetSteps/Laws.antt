@@ -12,7 +12,7 @@ use Rattle.session_actions.specs.Words.{numbered}
 use Rattle.session_actions.specs.declared.link.Link.{Link}
 use Rattle.session_actions.specs.declared.seen.Seen.{Seen}
 
--- a link that is as it was cannot distinguish
+-- a link that is as it was sees no difference
 abbrev pub LinksCannotDistinguish : Type 0
 LinksCannotDistinguish =
     (touched : Numbers) (s t : Seen) → IsBoarded s t

@@ -138,7 +138,7 @@ and_second false b e = absurd (cc)
 pub cut_refused : (end : RowEnd) → is_cut end.cause ≡ true → is_refused end ≡ true → ⊥
 cut_refused end e h = cut_by_peer end.cause e (and_second end.unseen (is_by_peer end.cause) h)
 
--- a step that writes no stamp and reports no end
+-- a step that writes no stamp and is given no end
 pub ended_case : (owner : ℕ) (rows : List Row) (place number : ℕ) (end : RowEnd) → is_by_peer end.cause ≡ true → IsFollowedAt owner rows place number → EndsSo owner rows place number end → IsEndedIn owner rows place end
 ended_case owner rows place number end by_peer f (inl fresh) = absurd (fresh.unfollowed by_peer f)
 ended_case owner rows place number end by_peer f (inr has) = has

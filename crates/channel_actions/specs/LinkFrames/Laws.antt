@@ -4,7 +4,7 @@
 -- that the links 1 and 2 agree again has all of `SeesLinks`.
 -- The laws, in the order of this file:
 -- 1. Links that are not touched agree as before.
--- 2. What cannot be distinguished joins; and an action cannot be distinguished by the links on which it does not bear; nor can a list of actions.
+-- 2. What makes no difference joins; and an action makes no difference to the links on which it does not bear; nor does a list of actions.
 use Rattle.std.specs.Prelude.{List, Some, [], false, length, true, ℕ, ◌∷◌, ◌≡◌}
 use Rattle.channel_actions.specs.Links.{HasLink, SeesLinks}
 use Rattle.channel_core.specs.States.{StateSeen}
@@ -41,11 +41,11 @@ NothingIsReported = (touched : Numbers) (s : Seen) → CannotDistinguish touched
 abbrev pub DistinguishingJoins : Type 0
 DistinguishingJoins = (touched : Numbers) (s t u : Seen) → CannotDistinguish touched s t → CannotDistinguish touched t u → CannotDistinguish touched s u
 
--- what more links than these cannot distinguish
+-- what makes no difference to more links than these
 abbrev pub FewerDistinguish : Type 0
 FewerDistinguish = (touched more : Numbers) (s t : Seen) → ((link : ℕ) → more link ≡ false → touched link ≡ false) → CannotDistinguish touched s t → CannotDistinguish more s t
 
--- an action cannot be distinguished by the links on which it does not bear
+-- an action makes no difference to the links on which it does not bear
 abbrev pub ActionsAreUntold : Type 0
 ActionsAreUntold = (a : Action) (s : Seen) → IsKept s → IsOrderly a s → CannotDistinguish (bears_on a s) s (after a s)
 

@@ -158,7 +158,7 @@ module _ (s : Seen) (a : Attempt) (index number : ℕ) (at : slice_get s.attempt
       ∙ ap (λ (xs : List Attempt). suc (length (filter (pending s) xs))) (sym attempts_are)
       ∙ ap (λ (xs : List Attempt). suc (length xs)) (sym (filter_same (pending z) (pending s) (λ b. ap (λ (o : Option ℕ). is_some o) (codes b)) z.attempts))
 
-  -- no link can distinguish it but by what it owes
+  -- it makes no difference to a link but by what that owes
   untold : CannotDistinguish (λ link. false) s (with_attempt with_reset_queued a.place s)
   untold =
       attempt_changed (λ link. false) with_reset_queued a.place s

@@ -245,7 +245,7 @@ module _ (link : ℕ) (piece : List ℕ) (x : StateSeen) (o : OpenEntry) (s : Se
   pub live : (more ≡ [] → ⊥) → is_committed_live a.place has.slot.call ≡ true
   live some_more = calls.committed_live (coming link piece x) o s h0 going_x quiescent_s a on.there out_a (headed some_more)
 
-  -- the channel is reported
+  -- the channel after the report
   abbrev pub news_ : EndNews
   news_ = end_news out (seen_at r)
 

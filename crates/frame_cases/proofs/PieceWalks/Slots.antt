@@ -1,4 +1,4 @@
--- The slot of a link that is being handled: what it keeps, what it is reported, and what is left of it.
+-- The slot of a link that is being handled: what it keeps, what it reports, and what is left of it.
 use Rattle.std.proofs.Common.{◌≡◌, ◌==◌, ◌||◌, ap, refl, sym, ◌∙◌, Bool, true, false, List, [], Option, None, Some, ℕ, if◌then◌else◌, is_some, length, not}
 use Rattle.std.proofs.lemmas.Bool.{eqb-false}
 use Rattle.std.specs.Option.{option_map}

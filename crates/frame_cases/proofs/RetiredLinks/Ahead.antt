@@ -276,7 +276,7 @@ module _ (link : ℕ) (piece : List ℕ) (x : StateSeen) (o : OpenEntry) (s : Se
       let got = some_of (slice_get s.attempts i) b (row_then later (suc i)) (sym (rows_at later (suc i) s.attempts) ∙ to) in
       owed_off_by i q got.0 b (is_one_of (places later) (suc i)) off got.1.0 got.1.1 refl))
 
-  -- the others cannot distinguish
+  -- the others see no difference
   alike_by : (i : ℕ) (a b : Attempt) (c : Bool) → slice_get s.attempts i ≡ Some a → b ≡ row_then later (suc i) a → is_one_of (places later) (suc i) ≡ c
       → IsAlike (touched link) t u0 a b
   alike_by i a b true at same e =

@@ -1,4 +1,4 @@
--- What each kind of action does, distinguished by no link on which it does not bear: to calls, to attempts, to links.
+-- What each kind of action does, which makes no difference to a link on which it does not bear: to calls, to attempts, to links.
 use Rattle.std.proofs.Common.{◌≡◌, ◌+◌, ◌++◌, ◌∷◌, ◌&&◌, ◌==◌, ◌≤◌, ap, arith, length-append, refl, subst, sym, ◌∙◌, Bool, true, false, List, [], Option, None, Some, ℕ, if◌then◌else◌, is_none, is_some, length, map, not, option_and_then, slice_get}
 use Rattle.std.proofs.Math.Nat.{le_refl}
 use Rattle.std.proofs.lemmas.Bool.{eqb-false, eqb-true, or_parts}
@@ -138,7 +138,7 @@ pub attempts_of_config : (x : Result Config ConfigFault) (s : Seen) → (config_
 attempts_of_config (Ok config) s = attempts_of_held config config.throttle (replied reply.Done (resolver_answered s))
 attempts_of_config (Err fault) s = refl
 
--- what is done to runs when an attempt ends is distinguished by no link
+-- what is done to runs when an attempt ends makes no difference to a link
 more_of : (s : Seen) (place : ℕ) (b : Bool) (o : Option ℕ)
     → IsSameSo s (if b then option_map_or (λ (run : ℕ). record s { runs = changed (λ (u : ThrottleRun). record u { ends = u.ends ++ place ∷ [] }) run s.runs }) o s else s)
 more_of s place false o = record { calls = refl; attempts = refl; configs = refl; links = refl }

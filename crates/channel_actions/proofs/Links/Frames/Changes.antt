@@ -61,7 +61,7 @@ module _ (touched : Numbers) where
   pub all_same : (s t : Seen) → IsSameSo s t → CannotDistinguish touched s t
   all_same s t is = same_but_calls s t is.links is.attempts (all_go touched s t (goes_same s t is.calls is.configs) s.attempts)
 
-  -- a call changes, but not in what a link can distinguish
+  -- a call changes, but not in what a link sees
   pub record IsMild (f : Call → Call) : Type 0 where
     pub config : (c : Call) → (f c).config ≡ c.config
     pub request : (c : Call) → (f c).request ≡ c.request

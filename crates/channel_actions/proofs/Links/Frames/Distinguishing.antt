@@ -1,4 +1,4 @@
--- What cannot be distinguished: nothing, and one thing after another.
+-- What makes no difference: nothing, and one thing after another.
 use Rattle.std.proofs.Common.{◌≡◌, ◌∷◌, refl, ◌∙◌, true, false, List, [], Some, ℕ}
 use Rattle.std.proofs.Math.Nat.{le_refl, le_trans}
 use Rattle.std.specs.List.{AllByRecursion}
@@ -86,7 +86,7 @@ module _ (touched : Numbers) where
 pub distinguishing_joins : DistinguishingJoins
 distinguishing_joins touched s t u f g = joined touched s t u f g
 
--- fewer can distinguish
+-- to fewer it makes none either
 module _ (touched more : Numbers) (fewer : (link : ℕ) → more link ≡ false → touched link ≡ false) (s t : Seen) where
   fewer_alike : (as_ bs : List Attempt) → AttemptsAreAlike touched s t as_ bs → AttemptsAreAlike more s t as_ bs
   fewer_alike [] [] are = tt

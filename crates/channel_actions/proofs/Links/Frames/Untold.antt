@@ -1,4 +1,4 @@
--- An action cannot be distinguished by the links on which it does not bear.
+-- An action makes no difference to the links on which it does not bear.
 use Rattle.std.proofs.Common.{◌≡◌, ◌+◌, ◌++◌, ◌∷◌, ◌&&◌, ◌||◌, ap, refl, subst, sym, ◌∙◌, Bool, true, false, List, [], Option, None, Some, ℕ, zero, suc, cond, filter, is_none, map, slice_get}
 use Rattle.call_actions.proofs.CallsApart.Acts.{IsIn, in_filter, others_stay}
 use Rattle.call_actions.proofs.CallsApart.Plain.{still}
