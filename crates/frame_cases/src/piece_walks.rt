@@ -6,7 +6,7 @@ use channel_actions::sound_buffers::buffers_stay_sound;
 use channel_actions::sound_calls::calls_stay_sound;
 use event_cases::few_streams::attempts_are_few;
 
-/// A piece that arrives on a link that is not gone is its frames, one after the other, however its bytes were cut: where each frame, and bytes that break the link, lead
+/// A piece that arrives on a link that is not gone is its frames, one after the other, however its bytes were cut. Where each frame, and bytes that break the link, lead
 /// from a point to a point, the piece is answered with Done, and channel and session agree after it. What is no whole frame yet is kept by both (RFC 9113, section 4.1).
 pub fn pieces_are_received()
     ensures { PiecesAreReceived }

@@ -83,7 +83,7 @@ impl Lately {
     }
 
     /// Whether a dial to an address is made at a moment, which is given up at the moment `until`. It is not where the last one has just run to
-    /// its end, or where the last three connections to it were of no use: so an address that answers nothing, or that ends each connection
+    /// its end, or where the last three connections to it were of no use. So an address that answers nothing, or that ends each connection
     /// right after its SETTINGS, is seen to fail. Only one dial after such an end is not made.
     pub(crate) fn dial(&mut self, to: Address, until: u64, now: u64) -> Turn {
         for last in self.dials.iter_mut() {

@@ -99,7 +99,7 @@ impl Link {
     }
 
     /// Takes a piece up to the byte that ends a frame or shows a fault, or else all of it, and reports the news of that
-    /// one frame; so a caller can place and reset before it hands in the rest. Gone comes exactly where the link is
+    /// one frame. So a caller can place and reset before it hands in the rest. Gone comes exactly where the link is
     /// broken.
     pub fn arrived(&mut self, piece: &[u8]) -> Result<Arrival, LinkFault>
         requires { 0 < length piece.now }
