@@ -1,4 +1,4 @@
--- What a session did since, in which some links see no difference: on each of them the same passed, the same bytes came, and it owes the same; the attempts that are
+-- What a session did since, in which some links see no difference: on each of them the same passed, the same bytes came, and it owes the same. The attempts that are
 -- outstanding on it are the same, with the same streams; and of their calls no message was taken back, and the longest message that a response may have is the same.
 -- Example: link 1 has attempt 1, and link 2 has attempt 2, which is cut off, and its stream is reset. Link 1 sees no difference: attempt 1 is as before.
 use Rattle.std.specs.List.{AllByRecursion}
