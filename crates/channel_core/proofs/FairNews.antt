@@ -214,23 +214,3 @@ fair_kept (news.TooLarge tag seen) ends fair all = all
 pub fair_ends : (ns : List News) (ends : List (ℕ × EndNews)) → AreFair ns → AreFairEnds ends → AreFairEnds (ends_kept ns ends)
 fair_ends [] ends fair all = all
 fair_ends (n ∷ ns) ends fair all = fair_ends ns (end_kept n ends) fair.1 (fair_kept n ends fair.0 all)
-
--- no end that is reported is a cut
-pub own_ends : (reported : News) → IsFair reported → (tag : ℕ) (end : EndNews) → reported ≡ news.Ended tag end → is_cut end.cause ≡ false
-own_ends (news.Ended t x) fair tag end e = (let same : x ≡ end = (cc) in subst (λ (y : EndNews). is_cut y.cause ≡ false) same fair.own)
-own_ends news.Ready fair tag end e = absurd (let no : ⊥ = (cc) in no)
-own_ends news.Retiring fair tag end e = absurd (let no : ⊥ = (cc) in no)
-own_ends (news.Broken why) fair tag end e = absurd (let no : ⊥ = (cc) in no)
-own_ends (news.Head t meta seen) fair tag end e = absurd (let no : ⊥ = (cc) in no)
-own_ends (news.Message t octets seen) fair tag end e = absurd (let no : ⊥ = (cc) in no)
-own_ends (news.TooLarge t seen) fair tag end e = absurd (let no : ⊥ = (cc) in no)
-
--- an end that a transparent retry may follow forbids none
-pub asking_ends : (a : Attempts) (reported : News) → IsFair reported → (tag : ℕ) (end : EndNews) → reported ≡ news.Ended tag end → is_followed a end.cause end.unseen ≡ true → is_stop end.pushback ≡ false
-asking_ends a (news.Ended t x) fair tag end e = (let same : x ≡ end = (cc) in subst (λ (y : EndNews). is_followed a y.cause y.unseen ≡ true → is_stop y.pushback ≡ false) same (fair.asks a))
-asking_ends a news.Ready fair tag end e = absurd (let no : ⊥ = (cc) in no)
-asking_ends a news.Retiring fair tag end e = absurd (let no : ⊥ = (cc) in no)
-asking_ends a (news.Broken why) fair tag end e = absurd (let no : ⊥ = (cc) in no)
-asking_ends a (news.Head t meta seen) fair tag end e = absurd (let no : ⊥ = (cc) in no)
-asking_ends a (news.Message t octets seen) fair tag end e = absurd (let no : ⊥ = (cc) in no)
-asking_ends a (news.TooLarge t seen) fair tag end e = absurd (let no : ⊥ = (cc) in no)

@@ -263,11 +263,6 @@ module _ (keeps : rack.RackKeeps) (policies : List PolicySeen) where
       let first : NetLeft = steps.settle_round (steps.left_of n) in
       seen-further (may_take_over first.net.asker.rack) first (seen-settle-round (steps.left_of n) x)
 
-  -- a result
-  emptied-of : (ps : List PolicySeen) (n : Option Live) (i : ℕ) → is_at i n ≡ false → slice_get (changed_of emptied n ps) i ≡ slice_get ps i
-  emptied-of ps None i e = refl
-  emptied-of ps (Some later) i e = get-other emptied ps later.place i (eqb-false later.place i e)
-
   -- there is a policy at a place, whatever was dropped
   dropped-by : (b : Bool) (ps : List PolicySeen) (j i : ℕ) (q : PolicySeen) → (j == i) ≡ b → slice_get ps i ≡ Some q → (p : PolicySeen) × (slice_get (changed emptied ps j) i ≡ Some p)
   dropped-by true ps j i q same e =

@@ -185,22 +185,6 @@ splits_empty {X} seat_of none seat is = subst (λ (l : List X). Splits seat (map
 pub fresh_at : (lock other : LockId) (seats : List (SeatSeen Entry)) → lock ≡ other → AllByRecursion (IsFresh other) seats → AllByRecursion (IsFresh lock) seats
 fresh_at lock other seats same all = subst (λ (l : LockId). AllByRecursion (IsFresh l) seats) (sym same) all
 
--- one more
-pub splits_more : {X : Type 0} (seat_of : X → SeatSeen Entry) (start before after : SeatSeen Entry) (olds news : List X) (x : X) → news ≡ olds ++ x ∷ [] → 2 ≤ before.parts → after ≡ record before { parts = before.parts - 1 } → IsFresh before.lock (seat_of x)
-    → Splits start (map seat_of olds) before → Splits start (map seat_of news) after
-splits_more {X} seat_of start before after olds news x is some same fresh splits =
-    let all : map seat_of news ≡ map seat_of olds ++ seat_of x ∷ [] = ap (map seat_of) is ∙ map-append seat_of olds (x ∷ []) in
-    let parts : after.parts ≡ before.parts - 1 = ap (λ (s : SeatSeen Entry). s.parts) same in
-    let long : length (map seat_of olds ++ seat_of x ∷ []) ≡ length (map seat_of olds) + 1 = length-append (map seat_of olds) (seat_of x ∷ []) in
-    let before_parts = splits.parts in
-    subst (λ (seats : List (SeatSeen Entry)). Splits start seats after) (sym all) (record {
-      lock = ap (λ (s : SeatSeen Entry). s.lock) same ∙ splits.lock;
-      seen = ap (λ (s : SeatSeen Entry). s.seen) same ∙ splits.seen;
-      own = ap (λ (s : SeatSeen Entry). s.own) same ∙ splits.own;
-      parts = omega (arith, parts, long, before_parts, some);
-      fresh = each_snoc (IsFresh start.lock) (map seat_of olds) (seat_of x) splits.fresh (subst (λ (l : LockId). IsFresh l (seat_of x)) splits.lock fresh);
-    })
-
 pub map_length : {X : Type 0} (seat_of : X → SeatSeen Entry) (jobs : List X) → length (map seat_of jobs) ≡ length jobs
 map_length seat_of [] = refl
 map_length seat_of (job ∷ jobs) = ap suc (map_length seat_of jobs)

@@ -117,14 +117,6 @@ module _ (s u : Seen) (cs : List Call) (messages : Call → List (List ℕ)) (fi
   last_same : (c : Call) → last_counted (d c) t ≡ last_counted c s
   last_same c = ap last_of (rows_same (λ (m : Mark). counted_row t m.what) (λ (m : Mark). counted_row s m.what) (λ m. row_same m.what) c.marks)
 
-  going_one : ((a : Attempt) → is_over a t ≡ is_over a s) → (c : Call) (a : Attempt) → (is_of c a && (is_outstanding a || is_queued a t)) ≡ (is_of c a && (is_outstanding a || is_queued a s))
-  going_one overs c a = ap (λ (x : Bool). is_of c a && (is_outstanding a || ((is_none a.row.placed && is_none a.row.ended) && not x))) (overs a)
-
-  pub going_same : ((a : Attempt) → is_over a t ≡ is_over a s) → (c : Call) → has_going (d c) t ≡ has_going c s
-  going_same overs c =
-      any_same (λ (a : Attempt). is_of c a && (is_outstanding a || is_queued a t)) (λ (a : Attempt). is_of c a && (is_outstanding a || is_queued a s))
-      (going_one overs c) s.attempts
-
   final_by : (p : CallPlan) (c : Call) → has_going (d c) t ≡ has_going c s → (a : Attempt) (e : RowEnd) → is_final_by p (d c) a t e ≡ is_final_by p c a s e
   final_by plan.None c going a e = refl
   final_by (plan.Retry p) c going a e = refl

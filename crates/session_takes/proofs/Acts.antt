@@ -150,15 +150,6 @@ module _ (s : Seen) (reached : IsReached s) (c : Call) (own : numbered s.calls c
 
 -- between two entries only an entry may begin
 module _ (s : Seen) (reached : IsReached s) (c : Call) (own : numbered s.calls c.number ≡ Some c) where
-  idle_goes : Continues s s c 0
-  idle_goes = record {
-    call = c;
-    there = own;
-    number = refl;
-    taken = no_more c.taken;
-    step = step_moves c c s s refl (same_moves (is_some c.end) s s (commitment c s) (commitment c s) refl (λ k e. refl));
-    settles = λ h. h;
-  }
 
   never_idle : (a : Action) → s.current ≡ None → following s ≡ Some a → ⊥
   never_idle a none next = let bad : ◌≡◌ {A = Option Action} None (Some a) = sym (ap (option_and_then (following_in s)) none) ∙ next in (cc)

@@ -134,10 +134,6 @@ lives_by true true waits e f = refl
 lives_by true false waits e f = absurd (cc)
 lives_by false out waits e f = absurd (cc)
 
-and_off : (a b : Bool) → a ≡ false → (a && b) ≡ false
-and_off true b e = absurd (cc)
-and_off false b e = refl
-
 -- an attempt on another link is not placed on this one
 off_by : (n k : ℕ) (p : Option Placed) (at : Placed) → p ≡ Some at → at.link ≡ k → (n ≡ k → ⊥) → holds (λ (q : Placed). q.link == n) p ≡ false
 off_by n k None at e here other = absurd (cc)
