@@ -7,3 +7,4 @@ pub mod Sizes
 pub mod Moves
 pub mod Answering
 pub mod Heads
+pub mod Bounds
