@@ -14,5 +14,7 @@ mod live_pump_tests;
 mod live_run_tests;
 #[cfg(test)]
 mod names;
+#[cfg(test)]
+mod tender_tests;
 
 pub use channel::{Channel, DIALED, DIALED_UNTIL, FULL, Plan};

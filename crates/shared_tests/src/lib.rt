@@ -1,6 +1,10 @@
-// Tests of the channel that threads share: Takes that are polled, and handles that are split and joined.
+// Tests of the channel that threads share: Takes that are polled, handles that are split and joined, and links that are given up.
 #![tactic(auto)]
 
+#[cfg(test)]
+mod close_tests;
+#[cfg(test)]
+mod given_up_tests;
 #[cfg(test)]
 mod handle_tests;
 #[cfg(test)]
