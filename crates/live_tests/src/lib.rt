@@ -3,6 +3,8 @@
 
 mod channel;
 #[cfg(test)]
+mod client_calls_tests;
+#[cfg(test)]
 mod dial_tests;
 #[cfg(test)]
 mod dns_watch_tests;

@@ -2,6 +2,8 @@
 #![tactic(auto)]
 
 #[cfg(test)]
+mod client_tests;
+#[cfg(test)]
 mod close_tests;
 #[cfg(test)]
 mod given_up_tests;
