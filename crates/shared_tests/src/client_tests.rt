@@ -126,8 +126,17 @@ fn a_unary_call_reports_why_it_has_no_answer(rt: HostRuntime) -> Result<(), Fail
     Ok(())
 }
 
+/// Whether a step ended for want of memory, with the channel as it was.
+fn is_without_memory<T>(came: &Result<T, CallError>) -> bool {
+    matches!(
+        came,
+        Err(CallError::Failed(PostError::NoMemory { spent: false }))
+    )
+}
+
+/// A call keeps at most 262,144 bytes of messages, with five bytes before each, until an attempt is committed.
 #[test]
-fn a_call_that_nothing_can_come_for_reports_that_memory_was_wanting(
+fn a_step_that_can_only_wait_ends_where_a_worker_lacked_memory(
     rt: HostRuntime,
 ) -> Result<(), Fail> {
     let alloc = rt.alloc();
@@ -135,14 +144,11 @@ fn a_call_that_nothing_can_come_for_reports_that_memory_was_wanting(
     let clock = ListClock::new(vec![in alloc; 0u64]?);
     let mut handle = channel.seat(&rt, seat, &clock, PcgDraws::new(1));
     let call = begin(&mut handle, request(alloc)?)?;
+    let mut long = Vec::new(alloc);
+    long.resize(262_139, 0u8)?;
+    send(&mut handle, call, Octets::of_vec(long)?)?;
     handle.note_lack();
-    let came = next(&mut handle, call);
-    assert!(rt;
-        matches!(
-            &came,
-            Err(CallError::Failed(PostError::NoMemory { spent: false }))
-        ),
-        "a worker found no memory, and the channel is as before"
-    );
+    assert!(rt; is_without_memory(&next(&mut handle, call)));
+    assert!(rt; is_without_memory(&send(&mut handle, call, word())));
     Ok(())
 }
