@@ -14,8 +14,8 @@ struct Noted {
     /// The last link that was opened, and when.
     opened: Option<(u32, u64)>,
     /// How often bytes came, and on which link and when they came last.
-    heard: u64,
-    last_heard: Option<(u32, u64)>,
+    pieces: u64,
+    last_piece: Option<(u32, u64)>,
     turns: u64,
     last: Option<TendTurn>,
 }
@@ -25,8 +25,8 @@ impl Noted {
     fn new() -> Noted {
         Noted {
             opened: None,
-            heard: 0,
-            last_heard: None,
+            pieces: 0,
+            last_piece: None,
             turns: 0,
             last: None,
         }
@@ -44,8 +44,8 @@ impl Tender for Noted {
     }
 
     fn heard(&mut self, link: u32, moment: u64) {
-        self.heard = self.heard.saturating_add(1);
-        self.last_heard = Some((link, moment));
+        self.pieces = self.pieces.saturating_add(1);
+        self.last_piece = Some((link, moment));
     }
 
     fn turn(&mut self, link: u32, moment: u64) -> Tend {
@@ -77,7 +77,7 @@ fn a_tender_is_notified_of_each_piece_that_comes_and_of_nothing_else(
     let alloc = rt.alloc();
     // The clock is read as the link opens, and in each round for a piece that came, for the tender and for the tick. Each round looks at
     // the channel three times: at its beginning, for a dial, and for a tick.
-    for (rounds, looks, heard, last_heard, last_turn) in [
+    for (rounds, looks, pieces, last_piece, last_turn) in [
         (1, 3, 1, 1, 2),
         (2, 6, 2, 4, 5),
         (3, 9, 3, 7, 8),
@@ -94,8 +94,8 @@ fn a_tender_is_notified_of_each_piece_that_comes_and_of_nothing_else(
         assert_eq!(rt; (rounds, end), (rounds, Pumped::Shut));
         assert_eq!(rt; (rounds, noted.opened), (rounds, Some((1, 0))));
         assert_eq!(rt;
-            (rounds, noted.heard, noted.last_heard),
-            (rounds, heard, Some((1, last_heard)))
+            (rounds, noted.pieces, noted.last_piece),
+            (rounds, pieces, Some((1, last_piece)))
         );
         let turn = TendTurn {
             link: 1,
@@ -116,10 +116,10 @@ const RULE: KeepRule = KeepRule {
     timeout: 1,
 };
 
-/// What this tender answers at 10 of a link that was opened at 0 and heard at this moment.
-fn at_ten<T: Tender>(tender: &mut T, heard: Option<u64>) -> Result<Tend, NoMemory> {
+/// What this tender answers at 10 of a link that was opened at 0, and on which bytes came at this moment.
+fn at_ten<T: Tender>(tender: &mut T, came: Option<u64>) -> Result<Tend, NoMemory> {
     tender.opened(3, 0)?;
-    if let Some(moment) = heard {
+    if let Some(moment) = came {
         if moment <= 10 {
             tender.heard(3, moment);
         }
@@ -130,7 +130,7 @@ fn at_ten<T: Tender>(tender: &mut T, heard: Option<u64>) -> Result<Tend, NoMemor
 #[test]
 fn bytes_that_come_put_a_ping_off_for_each_that_tends(rt: HostRuntime) -> Result<(), Fail> {
     let alloc = rt.alloc();
-    for (heard, answer) in [
+    for (came, answer) in [
         (None, Tend::Ping { word: 1 }),
         (Some(0), Tend::Ping { word: 1 }),
         (Some(1), Tend::Nothing),
@@ -142,16 +142,16 @@ fn bytes_that_come_put_a_ping_off_for_each_that_tends(rt: HostRuntime) -> Result
         let kept = Tending::new(alloc, Some(RULE));
         let mut watching = Watching::new(kept, GivenUp::new(alloc)?);
         assert_eq!(rt;
-            ("table", heard, at_ten(&mut table, heard)?),
-            ("table", heard, answer)
+            ("table", came, at_ten(&mut table, came)?),
+            ("table", came, answer)
         );
         assert_eq!(rt;
-            ("tending", heard, at_ten(&mut tending, heard)?),
-            ("tending", heard, answer)
+            ("tending", came, at_ten(&mut tending, came)?),
+            ("tending", came, answer)
         );
         assert_eq!(rt;
-            ("watching", heard, at_ten(&mut watching, heard)?),
-            ("watching", heard, answer)
+            ("watching", came, at_ten(&mut watching, came)?),
+            ("watching", came, answer)
         );
     }
     Ok(())
