@@ -1,7 +1,7 @@
 // What an application is answered where the channel refuses a step of its call, ends the call or has no memory for it.
 use crate::opened::{make_channel, report};
 use client_calls::{
-    CallError, OpenCall, Received, StatusSource, begin, cancel, finish, next, send, unary,
+    CallError, OpenCall, Received, StatusSource, begin, cancel, exchange, finish, next, send, unary,
 };
 use gate_io::{ListClock, NotesLack, PcgDraws};
 use grpc_base::{Code, EndCause, Event, Metadata, Octets, PostError, Refusal, Request, Text};
@@ -150,5 +150,18 @@ fn a_step_that_can_only_wait_ends_where_a_worker_lacked_memory(
     handle.note_lack();
     assert!(rt; is_without_memory(&next(&mut handle, call)));
     assert!(rt; is_without_memory(&send(&mut handle, call, word())));
+    Ok(())
+}
+
+#[test]
+fn an_exchange_that_fails_gives_its_call_up(rt: HostRuntime) -> Result<(), Fail> {
+    let alloc = rt.alloc();
+    let (channel, seat) = make_channel(alloc)?;
+    let clock = ListClock::new(vec![in alloc; 0u64]?);
+    let mut handle = channel.seat(&rt, seat, &clock, PcgDraws::new(1));
+    handle.note_lack();
+    let came = exchange(&rt, alloc, &mut handle, request(alloc)?, &[word()]);
+    assert!(rt; is_without_memory(&came));
+    assert_eq!(rt; end_of(&next(&mut handle, 1)), Some(EndCause::Cancelled));
     Ok(())
 }
