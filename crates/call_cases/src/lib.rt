@@ -17,4 +17,4 @@ pub mod one_call_ends;
 pub mod other_calls;
 pub mod sends_end;
 pub mod settling_actions;
-pub mod unconfigured_ends;
+pub mod ends_without_attempts;
