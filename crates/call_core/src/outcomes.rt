@@ -113,7 +113,7 @@ pub fn limits_end_calls()
 
 /// A law for proofs: the head of a live row commits the call to it and comes first; and of a committed call nothing that is reported of
 /// another row changes anything. The call does nothing.
-pub fn committed_calls_receive_one_row()
+pub fn committed_calls_follow_one_row()
     ensures head { (row : ℕ) (live : LiveRow) (meta : List Field) (moment : ℕ) (s : Stepped) → find_live row s.call.live ≡ Some live → came (received_head row meta moment s).call ≡ reply.Head meta ∷ message_items s.call.inbox.messages }
     ensures commits { (row : ℕ) (live : LiveRow) (meta : List Field) (moment : ℕ) (s : Stepped) → IsKept s.call → find_live row s.call.live ≡ Some live → (received_head row meta moment s).call.attempts.committed ≡ Some row }
     ensures placed { (row place : ℕ) (at : Placed) (s : Stepped) → IsKept s.call → s.call.attempts.committed ≡ Some place → (row ≡ place → ⊥) → placed_at row at s ≡ s }

@@ -14,7 +14,6 @@ use Rattle.channel_core.proofs.Going.{Configures, IsLocalActionInvariant, Gone, 
 use Rattle.channel_core.proofs.RestingSteps as resting
 
 module _ (R : StateSeen → StateSeen → Type 0) (c : IsLocalActionInvariant R) where
-
   pub answered : (refused : Option Refusal) (e : Event) (s t : StateSeen) (r : Reply) → Gone R e → AnswersBy refused e s t r → R s t
   answered refused e s t r k g = resting.answered R (rests R c) refused e s t r (gone_with R c e k) g
 

@@ -90,7 +90,7 @@ impl<R: Read + IsTerminal, E: Eprint> Read for Remembering<R, E> {
 
 /// A writer that remembers the first bytes of what it wrote, and why a write failed. Of a run over a network it counts how its calls ended.
 #[derive(Drop)]
-pub struct PrefixKept<W> {
+pub struct FirstBytesKept<W> {
     writer: W,
     prefix: [u8; PREFIX],
     /// How many bytes that is.
@@ -99,14 +99,14 @@ pub struct PrefixKept<W> {
     tally: Option<RunTally>,
 }
 
-impl<W: Write> PrefixKept<W> {
+impl<W: Write> FirstBytesKept<W> {
     /// A writer over this one, for the output of the mode that these words name.
-    pub fn new(words: &[String], writer: W) -> PrefixKept<W> {
+    pub fn new(words: &[String], writer: W) -> FirstBytesKept<W> {
         let tally = match words {
             [first, ..] if first.as_bytes() == b"live".as_slice() => Some(RunTally::new()),
             _ => None,
         };
-        PrefixKept {
+        FirstBytesKept {
             writer,
             prefix: [0; PREFIX],
             count: 0,
@@ -116,7 +116,7 @@ impl<W: Write> PrefixKept<W> {
     }
 }
 
-impl<W> PrefixKept<W> {
+impl<W> FirstBytesKept<W> {
     /// The first bytes of what was written.
     fn first_bytes(&self) -> &[u8] {
         match self.prefix.as_slice().get(0..self.count) {
@@ -126,7 +126,7 @@ impl<W> PrefixKept<W> {
     }
 }
 
-impl<W: Write> Write for PrefixKept<W> {
+impl<W: Write> Write for FirstBytesKept<W> {
     ghost contents = { λ w. W.contents w.writer };
 
     fn write(&mut self, buf: &[u8]) -> io::Result<usize> {
@@ -178,7 +178,7 @@ pub fn reporting<E: Eprint, R, T, W>(
     words: &[String],
     are_text: bool,
     input: &Remembering<R, T>,
-    output: &PrefixKept<W>,
+    output: &FirstBytesKept<W>,
 ) {
     let ended = Ended {
         status,

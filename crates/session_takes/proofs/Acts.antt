@@ -150,7 +150,6 @@ module _ (s : Seen) (reached : IsReached s) (c : Call) (own : numbered s.calls c
 
 -- between two entries only an entry may begin
 module _ (s : Seen) (reached : IsReached s) (c : Call) (own : numbered s.calls c.number ≡ Some c) where
-
   never_idle : (a : Action) → s.current ≡ None → following s ≡ Some a → ⊥
   never_idle a none next = let bad : ◌≡◌ {A = Option Action} None (Some a) = sym (ap (option_and_then (following_in s)) none) ∙ next in (cc)
 

@@ -68,7 +68,6 @@ module _ {S E : Type 0} where
       (ap origin (sym same) ∙ y.kept ∙ y.from ∙ sym (third ∙ ap (λ (v : View E). v.origin) first), ap (λ (h : Hand S E). h.0.parts) p.2 ∙ ap (λ (v : View E). v.parts) first)
 
   module _ {A J : Type 0} (entries : S → List E) (origin : S → List ℕ) (runs : J → S → A → J → S → Type 0) (job : J) (answer : A) (job' : J) where
-
     pub takes_turn : (lock lock' : TableId) (m m' m2 : Hand S E) (before : SeatSeen E) → seat_seen lock m.0 ≡ before → lock' ≡ lock → Won entries origin m m' → RunsTurn entries origin runs job m' answer job' m2
         → TakesTurn entries origin runs job before answer job' (seat_seen lock' m2.0)
     takes_turn lock lock' m m' m2 before is one w r =

@@ -50,7 +50,7 @@ fn wait_a_while<W: Wait>(rt: &W, tries: u64) {
 }
 
 // The `front` of a state's history.
-fn prefix_of<S: Chronicle>(state: &S) -> u64
+fn front_of<S: Chronicle>(state: &S) -> u64
     ensures front { result ≡ 8 * length (S.entries state.now) + S.mark_of (S.entries state.now) }
     ensures small { S.mark_of (S.entries state.now) < 8 }
 {
@@ -70,7 +70,7 @@ fn lay<S: Chronicle>(
 >
     ensures { IfOk result (λ r. (r.0.shared.table_id.words ≡ 3) × (r.0.shared.table_id.slots ≡ 1) × (r.1.table_id ≡ r.0.shared.table_id) × (S.origin r.0.shared.key.value ≡ S.origin state) × (r.1.me ≡ (first_view (S.origin state) (S.entries state), []))) }
 {
-    let opening = prefix_of(&state);
+    let opening = front_of(&state);
     let about = Snapshot::of(&state);
     let mut slots = Vec::new(alloc);
     slots.push(Some(state))?;
@@ -108,7 +108,7 @@ fn run_turn<S: Chronicle, J: Job<S>>(
 {
     let mut state = shared.exchange(inner, STATE, None).unwrap();
     let answer = job.run(&mut state);
-    let front = prefix_of(&state);
+    let front = front_of(&state);
     let _ = shared.exchange(inner, STATE, Some(state));
     shared.store::<Publish>(inner, FRONT, front);
     shared.store::<Release>(inner, HOLDER, NOBODY);

@@ -26,7 +26,6 @@ module _ (exact : QuiescenceIsExact) (stir : QueuesStir) (last p : ℕ × ℕ) (
   s = with_open o s0
 
   module _ (at : IsAt stage.Settling o s) (passing : IsPassing last o s) (k : AskNext p s) where
-
     abbrev t : Seen
     t = request_made p k.policy s
 

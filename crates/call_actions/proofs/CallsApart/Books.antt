@@ -121,7 +121,6 @@ module _ (s : Seen) (book : IsBook s) where
   held config (Some t) = throttled config t (run_to_join t s) refl
 
 module _ (s : Seen) (book : IsBook s) where
-
   read : (x : Result Config ConfigFault) → Moves s (config_read x s) None
   read (Ok config) =
       let z : Seen = replied reply.Done (resolver_answered s) in

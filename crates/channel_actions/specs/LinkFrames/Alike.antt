@@ -55,6 +55,6 @@ AttemptsAreAlike touched s t (a ∷ as_) (b ∷ bs) = IsAlike touched s t a b ×
 AttemptsAreAlike touched s t (a ∷ as_) [] = ⊥
 
 -- each link but those that are named was there, and sees no difference
-pub record CannotDistinguish (touched : Numbers) (s t : Seen) : Type 0 where
+pub record SeesNoDifference (touched : Numbers) (s t : Seen) : Type 0 where
   pub links : (link : ℕ) (m : Link) → touched link ≡ false → numbered t.links link ≡ Some m → (l : Link) × (numbered s.links link ≡ Some l) × IsLinkStill l m
   pub attempts : AttemptsAreAlike touched s t s.attempts t.attempts

@@ -283,7 +283,7 @@ impl<P: Balancer> State<P> {
     {
         self.unqueue(call, row);
         let end = own_end(self.alloc, Code::Unavailable, RowCause::Pick, 0);
-        self.report(call, row, News::Ended { tag: row, end })?;
+        self.give_news(call, row, News::Ended { tag: row, end })?;
         self.seal();
         Ok(())
     }

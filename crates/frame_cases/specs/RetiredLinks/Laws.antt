@@ -4,7 +4,7 @@
 -- its subchannel; AttemptEnds 2, unseen by the server, and AttemptMade 4, which retries it transparently; AttemptEnds 3, and AttemptMade 5; StreamReset 2 and
 -- StreamReset 3, with CANCEL. Attempt 1 goes on.
 use Rattle.end_cases.specs.AttemptEnds.Laws.{OneAttemptEnds}
-use Rattle.frame_cases.specs.FrameKinds.Laws.{GoawaysAreReceived}
+use Rattle.frame_cases.specs.FrameKinds.Laws.{GoawaysAreHandled}
 
-abbrev pub RetiredLinksAreReceived : Type 0
-RetiredLinksAreReceived = OneAttemptEnds → GoawaysAreReceived
+abbrev pub RetiredLinksAreHandled : Type 0
+RetiredLinksAreHandled = OneAttemptEnds → GoawaysAreHandled
