@@ -6,4 +6,3 @@ pub mod Sizes
 pub mod Moves
 pub mod Answering
 pub mod Heads
-pub mod Bounds

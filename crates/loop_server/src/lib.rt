@@ -5,7 +5,6 @@ mod answers;
 mod blocks;
 mod fault;
 mod laws;
-mod requests;
 mod scripted;
 mod session;
 mod turn;
