@@ -68,17 +68,6 @@ impl Plan {
         }
     }
 
-    /// Why each post fails.
-    fn failure(&self) -> Option<PostError> {
-        if self.fails {
-            return Some(PostError::NoMemory { spent: true });
-        }
-        if self.full {
-            return Some(FULL);
-        }
-        None
-    }
-
     /// A reply that the event may get.
     fn reply_to(&mut self, event: &Event) -> Reply
         ensures { MayReply event.now result }
@@ -213,7 +202,7 @@ impl Channel {
         Ok(given)
     }
 
-    /// Posts an event that gets this reply.
+    /// Posts an event that gets this reply, unless each post fails.
     fn give(&mut self, event: Event, reply: &Reply) -> Result<Reply, PostError>
         requires { MayReply event reply.now }
         ensures made { Posts self.old.entries self.new.entries event result }
@@ -221,6 +210,12 @@ impl Channel {
         ensures errors { CountsErrors self.old.errors self.new.errors self.old.last_error self.new.last_error result }
         ensures looks { (self.new.looks ≡ self.old.looks) × (self.new.last_look ≡ self.old.last_look) }
     {
+        if self.plan.fails {
+            return Err(self.fail(PostError::NoMemory { spent: true }));
+        }
+        if self.plan.full {
+            return Err(self.fail(FULL));
+        }
         match self.enter(event, reply) {
             Ok(reply) => Ok(reply),
             Err(NoMemory) => Err(self.fail(PostError::NoMemory { spent: false })),
@@ -273,9 +268,6 @@ impl Post for Channel {
     ghost share = { λ c. [] };
 
     fn post(&mut self, event: Event) -> Result<Reply, PostError> {
-        if let Some(error) = self.plan.failure() {
-            return Err(self.fail(error));
-        }
         let reply = self.plan.reply_to(&event);
         self.give(event, &reply)
     }
@@ -283,17 +275,11 @@ impl Post for Channel {
 
 impl Caller for Channel {
     fn await_take(&mut self, call: u32) -> Result<Reply, PostError> {
-        if let Some(error) = self.plan.failure() {
-            return Err(self.fail(error));
-        }
         let reply = self.next_of_call(call);
         self.give(Event::Take { call }, &reply)
     }
 
     fn await_send(&mut self, call: u32, message: Octets) -> Result<Reply, PostError> {
-        if let Some(error) = self.plan.failure() {
-            return Err(self.fail(error));
-        }
         self.give(Event::Send { call, message }, &Reply::Done)
     }
 }
