@@ -6,3 +6,4 @@ pub mod Sizes
 pub mod Moves
 pub mod Answering
 pub mod Heads
+pub mod Bounds

@@ -5,6 +5,7 @@ mod answers;
 mod blocks;
 mod fault;
 mod laws;
+mod requests;
 mod scripted;
 mod session;
 mod turn;

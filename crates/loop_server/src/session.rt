@@ -9,11 +9,13 @@ ghost use Rattle.loop_server.specs.Steps.{begun, dropped, ended, ended_if, found
 
 use crate::answers::Answers;
 use crate::fault::ServerFault;
+use crate::requests::Requests;
 use crate::turn::Turn;
 use bytes::BytesMut;
 use grpc_base::{AnswerLine, Field, Fields, NoMemory, Octets};
 use h2_server::{LinkFault, RequestNews, ServerLink};
 use std::alloc::Global;
+use std::collections::VecDeque;
 use std::marker::Model;
 
 /// Room that most answers find enough, so that their memory is taken once.
@@ -35,9 +37,9 @@ pub(crate) struct Session {
     number: u32,
     link: ServerLink,
     /// The requests that have not ended.
-    open_requests: Vec<OpenRequest>,
+    open_requests: Requests,
     /// The answers that are not given whole, in the order in which their requests ended.
-    turns: Vec<Turn>,
+    turns: VecDeque<Turn>,
 }
 
 impl Model for Session {
@@ -45,7 +47,7 @@ impl Model for Session {
 
     ghost Value = { Served };
 
-    ghost view = { λ s. record { number = s.number; link = s.link; open_requests = s.open_requests.items; turns = s.turns.items } };
+    ghost view = { λ s. record { number = s.number; link = s.link; open_requests = s.open_requests; turns = s.turns.items } };
 }
 
 impl Session {
@@ -55,8 +57,8 @@ impl Session {
         Ok(Session {
             number,
             link: ServerLink::new(alloc)?,
-            open_requests: Vec::new(alloc),
-            turns: Vec::new(alloc),
+            open_requests: Requests::new(alloc),
+            turns: VecDeque::new(alloc),
         })
     }
 
@@ -158,7 +160,7 @@ impl Session {
     fn begin(&mut self, stream: u32, fields: &Fields) -> Result<(), NoMemory>
         ensures { OnOk result (self.new ≡ begun self.old stream fields.now) }
     {
-        if place_of_request(&self.open_requests, stream).is_none() {
+        if !self.open_requests.contains(stream) {
             let path = path_of(fields.as_slice())?;
             self.open_requests.push(OpenRequest { stream, path })?;
         }
@@ -185,11 +187,11 @@ impl Session {
     fn end(&mut self, alloc: Global, answers: &mut Answers, stream: u32) -> Result<(), NoMemory>
         ensures { OnOk result (record { book = answers.new; session = self.new } ≡ ended answers.old self.old stream) }
     {
-        let Some(request) = take_request(&mut self.open_requests, stream) else {
+        let Some(request) = self.open_requests.take(stream) else {
             return Ok(());
         };
         let line = answers.choose(alloc, request.path.as_slice())?;
-        self.turns.push(Turn::new(stream, line))?;
+        self.turns.push_back(Turn::new(stream, line))?;
         Ok(())
     }
 
@@ -197,7 +199,7 @@ impl Session {
     fn close(&mut self, stream: u32)
         ensures { self.new ≡ dropped self.old stream }
     {
-        let _request = take_request(&mut self.open_requests, stream);
+        let _request = self.open_requests.take(stream);
         drop_turn(&mut self.turns, stream);
     }
 
@@ -293,35 +295,16 @@ fn afterwards(bytes: &[u8], taken: usize) -> &[u8]
     &bytes[taken..]
 }
 
-/// The place of the request of a stream.
-fn place_of_request(requests: &[OpenRequest], stream: u32) -> Option<usize>
-    ensures place { result ≡ position (is_request stream) requests.now }
-    ensures within { IfSome result (λ place. place < length requests.now) }
-{
-    requests.iter().position(|r| r.stream == stream)
-}
-
-/// Takes the request of a stream off.
-fn take_request(requests: &mut Vec<OpenRequest>, stream: u32) -> Option<OpenRequest>
-    ensures taken { result ≡ found_at requests.old.items (position (is_request stream) requests.old.items) }
-    ensures others { requests.new.items ≡ without_at requests.old.items (position (is_request stream) requests.old.items) }
-{
-    match place_of_request(requests, stream) {
-        Some(place) => Some(requests.remove(place)),
-        None => None,
-    }
-}
-
 /// The place of the answer of a stream.
-fn place_of_turn(turns: &[Turn], stream: u32) -> Option<usize>
-    ensures place { result ≡ position (is_turn stream) turns.now }
-    ensures within { IfSome result (λ place. place < length turns.now) }
+fn place_of_turn(turns: &VecDeque<Turn>, stream: u32) -> Option<usize>
+    ensures place { result ≡ position (is_turn stream) turns.now.items }
+    ensures within { IfSome result (λ place. place < length turns.now.items) }
 {
     turns.iter().position(|t| t.stream == stream)
 }
 
 /// Takes the answer at a place off.
-fn remove_turn(turns: &mut Vec<Turn>, place: usize)
+fn remove_turn(turns: &mut VecDeque<Turn>, place: usize)
     requires { place < length turns.old.items }
     ensures { turns.new.items ≡ remove turns.old.items place }
 {
@@ -329,7 +312,7 @@ fn remove_turn(turns: &mut Vec<Turn>, place: usize)
 }
 
 /// Takes the answer of a stream off.
-fn drop_turn(turns: &mut Vec<Turn>, stream: u32)
+fn drop_turn(turns: &mut VecDeque<Turn>, stream: u32)
     ensures { turns.new.items ≡ without_at turns.old.items (position (is_turn stream) turns.old.items) }
 {
     if let Some(place) = place_of_turn(turns, stream) {
