@@ -25,7 +25,7 @@ returns-in-Shut-clause-posts g c = turn_adds _ c.dns_once.ensures.turn.0 _ _ _ _
 
 pub returns-in-Failed-clause-end : goal.returns-in-Failed-clause-end
 returns-in-Failed-clause-end g c =
-    ends_failed (seen_by g.H.Post.made g.H.Post.errors g.H.Post.last_error c.args.self.now.post) (seen_by g.H.Post.made g.H.Post.errors g.H.Post.last_error c.dns_once.new.post) _ c.in-Failed.error _ c.loop.invariant.errors c.of_error-self.ensures
+    ends_failed (seen_by g.H.Post.made g.H.Post.errors g.H.Post.last_error c.args.self.now.post) (seen_by g.H.Post.made g.H.Post.errors g.H.Post.last_error c.dns_once.new.post) _ _ c.in-Failed.error _ c.loop.invariant.errors c.of_error-self.ensures
     (turn_reports c.in-Failed.ensures.turn.0 _ _ _ _ _ (once.Failed c.in-Failed.error) c.in-Failed.ensures.turn.2)
 
 pub returns-in-Failed-clause-posts : goal.returns-in-Failed-clause-posts
