@@ -116,7 +116,7 @@ turn_ends : (view : View) (may_give : ℕ → Type 0) (may_find : DnsName → Li
 turn_ends view may_give may_find config before after result turns = ends_unless (is_shut view.state) view may_give may_find config view.wants_resolution before after result refl turns
 
 -- a worker that the look ended
-pub ends_shut : (start end : WorkerSeen) (look : Option Look) (view : View) (may_give : ℕ → Type 0) (may_find : DnsName → List ℕ → Type 0) (config : Option (List ℕ)) (before after : JobSeen) (result : DnsOnce)
+ends_shut : (start end : WorkerSeen) (look : Option Look) (view : View) (may_give : ℕ → Type 0) (may_find : DnsName → List ℕ → Type 0) (config : Option (List ℕ)) (before after : JobSeen) (result : DnsOnce)
     → result ≡ once.Shut → look ≡ Some (looks.Glance view) → Turns view may_give may_find config before after result → before.handle.errors ≡ start.errors → end.errors ≡ after.handle.errors
     → EndsLookups start end look outcome.Whole
 ends_shut start end look view may_give may_find config before after result is looked turns so_far same =
@@ -125,13 +125,20 @@ ends_shut start end look view may_give may_find config before after result is lo
     (same ∙ counted ∙ so_far, inl (view, looked, shut))
 
 -- a worker whose last entry was refused
-pub ends_refused : (given : Option (List ℕ)) (start end : WorkerSeen) (look : Option Look) (view : View) (may_give : ℕ → Type 0) (may_find : DnsName → List ℕ → Type 0) (config : Option (List ℕ)) (before after : JobSeen) (result : DnsOnce) (n : ℕ)
+ends_refused : (given : Option (List ℕ)) (start end : WorkerSeen) (look : Option Look) (view : View) (may_give : ℕ → Type 0) (may_find : DnsName → List ℕ → Type 0) (config : Option (List ℕ)) (before after : JobSeen) (result : DnsOnce) (n : ℕ)
     → result ≡ once.Refused n → Turns view may_give may_find config before after result → before.handle.errors ≡ start.errors → end.errors ≡ after.handle.errors
     → AddsOnly (IsOfNames given) start.made before.handle.made → end.made ≡ after.handle.made → EndsLookups start end look outcome.Whole
 ends_refused given start end look view may_give may_find config before after result n is turns so_far same adds made =
     let counted : after.handle.errors ≡ before.handle.errors = subst (λ (r : DnsOnce). ReportsErrors before.handle after.handle r) is (turn_reports view may_give may_find config before after result turns) in
     let ends : EndsWhole view before.handle after.handle (once.Refused n) = subst (λ (r : DnsOnce). EndsWhole view before.handle after.handle r) is (turn_ends view may_give may_find config before after result turns) in
     (same ∙ counted ∙ so_far, inr (adds.added, ends.0, ends.1, made ∙ ends.2 ∙ ap (λ (l : List Entry). l ++ ends.0 ∷ []) adds.made, ends.3))
+
+-- a worker that ended whole, by its last turn
+pub ends_whole : (given : Option (List ℕ)) (start end : WorkerSeen) (look : Option Look) (view : View) (may_give : ℕ → Type 0) (may_find : DnsName → List ℕ → Type 0) (config : Option (List ℕ)) (before after : JobSeen) (result : DnsOnce)
+    → (result ≡ once.Shut) ⊎ ((n : ℕ) × (result ≡ once.Refused n)) → look ≡ Some (looks.Glance view) → Turns view may_give may_find config before after result → before.handle.errors ≡ start.errors → end.errors ≡ after.handle.errors
+    → AddsOnly (IsOfNames given) start.made before.handle.made → end.made ≡ after.handle.made → EndsLookups start end look outcome.Whole
+ends_whole given start end look view may_give may_find config before after result (inl is) looked turns so_far same adds made = ends_shut start end look view may_give may_find config before after result is looked turns so_far same
+ends_whole given start end look view may_give may_find config before after result (inr (n, is)) looked turns so_far same adds made = ends_refused given start end look view may_give may_find config before after result n is turns so_far same adds made
 
 -- the outcome of a worker by the error that it was reported
 pub ends_failed : (start after : WorkerSeen) (look : Option Look) (errors : ℕ) (e : PostError) (o : Outcome) → errors ≡ start.errors → o ≡ outcome_of e → (Rises errors after.errors × (after.last ≡ Some e)) ⊎ (e ≡ failed.NoMemory false) → EndsLookups start after look o
