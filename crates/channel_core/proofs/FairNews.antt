@@ -1,14 +1,11 @@
 -- What news report of the ends of attempts: no end is a cut, and one that a transparent retry may follow asks for nothing.
-use Rattle.std.proofs.Common.{◌≡◌, ℕ, ◌==◌, Bool, true, false, ◌&&◌, if◌then◌else◌, Option, Some, None, IfSome, List, [], ◌∷◌, ◌++◌, map, refl, ap, subst}
-use Rattle.std.proofs.lemmas.Bool.{eqb-true}
+use Rattle.std.proofs.Common.{◌≡◌, ℕ, Bool, true, false, if◌then◌else◌, Option, Some, None, IfSome, List, [], ◌∷◌, ◌++◌, map, refl, subst}
 use Rattle.std.specs.BTreeMap.{insert_entry}
 use Rattle.std.specs.List.{AllByRecursion, remove}
-use Rattle.std.specs.Option.{option_map_or}
 use Rattle.std.specs.Ordering.{match_ordering, nat_cmp}
 use Rattle.std.specs.declared.cmp.Ordering.{Ordering}
 use Rattle.std.specs.declared.cmp.Ordering.TheVariants as ordering
 use Rattle.grpc_base.specs.declared.code.Code.{Code}
-use Rattle.grpc_base.specs.declared.code.Code.TheVariants as code
 use Rattle.grpc_base.specs.declared.fields.Field.{Field}
 use Rattle.grpc_base.specs.declared.plan.Pushback.{Pushback}
 use Rattle.std.specs.Prelude.{codes}
@@ -21,14 +18,13 @@ use Rattle.attempt_ledger.specs.declared.news.News.{News}
 use Rattle.attempt_ledger.specs.declared.news.News.TheVariants as news
 use Rattle.attempt_ledger.specs.declared.row.RowCause.TheVariants as cause
 use Rattle.grpc_meta.specs.ResponseFields.{shown_of, values_of}
-use Rattle.grpc_status.specs.StatusMaps.{http_codes, looked_up, reset_codes}
 use Rattle.h2_link.specs.Status.{http_status, is_interim}
-use Rattle.grpc_base.specs.ErrorCodes.{cancel, refused_stream}
+use Rattle.grpc_base.specs.ErrorCodes.{cancel}
 use Rattle.h2_link.specs.Received.{handled}
 use Rattle.h2_link.specs.Steps.{cut}
 use Rattle.h2_link.specs.declared.news.LinkNews.{LinkNews}
 use Rattle.h2_link.specs.declared.news.LinkNews.TheVariants as link
-use Rattle.grpc_link.specs.Ends.{end_with, framing_end, http_code, is_head, is_ok, reset_end, status_end, status_end_by, unseen_end, http_end}
+use Rattle.grpc_link.specs.Ends.{end_with, framing_end, http_code, is_head, reset_end, status_end, status_end_by, unseen_end, http_end}
 use Rattle.grpc_link.specs.Links as links
 use Rattle.grpc_link.specs.Links.{GrpcSeen, Report, found, reported_all, reported_by, reported_of, with_reader}
 use Rattle.grpc_link.specs.Readers.{ReaderSeen, Stepped, data_by, headers_by, read_on, stepped}

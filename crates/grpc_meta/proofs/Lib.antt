@@ -1,3 +1,4 @@
 pub mod BinaryLaws
+mod CopyLemmas
 pub mod RequestLaws
 pub mod ResponseLaws

@@ -33,10 +33,11 @@ pub fn request_fields(
 {
     let mut fields = Fields::new(alloc);
     fields.reserve(FIXED_FIELDS.saturating_add(request.meta().len()))?;
+    let (path, authority) = copies_of(alloc, request.path().as_slice(), authority.as_slice())?;
     push_fixed(&mut fields, b":method", b"POST")?;
     push_fixed(&mut fields, b":scheme", b"http")?;
-    push(alloc, &mut fields, b":path", request.path().as_slice())?;
-    push(alloc, &mut fields, b":authority", authority.as_slice())?;
+    push_owned(&mut fields, b":path", path)?;
+    push_owned(&mut fields, b":authority", authority)?;
     push_timeout(alloc, &mut fields, left)?;
     push_fixed(&mut fields, b"te", b"trailers")?;
     push_fixed(&mut fields, b"content-type", b"application/grpc")?;
@@ -45,7 +46,30 @@ pub fn request_fields(
     Ok(fields)
 }
 
-/// Appends a field whose name lives as long as the program. Its value is copied.
+/// Copies of two texts, which share one run of memory.
+#[tactic(auto, using(crate::proofs::CopyLemmas::first_part, crate::proofs::CopyLemmas::second_part))]
+fn copies_of(alloc: Global, first: &[u8], second: &[u8]) -> Result<(Octets, Octets), NoMemory>
+    ensures first { IfOk result (λ x. x.0 ≡ first.now) }
+    ensures second { IfOk result (λ x. x.1 ≡ second.now) }
+{
+    let mut both = Vec::with_capacity(alloc, first.len().saturating_add(second.len()))?;
+    both.extend_from_slice(first)?;
+    both.extend_from_slice(second)?;
+    let mut rest = Octets::of_vec(both)?;
+    let prefix = rest.part(0, first.len())?;
+    rest.advance(first.len());
+    Ok((prefix, rest))
+}
+
+/// Appends a field whose name lives as long as the program.
+fn push_owned(fields: &mut Fields, name: &'static [u8], value: Octets) -> Result<(), NoMemory>
+    ensures { OnOk result (fields.new ≡ fields.old ++ field name.now value ∷ []) }
+{
+    let name = Octets::of_static(name);
+    fields.push(Field { name, value })
+}
+
+/// The same of a value that is copied.
 fn push(
     alloc: Global,
     fields: &mut Fields,
@@ -54,9 +78,8 @@ fn push(
 ) -> Result<(), NoMemory>
     ensures { OnOk result (fields.new ≡ fields.old ++ field name.now value.now ∷ []) }
 {
-    let name = Octets::of_static(name);
     let value = Octets::of_slice(alloc, value)?;
-    fields.push(Field { name, value })
+    push_owned(fields, name, value)
 }
 
 /// Appends a field whose name and value live as long as the program.

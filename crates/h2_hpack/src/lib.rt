@@ -18,7 +18,7 @@ mod table;
 mod text;
 
 pub use decoder::Decoder;
-pub use encoder::{SIZE_UPDATE_TO_ZERO, encode_fields};
+pub use encoder::{SIZE_UPDATE_TO_ZERO, append_fields, encode_fields};
 pub use fault::HpackFault;
 pub use laws::{
     blocks_are_read_in_turn, blocks_are_representations, encoding_fits_a_frame, encoding_is_read,

@@ -12,6 +12,9 @@ use bytes::BytesMut;
 use grpc_base::{NoMemory, Octets};
 use std::alloc::Global;
 
+/// Room that most drains find enough, so that their memory is taken once.
+const FIRST_ROOM: usize = 512;
+
 impl State {
     /// Sends all that may be sent and fits.
     pub(crate) fn send_all<F: Feed>(
@@ -24,7 +27,7 @@ impl State {
         ensures drains { IfOk result (λ out. Drains room self.old (F.lines feed.old) out.items self.new (F.lines feed.new)) }
         ensures same { F.same feed.old feed.new }
     {
-        let mut out = BytesMut::new(alloc);
+        let mut out = BytesMut::with_capacity(alloc, FIRST_ROOM)?;
         loop {
             let left = u64::from(room) - out.len() as u64;
             if !self.send_one(alloc, left, feed, &mut out)? {

@@ -22,8 +22,9 @@ use h2_frame::{
     FrameHeader, HEADER_SIZE, Setting, flags, kinds, write_header, write_ping, write_ping_ack,
     write_rst_stream, write_settings, write_settings_ack, write_window_update,
 };
-use h2_hpack::{SIZE_UPDATE_TO_ZERO, encode_fields};
+use h2_hpack::{SIZE_UPDATE_TO_ZERO, append_fields};
 use std::alloc::Global;
+use std::mem;
 
 /// The beginning of a connection (RFC 9113, section 3.4).
 const PREFACE: [u8; 24] = *b"PRI * HTTP/2.0\r\n\r\nSM\r\n\r\n";
@@ -270,7 +271,8 @@ impl State {
         ensures same { F.same feed.old feed.new }
     {
         let fields = feed.head(tag)?;
-        let block = encode_block(alloc, &fields)?;
+        let mut block = mem::replace(&mut self.encoded, Vec::new(alloc));
+        encode_block(&mut block, &fields)?;
         let resizes = self.resizes;
         if HEADER_SIZE as u64 + u64::from(resizes) + block.len() as u64 > left {
             return Ok(false);
@@ -278,6 +280,7 @@ impl State {
         out.reserve(HEADER_SIZE + 1 + block.len())?;
         let number = StreamNumber::of_place(self.opened);
         write_head(out, &number, resizes, block.as_slice())?;
+        self.encoded = block;
         self.live.push(LiveStream {
             number,
             tag,
@@ -337,12 +340,13 @@ impl State {
     }
 }
 
-/// The header block of a request.
-fn encode_block(alloc: Global, fields: &Fields) -> Result<BytesMut, NoMemory>
+/// Encodes the header block of a request, in memory that has held others.
+fn encode_block(block: &mut Vec<u8>, fields: &Fields) -> Result<(), NoMemory>
     requires { list_size fields.now ≤ 16384 }
-    ensures block { IfOk result (λ block. block.items ≡ block_bytes fields.now) }
-    ensures fits { IfOk result (λ block. length block.items < 16384) }
+    ensures block { OnOk result (block.new.items ≡ block_bytes fields.now) }
+    ensures fits { OnOk result (length block.new.items < 16384) }
 {
-    let block = encode_fields(alloc, fields)?;
-    Ok(block)
+    block.clear();
+    append_fields(block, fields)?;
+    Ok(())
 }

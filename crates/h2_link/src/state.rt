@@ -44,6 +44,8 @@ pub(crate) struct State {
     /// The header block that CONTINUATION is to complete.
     pub block: Option<OpenBlock>,
     pub decoder: Decoder,
+    /// The memory in which the next header block is encoded.
+    pub encoded: Vec<u8>,
 }
 
 impl Model for State {
@@ -74,6 +76,7 @@ impl State {
             resizes: false,
             block: None,
             decoder: Decoder::new(alloc),
+            encoded: Vec::new(alloc),
         }
     }
 

@@ -68,6 +68,17 @@ impl Plan {
         }
     }
 
+    /// Why each post fails.
+    fn failure(&self) -> Option<PostError> {
+        if self.fails {
+            return Some(PostError::NoMemory { spent: true });
+        }
+        if self.full {
+            return Some(FULL);
+        }
+        None
+    }
+
     /// A reply that the event may get.
     fn reply_to(&mut self, event: &Event) -> Reply
         ensures { MayReply event.now result }
@@ -262,11 +273,8 @@ impl Post for Channel {
     ghost share = { λ c. [] };
 
     fn post(&mut self, event: Event) -> Result<Reply, PostError> {
-        if self.plan.fails {
-            return Err(self.fail(PostError::NoMemory { spent: true }));
-        }
-        if self.plan.full {
-            return Err(self.fail(FULL));
+        if let Some(error) = self.plan.failure() {
+            return Err(self.fail(error));
         }
         let reply = self.plan.reply_to(&event);
         self.give(event, &reply)
@@ -275,11 +283,17 @@ impl Post for Channel {
 
 impl Caller for Channel {
     fn await_take(&mut self, call: u32) -> Result<Reply, PostError> {
+        if let Some(error) = self.plan.failure() {
+            return Err(self.fail(error));
+        }
         let reply = self.next_of_call(call);
         self.give(Event::Take { call }, &reply)
     }
 
     fn await_send(&mut self, call: u32, message: Octets) -> Result<Reply, PostError> {
+        if let Some(error) = self.plan.failure() {
+            return Err(self.fail(error));
+        }
         self.give(Event::Send { call, message }, &Reply::Done)
     }
 }

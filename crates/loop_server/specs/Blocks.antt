@@ -18,6 +18,10 @@ abbrev pub is_head : AnswerPart → Bool
 is_head part.Head = true
 is_head p = false
 
+abbrev pub is_pushback : AnswerPart → Bool
+is_pushback (part.Pushback text) = true
+is_pushback p = false
+
 -- the field of a pushback, where it fits into so much room; no other part has one
 abbrev pub pushback_field : List ℕ → Field
 pushback_field text = field (codes "grpc-retry-pushback-ms") text

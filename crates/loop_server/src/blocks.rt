@@ -1,10 +1,10 @@
 // The header blocks of an answer.
-ghost use Rattle.std.specs.Prelude.{◌≡◌, ◌<◌, ◌≤◌, ◌++◌, ◌∷◌, [], ◌+◌, ◌-◌, true, codes, if◌then◌else◌, IfOk, OnOk, length};
+ghost use Rattle.std.specs.Prelude.{◌≡◌, ◌<◌, ◌≤◌, ◌++◌, ◌∷◌, [], ◌+◌, ◌-◌, true, codes, if◌then◌else◌, IfOk, IfSome, OnOk, length};
 ghost use Rattle.std.specs.List.{list_any};
 ghost use Rattle.std.specs.Fmt.{decimal};
 ghost use Rattle.h2_hpack.specs.Encoding.{block_bytes};
 ghost use Rattle.h2_hpack.specs.Tables.{field_size, list_size};
-ghost use Rattle.loop_server.specs.Blocks.{field, fields_of, fits, head_fields, is_head, pushback_field, pushback_fields, pushback_room, room_after, status_fields};
+ghost use Rattle.loop_server.specs.Blocks.{field, fields_of, fits, head_fields, is_head, is_pushback, pushback_field, pushback_fields, pushback_room, room_after, status_fields};
 
 use bytes::BytesMut;
 use grpc_base::{AnswerPart, Field, Fields, NoMemory, Octets};
@@ -21,6 +21,9 @@ const PUSHBACK_SIZE: usize = 54;
 /// The header block that begins a response: `:status: 200` by its index, and the type of gRPC after the index of
 /// `content-type`.
 const HEAD_BLOCK: &[u8] = b"\x88\x0f\x10\x10application/grpc";
+
+/// The header block that ends a response with code 0 and nothing else: `grpc-status: 0`, a literal without indexing.
+const OK_BLOCK: &[u8] = b"\x00\x0bgrpc-status\x010";
 
 /// The name of the field with the code of a response.
 const STATUS_NAME: &[u8] = b"grpc-status";
@@ -144,6 +147,23 @@ fn has_head(parts: &[AnswerPart]) -> bool
     false
 }
 
+fn is_pushback(part: &AnswerPart) -> bool
+    ensures { result ≡ is_pushback part.now }
+{
+    matches!(part, AnswerPart::Pushback(_))
+}
+
+fn has_pushback(parts: &[AnswerPart]) -> bool
+    ensures { result ≡ list_any is_pushback parts.now }
+{
+    for part in parts {
+        if is_pushback(part) {
+            return true;
+        }
+    }
+    false
+}
+
 /// Appends what begins a response, where it was not sent before.
 fn push_head_unless(fields: &mut Fields, sent: bool) -> Result<(), NoMemory>
     ensures { OnOk result (fields.new ≡ fields.old ++ (if sent then [] else head_fields)) }
@@ -172,6 +192,19 @@ fn status_fields(alloc: Global, before: &[AnswerPart], code: u32) -> Result<Fiel
     push_pushbacks(alloc, &mut fields, before)?;
     push_status(alloc, &mut fields, code)?;
     Ok(fields)
+}
+
+/// The header block that ends a response after these parts, where it is the one of most responses, which is not made anew.
+#[tactic(auto, using(crate::proofs::Heads::ok_written))]
+pub(crate) fn ok_block(before: &[AnswerPart], code: u32) -> Option<&'static [u8]>
+    ensures block { IfSome result (λ block. block.now ≡ block_bytes (status_fields before.now code)) }
+    ensures fits { IfSome result (λ block. length block.now < 16384) }
+{
+    if code == 0 && has_head(before) && !has_pushback(before) {
+        Some(OK_BLOCK)
+    } else {
+        None
+    }
 }
 
 /// The header block that ends a response after these parts: trailers, or the whole response where no head is among them.

@@ -1,12 +1,14 @@
 // An answer that is being given.
 ghost use Rattle.std.specs.Prelude.{◌≡◌, ◌++◌, ◌<◌, false, true, IfOk, OnOk, length, Some};
-ghost use Rattle.h2_server.specs.Sends.{share_of};
+ghost use Rattle.h2_hpack.specs.Encoding.{block_bytes};
+ghost use Rattle.h2_server.specs.Sends.{block_sent, share_of};
+ghost use Rattle.loop_server.specs.Blocks.{status_fields};
 ghost use Rattle.loop_server.specs.Drains.{is_given, may_begin, message_text, move_of, part_moved, part_sent, text_move, text_of};
 ghost use Rattle.loop_server.specs.Outcomes.{MovedAs};
 ghost use Rattle.loop_server.specs.Script.{parts_at};
 ghost use Rattle.loop_server.specs.Steps.{new_turn};
 
-use crate::blocks::{head_block, status_block};
+use crate::blocks::{head_block, ok_block, status_block};
 use bytes::BytesMut;
 use grpc_base::error_code::NO_ERROR;
 use grpc_base::{AnswerLine, AnswerPart, NoMemory, Octets};
@@ -67,6 +69,25 @@ fn parts_at(lines: &[AnswerLine], place: usize) -> &[AnswerPart]
     }
 }
 
+/// Sends the header block that ends a response, after these parts.
+fn send_status(
+    alloc: Global,
+    stream: u32,
+    before: &[AnswerPart],
+    code: u32,
+    link: &mut ServerLink,
+    out: &mut BytesMut,
+) -> Result<(), NoMemory>
+    ensures link { OnOk result (link.new ≡ record link.old { wire = (block_sent link.old.wire stream (block_bytes (status_fields before.now code)) true).wire }) }
+    ensures out { OnOk result (out.new.items ≡ out.old.items ++ (block_sent link.old.wire stream (block_bytes (status_fields before.now code)) true).octets) }
+{
+    if let Some(block) = ok_block(before, code) {
+        return link.send_block(stream, block, true, out);
+    }
+    let block = status_block(alloc, before, code)?;
+    link.send_block(stream, block.as_slice(), true, out)
+}
+
 /// Sends a part on its stream, after the parts before it.
 fn send_part(
     alloc: Global,
@@ -81,10 +102,7 @@ fn send_part(
 {
     match part {
         AnswerPart::Head => link.send_block(stream, head_block(), false, out),
-        AnswerPart::Status(code) => {
-            let block = status_block(alloc, before, *code)?;
-            link.send_block(stream, block.as_slice(), true, out)
-        }
+        AnswerPart::Status(code) => send_status(alloc, stream, before, *code, link, out),
         AnswerPart::Reset(code) => link.send_reset(stream, *code, out),
         AnswerPart::Goaway => link.send_goaway(NO_ERROR, out),
         AnswerPart::Message(_) | AnswerPart::Pushback(_) | AnswerPart::Hold(_) => Ok(()),
