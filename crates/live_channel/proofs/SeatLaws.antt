@@ -59,7 +59,7 @@ error_is_worse (failed.NoMemory spent) whole = (cc)
 error_is_worse (failed.SessionFull entries octets) whole = (cc)
 
 fails_still : (e : Event) (old new : CoreSeen) (error : PostError) → Fails e old error new → new.journal.entries ≡ old.journal.entries
-fails_still e old new (failed.NoMemory false) fails = ap (λ (c : CoreSeen). c.journal.entries) fails
+fails_still e old new (failed.NoMemory false) fails = ap (λ (c : CoreSeen). c.journal.entries) fails.0
 fails_still e old new (failed.NoMemory true) fails = ap (λ j. j.entries) fails.1
 fails_still e old new (failed.SessionFull entries octets) fails = ap (λ (c : CoreSeen). c.journal.entries) fails.0
 

@@ -1,8 +1,9 @@
 // The workers beside the calls: those that keep links open, and the one that looks a name up.
-ghost use Rattle.std.specs.Prelude.{◌≡◌, ◌<◌, ◌+◌, ℕ, List, length, slice_index_or};
+ghost use Rattle.std.specs.Prelude.{◌≡◌, ◌<◌, ◌+◌, ℕ, List, length, map, slice_index_or};
 ghost use Rattle.std.specs.List.{AllByRecursion, AllZip};
 ghost use Rattle.grpc_base.specs.declared.event.Entry.{Entry};
-ghost use Rattle.live_run.specs.Sides.{LinkDone, seen_by};
+ghost use Rattle.live_run.specs.Outcomes.{graver, gravest};
+ghost use Rattle.live_run.specs.Sides.{LinkDone, outcome_in, seen_by};
 ghost use Rattle.live_run.specs.declared.link_job.LinkJob.{LinkJob};
 ghost use Rattle.live_run.specs.declared.outcome.Outcome.TheVariants as outcome_is;
 ghost use Rattle.turn_lock.specs.History.{LockId};
@@ -33,7 +34,7 @@ impl<
     N: Dialer,
     L: Lookup,
 > Linkers<ChannelSeat<'_, P, R, C, D>, N, L, D> {
-    /// Keeps links open until the channel is shut down.
+    /// Keeps links open until the channel is shut down, and keeps how they all ended.
     pub fn keep(&mut self, rt: &R, clock: &C)
         ensures { KeepsDone (λ h. h.seat) N.coming self.old self.new }
     {
@@ -52,6 +53,7 @@ fn keep_links<
 >(rt: &R, clock: &C, jobs: &mut Vec<LinkJob<ChannelSeat<'_, P, R, C, D>, N, L, D>>) -> Outcome
     ensures kept { (lock : LockId) → AllByRecursion (IsFresh lock) (seats_in (λ h. h.seat) jobs.old.items) → AllZip (IsKept lock) (keepers_in N.coming jobs.old.items) (seats_in (λ h. h.seat) jobs.new.items) }
     ensures count { length jobs.new.items ≡ length jobs.old.items }
+    ensures outcome { result ≡ gravest (map (λ j. outcome_in j) jobs.new.items) }
 {
     work_links_of(rt, clock, jobs)
 }
@@ -67,6 +69,7 @@ fn work_links_of<
 >(rt: &R, clock: &C, jobs: &mut Vec<LinkJob<H, N, L, D>>) -> Outcome
     ensures count { length jobs.new.items ≡ length jobs.old.items }
     ensures each { (i : ℕ) (d : LinkJob H N L D) → i < length jobs.old.items → LinkDone (seen_by H.made H.errors H.last_error) H.share H.last_look N.coming (slice_index_or jobs.old.items i d) (slice_index_or jobs.new.items i d) }
+    ensures outcome { result ≡ gravest (map (λ j. outcome_in j) jobs.new.items) }
 {
     work_links(rt, clock, jobs.as_mut_slice())
 }
@@ -107,6 +110,7 @@ pub fn close_links<P: Balancer, R, C: Clock, D: Draws, N: Dialer, L: Lookup>(
     ensures parts { result.0.parts ≡ closer.entry.seat.parts + length links.entry.jobs.items }
     ensures leaves { (keepers : List Keeper) (owns : List (List (ℕ × Entry))) (seen : List Entry) (own : _) → AllZip (IsKept closer.entry.seat.lock) keepers (seats_in (λ h. h.seat) links.entry.jobs.items) → Closes made owns seen own closer.entry.seat → Leaves result.1 keepers owns seen own result.0 }
     ensures worse { result.1 ≡ outcome_is.Whole → made ≡ outcome_is.Whole }
+    ensures outcome { result.1 ≡ graver made links.entry.outcome }
 {
     let Linkers {
         mut jobs,

@@ -1,11 +1,16 @@
 -- What a turn of a name's job adds to the entries that were made, and what its answer says of its posts.
-use Rattle.std.proofs.Common.{◌≡◌, ◌⊎◌, ℕ, Bool, true, false, Option, Some, Result, Ok, Err, List, inl, inr, refl, sym, subst, arith}
+use Rattle.std.proofs.Common.{◌≡◌, ◌∙◌, ◌⊎◌, ℕ, Bool, true, false, Option, Some, Result, Ok, Err, List, [], ◌∷◌, ◌++◌, inl, inr, refl, sym, ap, subst, arith}
 use Rattle.grpc_base.specs.Counts.{Rises}
+use Rattle.grpc_base.specs.declared.event.Conn.{Conn}
+use Rattle.grpc_base.specs.declared.event.Conn.TheVariants as conn
 use Rattle.grpc_base.specs.declared.event.Entry.{Entry}
 use Rattle.grpc_base.specs.declared.event.Event.{Event}
+use Rattle.grpc_base.specs.declared.event.Refusal.{Refusal}
 use Rattle.grpc_base.specs.declared.event.Reply.{Reply}
 use Rattle.grpc_base.specs.declared.event.Reply.TheVariants as reply
 use Rattle.grpc_base.specs.declared.host.DnsName.{DnsName}
+use Rattle.grpc_base.specs.declared.post.Look.{Look}
+use Rattle.grpc_base.specs.declared.post.Look.TheVariants as looks
 use Rattle.grpc_base.specs.declared.post.PostError.{PostError}
 use Rattle.grpc_base.specs.declared.post.PostError.TheVariants as failed
 use Rattle.grpc_base.specs.declared.post.View.{View}
@@ -21,6 +26,7 @@ use Rattle.live_pump.proofs.KindLaws.{adds_none, adds_one, adds_then}
 use Rattle.live_run.specs.Outcomes.{EndsLookups, outcome_of}
 use Rattle.live_run.specs.Sides.{IsOfNames}
 use Rattle.live_run.specs.declared.outcome.Outcome.{Outcome}
+use Rattle.live_run.specs.declared.outcome.Outcome.TheVariants as outcome
 
 posted : (config : Option (List ℕ)) (e : Event) (before after : HandleSeen) (came : Result Reply PostError) → IsOfNames config e → PostsOne e before after came → AddsOnly (IsOfNames config) before.made after.made
 posted config e before after (Ok r) kind posts = adds_one (IsOfNames config) e before.made after.made r kind posts.made.0
@@ -76,11 +82,69 @@ reports_unless false may_give may_find config wanted before after result (moment
 pub turn_reports : (view : View) (may_give : ℕ → Type 0) (may_find : DnsName → List ℕ → Type 0) (config : Option (List ℕ)) (before after : JobSeen) (result : DnsOnce) → Turns view may_give may_find config before after result → ReportsErrors before.handle after.handle result
 turn_reports view may_give may_find config before after result turns = reports_unless (is_shut view.state) may_give may_find config view.wants_resolution before after result turns
 
+-- an answer that ends the worker whole: the look showed a channel that is shut down, or one entry was made and refused
+abbrev pub EndsWhole : View → HandleSeen → HandleSeen → DnsOnce → Type 0
+EndsWhole view before after once.Shut = view.state ≡ conn.Shutdown
+EndsWhole view before after (once.Refused n) = (last : Entry) × (r : Refusal) × (after.made ≡ before.made ++ last ∷ []) × (last.reply ≡ reply.Refused r)
+EndsWhole view before after _ = Unit {0}
+
+shut_state : (state : Conn) → is_shut state ≡ true → state ≡ conn.Shutdown
+shut_state conn.Shutdown is = refl
+shut_state conn.Idle is = absurd (cc)
+shut_state conn.Connecting is = absurd (cc)
+shut_state conn.Ready is = absurd (cc)
+shut_state conn.Failure is = absurd (cc)
+
+once_ends : (view : View) (e : Event) (before after : HandleSeen) (came : Result Reply PostError) → PostsOne e before after came → EndsWhole view before after (once_of came)
+once_ends view e before after (Ok (reply.Refused r)) posts = let adds = posts.made.0 in (adds.0, r, adds.1, adds.3)
+once_ends view e before after (Ok r) posts = tt
+once_ends view e before after (Err x) posts = tt
+
+reported_ends : (view : View) (e : Event) (before after : HandleSeen) (result : DnsOnce) → ReportsThat e before after result → EndsWhole view before after result
+reported_ends view e before after result (inl (came, posts, is)) = subst (λ (r : DnsOnce). EndsWhole view before after r) (sym is) (once_ends view e before after came posts)
+reported_ends view e before after result (inr (nothing, is)) = subst (λ (r : DnsOnce). EndsWhole view before after r) (sym is) tt
+
+ends_if : (due : Bool) (view : View) (may_find : DnsName → List ℕ → Type 0) (config : Option (List ℕ)) (moment : ℕ) (before after : JobSeen) (result : DnsOnce) → TurnsIf due may_find config moment before after result → EndsWhole view before.handle after.handle result
+ends_if true view may_find config moment before after result (answer, looks, reports_that) = reported_ends view (event_of answer config) before.handle after.handle result reports_that
+ends_if false view may_find config moment before after result (nothing, is) = subst (λ (r : DnsOnce). EndsWhole view before.handle after.handle r) (sym is) tt
+
+ends_unless : (shut : Bool) (view : View) (may_give : ℕ → Type 0) (may_find : DnsName → List ℕ → Type 0) (config : Option (List ℕ)) (wanted : Bool) (before after : JobSeen) (result : DnsOnce) → is_shut view.state ≡ shut → TurnsUnless shut may_give may_find config wanted before after result → EndsWhole view before.handle after.handle result
+ends_unless true view may_give may_find config wanted before after result shut (nothing, is) = subst (λ (r : DnsOnce). EndsWhole view before.handle after.handle r) (sym is) (shut_state view.state shut)
+ends_unless false view may_give may_find config wanted before after result shut (moment, given, turns) = ends_if (is_turn before.search.watch.newest moment wanted) view may_find config moment before after result turns
+
+turn_ends : (view : View) (may_give : ℕ → Type 0) (may_find : DnsName → List ℕ → Type 0) (config : Option (List ℕ)) (before after : JobSeen) (result : DnsOnce) → Turns view may_give may_find config before after result → EndsWhole view before.handle after.handle result
+turn_ends view may_give may_find config before after result turns = ends_unless (is_shut view.state) view may_give may_find config view.wants_resolution before after result refl turns
+
+-- a worker that the look ended
+ends_shut : (start end : WorkerSeen) (look : Option Look) (view : View) (may_give : ℕ → Type 0) (may_find : DnsName → List ℕ → Type 0) (config : Option (List ℕ)) (before after : JobSeen) (result : DnsOnce)
+    → result ≡ once.Shut → look ≡ Some (looks.Glance view) → Turns view may_give may_find config before after result → before.handle.errors ≡ start.errors → end.errors ≡ after.handle.errors
+    → EndsLookups start end look outcome.Whole
+ends_shut start end look view may_give may_find config before after result is looked turns so_far same =
+    let counted : after.handle.errors ≡ before.handle.errors = subst (λ (r : DnsOnce). ReportsErrors before.handle after.handle r) is (turn_reports view may_give may_find config before after result turns) in
+    let shut : view.state ≡ conn.Shutdown = subst (λ (r : DnsOnce). EndsWhole view before.handle after.handle r) is (turn_ends view may_give may_find config before after result turns) in
+    (same ∙ counted ∙ so_far, inl (view, looked, shut))
+
+-- a worker whose last entry was refused
+ends_refused : (given : Option (List ℕ)) (start end : WorkerSeen) (look : Option Look) (view : View) (may_give : ℕ → Type 0) (may_find : DnsName → List ℕ → Type 0) (config : Option (List ℕ)) (before after : JobSeen) (result : DnsOnce) (n : ℕ)
+    → result ≡ once.Refused n → Turns view may_give may_find config before after result → before.handle.errors ≡ start.errors → end.errors ≡ after.handle.errors
+    → AddsOnly (IsOfNames given) start.made before.handle.made → end.made ≡ after.handle.made → EndsLookups start end look outcome.Whole
+ends_refused given start end look view may_give may_find config before after result n is turns so_far same adds made =
+    let counted : after.handle.errors ≡ before.handle.errors = subst (λ (r : DnsOnce). ReportsErrors before.handle after.handle r) is (turn_reports view may_give may_find config before after result turns) in
+    let ends : EndsWhole view before.handle after.handle (once.Refused n) = subst (λ (r : DnsOnce). EndsWhole view before.handle after.handle r) is (turn_ends view may_give may_find config before after result turns) in
+    (same ∙ counted ∙ so_far, inr (adds.added, ends.0, ends.1, made ∙ ends.2 ∙ ap (λ (l : List Entry). l ++ ends.0 ∷ []) adds.made, ends.3))
+
+-- a worker that ended whole, by its last turn
+pub ends_whole : (given : Option (List ℕ)) (start end : WorkerSeen) (look : Option Look) (view : View) (may_give : ℕ → Type 0) (may_find : DnsName → List ℕ → Type 0) (config : Option (List ℕ)) (before after : JobSeen) (result : DnsOnce)
+    → (result ≡ once.Shut) ⊎ ((n : ℕ) × (result ≡ once.Refused n)) → look ≡ Some (looks.Glance view) → Turns view may_give may_find config before after result → before.handle.errors ≡ start.errors → end.errors ≡ after.handle.errors
+    → AddsOnly (IsOfNames given) start.made before.handle.made → end.made ≡ after.handle.made → EndsLookups start end look outcome.Whole
+ends_whole given start end look view may_give may_find config before after result (inl is) looked turns so_far same adds made = ends_shut start end look view may_give may_find config before after result is looked turns so_far same
+ends_whole given start end look view may_give may_find config before after result (inr (n, is)) looked turns so_far same adds made = ends_refused given start end look view may_give may_find config before after result n is turns so_far same adds made
+
 -- the outcome of a worker by the error that it was given
-pub ends_failed : (start after : WorkerSeen) (errors : ℕ) (e : PostError) (o : Outcome) → errors ≡ start.errors → o ≡ outcome_of e → (Rises errors after.errors × (after.last ≡ Some e)) ⊎ (e ≡ failed.NoMemory false) → EndsLookups start after o
-ends_failed start after errors (failed.NoMemory spent) o same is cause =
-    subst (λ (x : Outcome). EndsLookups start after x) (sym is)
+pub ends_failed : (start after : WorkerSeen) (look : Option Look) (errors : ℕ) (e : PostError) (o : Outcome) → errors ≡ start.errors → o ≡ outcome_of e → (Rises errors after.errors × (after.last ≡ Some e)) ⊎ (e ≡ failed.NoMemory false) → EndsLookups start after look o
+ends_failed start after look errors (failed.NoMemory spent) o same is cause =
+    subst (λ (x : Outcome). EndsLookups start after look x) (sym is)
     (failed.NoMemory spent, refl, subst (λ (n : ℕ). (Rises n after.errors × (after.last ≡ Some (failed.NoMemory spent))) ⊎ (failed.NoMemory spent ≡ failed.NoMemory false)) same cause)
-ends_failed start after errors (failed.SessionFull entries octets) o same is cause =
-    subst (λ (x : Outcome). EndsLookups start after x) (sym is)
+ends_failed start after look errors (failed.SessionFull entries octets) o same is cause =
+    subst (λ (x : Outcome). EndsLookups start after look x) (sym is)
     (failed.SessionFull entries octets, refl, subst (λ (n : ℕ). (Rises n after.errors × (after.last ≡ Some (failed.SessionFull entries octets))) ⊎ (failed.SessionFull entries octets ≡ failed.NoMemory false)) same cause)

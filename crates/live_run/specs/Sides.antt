@@ -41,15 +41,15 @@ IsOfNames reported _ = ⊥
 
 -- the worker that looks a name up ended. It posted nothing but what is of lookups, with the config that it was given. Its handle has
 -- the share of the channel that it had
-pub record NameDone {H L D : Type 0} (seen : H → HandleSeen) (share : H → List ℕ) (before after : NameJob H L D) : Type 0 where
-  pub ends : EndsLookups (seen before.post) (seen after.post) after.outcome
+pub record NameDone {H L D : Type 0} (seen : H → HandleSeen) (share : H → List ℕ) (last_look : H → Option Look) (before after : NameJob H L D) : Type 0 where
+  pub ends : EndsLookups (seen before.post) (seen after.post) (last_look after.post) after.outcome
   pub posts : AddsOnly (IsOfNames before.config) (seen before.post).made (seen after.post).made
   pub same_share : share after.post ≡ share before.post
 
 -- a worker beside the calls did its work
 abbrev pub LinkDone : {H N L D : Type 0} → (H → HandleSeen) → (H → List ℕ) → (H → Option Look) → (N → Option (List (List ℕ))) → LinkJob H N L D → LinkJob H N L D → Type 0
 LinkDone seen share last_look coming (job.Net before) (job.Net after) = NetDone seen share last_look coming before after
-LinkDone seen share last_look coming (job.Name before) (job.Name after) = NameDone seen share before after
+LinkDone seen share last_look coming (job.Name before) (job.Name after) = NameDone seen share last_look before after
 LinkDone seen share last_look coming before after = ⊥
 
 -- how a worker beside the calls ended

@@ -91,7 +91,7 @@ pub struct NameJob<H, L, D> {
 impl<H: Post + Glance, L: Lookup, D: Draws> NameJob<H, L, D> {
     /// Looks the name up whenever it is its turn, until the channel is shut down.
     pub(crate) fn work<W: Wait, C: Clock>(&mut self, rt: &W, clock: &C)
-        ensures end { let before : HandleSeen = record { made = H.made self.old.post; errors = H.errors self.old.post; last = H.last_error self.old.post } in let after : HandleSeen = record { made = H.made self.new.post; errors = H.errors self.new.post; last = H.last_error self.new.post } in EndsLookups before after self.new.outcome }
+        ensures end { let before : HandleSeen = record { made = H.made self.old.post; errors = H.errors self.old.post; last = H.last_error self.old.post } in let after : HandleSeen = record { made = H.made self.new.post; errors = H.errors self.new.post; last = H.last_error self.new.post } in EndsLookups before after (H.last_look self.new.post) self.new.outcome }
         ensures posts { AddsOnly (IsOfNames self.old.config) (H.made self.old.post) (H.made self.new.post) }
         ensures share { H.share self.new.post ≡ H.share self.old.post }
     {

@@ -39,6 +39,6 @@ steps_run origin old new s r step is room (inr spent) = (let before : old.spent 
 
 -- and so does a step that fails
 pub fails_run : (origin : List ℕ) (e : Event) (old new : CoreSeen) (error : PostError) → Fails e old error new → IsRunning origin old → IsRunning origin new
-fails_run origin e old new (failed.NoMemory false) fails running = subst (IsRunning origin) (sym fails) running
+fails_run origin e old new (failed.NoMemory false) fails running = subst (IsRunning origin) (sym fails.0) running
 fails_run origin e old new (failed.NoMemory true) fails running = inr fails.0
 fails_run origin e old new (failed.SessionFull entries octets) fails running = subst (IsRunning origin) (sym fails.0) running

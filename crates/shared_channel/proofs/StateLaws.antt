@@ -52,13 +52,13 @@ pub fails_of : (old new : CoreSeen) (e : Event) (r : Result Reply CoreError) (er
     → (r ≡ Err (faults.NoMemory false) → (new ≡ old) × (old.spent ≡ false))
     → (r ≡ Err (faults.NoMemory true) → (new.spent ≡ true) × (new.journal ≡ old.journal))
     → Fails e old (error_of error) new
-fails_of old new e r (faults.NoMemory false) is full refused unspent spent = (unspent is).0
+fails_of old new e r (faults.NoMemory false) is full refused unspent spent = unspent is
 fails_of old new e r (faults.NoMemory true) is full refused unspent spent = spent is
 fails_of old new e r (faults.SessionFull entries bytes) is full refused unspent spent = (refused entries bytes is, (full entries bytes).0 is)
 
 -- a step that fails leaves the journal
 pub fails_same : (e : Event) (old new : CoreSeen) (error : PostError) → Fails e old error new → new.journal.entries ≡ old.journal.entries
-fails_same e old new (failed.NoMemory false) f = ap (λ (c : CoreSeen). c.journal.entries) f
+fails_same e old new (failed.NoMemory false) f = ap (λ (c : CoreSeen). c.journal.entries) f.0
 fails_same e old new (failed.NoMemory true) f = ap (λ (j : Journal). j.entries) f.1
 fails_same e old new (failed.SessionFull entries octets) f = ap (λ (c : CoreSeen). c.journal.entries) f.0
 

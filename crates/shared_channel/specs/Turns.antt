@@ -25,9 +25,9 @@ CannotGoOn core = IsNearlyFull core.journal.entries ⊎ (core.spent ≡ true)
 abbrev pub ShowsView : CoreSeen → View → Type 0
 ShowsView core view = (view ≡ view_of core) ⊎ (CannotGoOn core × (view ≡ record (view_of core) { state = conn.Shutdown }))
 
--- a step that makes no entry leaves the channel as before, but for one that ran out of memory half way
+-- a step that makes no entry leaves the channel as before, but for one that ran out of memory half way. A channel that is spent is said to be so
 abbrev pub Fails : Event → CoreSeen → PostError → CoreSeen → Type 0
-Fails e old (failed.NoMemory false) new = new ≡ old
+Fails e old (failed.NoMemory false) new = (new ≡ old) × (old.spent ≡ false)
 Fails e old (failed.NoMemory true) new = (new.spent ≡ true) × (new.journal ≡ old.journal)
 Fails e old (failed.SessionFull entries octets) new = (new ≡ old) × IsFull old e entries octets
 

@@ -150,7 +150,9 @@ impl<P: Balancer> SharedChannel<P> {
         &'b self,
         seat: &'b mut ChannelSeat<'a, P, W, C, D>,
         call: u32,
-    ) -> TakeFuture<'b, 'a, P, W, C, D> {
+    ) -> TakeFuture<'b, 'a, P, W, C, D>
+        ensures call { result.call ≡ call }
+    {
         seat.clock.wake(seat.owed.at_wait());
         seat.owed = Owed::Nothing;
         TakeFuture { seat, call }

@@ -1,7 +1,7 @@
-use Rattle.std.proofs.Common.{◌∙◌}
+use Rattle.std.proofs.Common.{◌∙◌, refl}
 use Rattle.dns_watch.specs.declared.job.DnsOnce.TheVariants as once
 use Rattle.live_run.specs.Sides.{seen_by}
-use Rattle.live_run.proofs.NameLaws.{ends_failed, turn_adds, turn_reports}
+use Rattle.live_run.proofs.NameLaws.{ends_failed, ends_whole, turn_adds, turn_reports}
 use Rattle.live_run.proofs.jobs.NameJob.work.Goals as goal
 
 pub loop-preserved-in-Nothing : goal.loop-preserved-in-Nothing
@@ -23,9 +23,14 @@ loop-preserved g c = record {
 pub returns-in-Shut-clause-posts : goal.returns-in-Shut-clause-posts
 returns-in-Shut-clause-posts g c = turn_adds _ c.dns_once.ensures.turn.0 _ _ _ _ _ _ c.dns_once.result c.loop.invariant.config c.loop.invariant.posts c.dns_once.ensures.turn.2
 
+pub returns-in-Shut-clause-end : goal.returns-in-Shut-clause-end
+returns-in-Shut-clause-end g c =
+    ends_whole _ (seen_by g.H.Post.made g.H.Post.errors g.H.Post.last_error c.args.self.now.post) (seen_by g.H.Post.made g.H.Post.errors g.H.Post.last_error c.dns_once.new.post) _ c.dns_once.ensures.turn.0 _ _ _ _ _ c.dns_once.result c.in-Shut.is
+    c.dns_once.ensures.turn.1 c.dns_once.ensures.turn.2 c.loop.invariant.errors refl c.loop.invariant.posts refl
+
 pub returns-in-Failed-clause-end : goal.returns-in-Failed-clause-end
 returns-in-Failed-clause-end g c =
-    ends_failed (seen_by g.H.Post.made g.H.Post.errors g.H.Post.last_error c.args.self.now.post) (seen_by g.H.Post.made g.H.Post.errors g.H.Post.last_error c.dns_once.new.post) _ c.in-Failed.error _ c.loop.invariant.errors c.of_error-self.ensures
+    ends_failed (seen_by g.H.Post.made g.H.Post.errors g.H.Post.last_error c.args.self.now.post) (seen_by g.H.Post.made g.H.Post.errors g.H.Post.last_error c.dns_once.new.post) _ _ c.in-Failed.error _ c.loop.invariant.errors c.of_error-self.ensures
     (turn_reports c.in-Failed.ensures.turn.0 _ _ _ _ _ (once.Failed c.in-Failed.error) c.in-Failed.ensures.turn.2)
 
 pub returns-in-Failed-clause-posts : goal.returns-in-Failed-clause-posts
