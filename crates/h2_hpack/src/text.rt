@@ -5,7 +5,7 @@ ghost use Rattle.h2_hpack.specs.Blocks.{raw_string_at, text_at, text_after, text
 use crate::fault::HpackFault;
 use crate::huffman::decode;
 use crate::integer::integer;
-use grpc_base::Octets;
+use grpc_base::{NoMemory, Octets};
 use std::alloc::Global;
 
 /// A string as it stands in a block, and what follows it (RFC 7541, section 5.2).
@@ -37,9 +37,9 @@ fn frequent(bytes: &[u8]) -> Option<&'static [u8]>
     if text == bytes { Some(text) } else { None }
 }
 
-/// The text at the start of some bytes, where it is a frequent one that is spelled plainly, and what follows it.
+/// The string at the start of some bytes, where it is spelled plainly, and what follows it.
 #[tactic(auto, using(crate::proofs::TextLemmas::plain_text))]
-pub(crate) fn frequent_text(bytes: &[u8]) -> Option<(&'static [u8], &[u8])>
+fn plain_string(bytes: &[u8]) -> Option<(&[u8], &[u8])>
     ensures text { IfSome result (λ x. text_at bytes.now ≡ Ok (x.0.now, x.1.now)) }
     ensures shorter { IfSome result (λ x. length x.1.now ≤ length bytes.now) }
 {
@@ -47,8 +47,27 @@ pub(crate) fn frequent_text(bytes: &[u8]) -> Option<(&'static [u8], &[u8])>
     if raw.huffman {
         return None;
     }
-    let text = frequent(raw.bytes)?;
-    Some((text, raw.rest))
+    Some((raw.bytes, raw.rest))
+}
+
+/// The text at the start of some bytes, where it is a frequent one that is spelled plainly, and what follows it.
+pub(crate) fn frequent_text(bytes: &[u8]) -> Option<(&'static [u8], &[u8])>
+    ensures text { IfSome result (λ x. text_at bytes.now ≡ Ok (x.0.now, x.1.now)) }
+    ensures shorter { IfSome result (λ x. length x.1.now ≤ length bytes.now) }
+{
+    let (plain, rest) = plain_string(bytes)?;
+    let text = frequent(plain)?;
+    Some((text, rest))
+}
+
+/// A text that is spelled plainly; a frequent one is not copied.
+fn plain_octets(alloc: Global, text: &[u8]) -> Result<Octets, NoMemory>
+    ensures { IfOk result (λ o. o ≡ text.now) }
+{
+    match frequent(text) {
+        Some(text) => Ok(Octets::of_static(text)),
+        None => Octets::of_slice(alloc, text),
+    }
 }
 
 /// The text at the start of some bytes, and what follows it.
@@ -58,8 +77,8 @@ pub(crate) fn text(alloc: Global, bytes: &[u8]) -> Result<(Octets, &[u8]), Hpack
     ensures shorter { IfOk result (λ x. length x.1.now ≤ length bytes.now) }
     ensures fault { IfErr result (λ e. e ≢ HpackFault.NoMemory → text_at bytes.now ≡ Err e) }
 {
-    if let Some((text, rest)) = frequent_text(bytes) {
-        return Ok((Octets::of_static(text), rest));
+    if let Some((plain, rest)) = plain_string(bytes) {
+        return Ok((plain_octets(alloc, plain)?, rest));
     }
     let mut text = Vec::new(alloc);
     let rest = append_text(&mut text, bytes)?;
