@@ -54,6 +54,15 @@ abbrev pub reported_of : GrpcSeen → ℕ → LinkNews → Option (ℕ × Reader
 reported_of g tag n None = record { link = g; news = [] }
 reported_of g tag n (Some x) = reported_by (record g { readers = remove g.readers x.0 }) tag (stepped x.1 tag n)
 
+-- the tag of news of a stream
+abbrev pub tag_of : LinkNews → Option ℕ
+tag_of (link.Fields tag fields end seen) = Some tag
+tag_of (link.Data tag bytes end seen) = Some tag
+tag_of (link.Reset tag code seen) = Some tag
+tag_of (link.Fault tag code seen) = Some tag
+tag_of (link.Unseen tag seen) = Some tag
+tag_of n = None
+
 -- one of the link's news; a broken link has no tags any more
 abbrev pub reported : GrpcSeen → LinkNews → Report
 reported g link.Ready = record { link = g; news = news.Ready ∷ [] }

@@ -5,7 +5,7 @@ ghost use Rattle.h2_link.specs.Feeds.{Holds};
 ghost use Rattle.h2_link.specs.Received.{handled};
 ghost use Rattle.h2_link.specs.Steps.{cut, pinged, placed, sealed_wire};
 ghost use Rattle.h2_link.specs.Wire.{fresh_wire, kept_bytes};
-ghost use Rattle.grpc_link.specs.Links.{found, link_received, opened_all, placed_reader, reported, reported_all, reported_of, without};
+ghost use Rattle.grpc_link.specs.Links.{found, link_received, opened_all, placed_reader, reported, reported_all, reported_of, tag_of, without};
 
 use crate::readers::Readers;
 use attempt_ledger::News;
@@ -129,7 +129,20 @@ impl GrpcLink {
     }
 
     // Appends what one of the link's news says.
+    #[tactic(auto, using(crate::proofs::NewsLemmas::of_tag))]
     fn report(&mut self, news: LinkNews, all: &mut Items<News>) -> Result<(), NoMemory>
+        ensures news { OnOk result (all.new ≡ all.old ++ (reported self.old news).news) }
+        ensures after { OnOk result (self.new ≡ (reported self.old news).link) }
+    {
+        match tag_of(&news) {
+            Some(tag) => self.report_of(tag, news, all),
+            None => self.report_link(news, all),
+        }
+    }
+
+    // Appends what news of the link itself say.
+    fn report_link(&mut self, news: LinkNews, all: &mut Items<News>) -> Result<(), NoMemory>
+        requires { tag_of news ≡ None }
         ensures news { OnOk result (all.new ≡ all.old ++ (reported self.old news).news) }
         ensures after { OnOk result (self.new ≡ (reported self.old news).link) }
     {
@@ -140,55 +153,7 @@ impl GrpcLink {
                 self.readers.clear();
                 all.push(News::Broken { code })
             }
-            LinkNews::Fields {
-                tag,
-                fields,
-                end,
-                seen,
-            } => {
-                self.report_of(
-                    tag,
-                    LinkNews::Fields {
-                        tag,
-                        fields,
-                        end,
-                        seen,
-                    },
-                    all,
-                )
-            }
-            LinkNews::Data {
-                tag,
-                octets,
-                end,
-                seen,
-            } => {
-                self.report_of(
-                    tag,
-                    LinkNews::Data {
-                        tag,
-                        octets,
-                        end,
-                        seen,
-                    },
-                    all,
-                )
-            }
-            LinkNews::Reset { tag, code, seen } => self.report_of(
-                tag,
-                LinkNews::Reset { tag, code, seen },
-                all,
-            ),
-            LinkNews::Fault { tag, code, seen } => self.report_of(
-                tag,
-                LinkNews::Fault { tag, code, seen },
-                all,
-            ),
-            LinkNews::Unseen { tag, seen } => self.report_of(
-                tag,
-                LinkNews::Unseen { tag, seen },
-                all,
-            ),
+            _ => unreachable!(),
         }
     }
 
@@ -243,6 +208,38 @@ impl GrpcLink {
         ensures within { result ≤ 16392 + 65536 }
     {
         self.link.kept()
+    }
+}
+
+// The tag of news of a stream.
+fn tag_of(news: &LinkNews) -> Option<u64>
+    ensures { result ≡ tag_of news.now }
+{
+    match news {
+        LinkNews::Fields {
+            tag,
+            fields: _,
+            end: _,
+            seen: _,
+        }
+        | LinkNews::Data {
+            tag,
+            octets: _,
+            end: _,
+            seen: _,
+        }
+        | LinkNews::Reset {
+            tag,
+            code: _,
+            seen: _,
+        }
+        | LinkNews::Fault {
+            tag,
+            code: _,
+            seen: _,
+        }
+        | LinkNews::Unseen { tag, seen: _ } => Some(*tag),
+        LinkNews::Ready | LinkNews::Retiring | LinkNews::Broken { code: _ } => None,
     }
 }
 
