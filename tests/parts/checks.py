@@ -59,7 +59,7 @@ def slowness():
 
 def timed(took, longest):
     """Whether something ended within its bound. A bound is for a machine that does nothing else: where one is passed, twice as much is
-    allowed, and more the slower this machine is just now, and a line tells it."""
+    allowed, and more the slower this machine is just now, and a line says so."""
     if took <= longest:
         return "in time"
     allowed = 2 * longest * max(slowness() for _ in range(3))
@@ -80,7 +80,7 @@ def case(name):
 def run_cases(count, *given, needs_program=True, tries=1):
     """Runs the marked functions that are asked for, if the program that they need is there, and gives the status. Where tests lean on the
     clock of a machine that others use too, one that fails is tried again, so many times in all: the last time counts, and what failed
-    before it is told in lines of their own."""
+    before it is reported in lines of their own."""
     # (who starts this may have it ignore or hold back signals, as a shell does in the background; the programs that are tried would
     # inherit that)
     signal.signal(signal.SIGINT, signal.default_int_handler)

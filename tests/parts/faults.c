@@ -1,8 +1,8 @@
-// Devices and memory that fail, for tests: a library for LD_PRELOAD over the C library's calls. It is told by variables:
+// Devices and memory that fail, for tests: a library for LD_PRELOAD over the C library's calls. Variables say what is to fail:
 //   FAULTS=DEVICE:FIRST:LAST:ERROR,..   of this device's calls the ones from FIRST to LAST fail with the error's number; 1 is the first call
 //   PIECES=DEVICE:BYTES,..              a call of this device moves at most so many bytes
 //   COUNTS=FILE                         gets a 64-bit number for each device, in the order of DEVICES: its calls so far
-// A call counts where it has something to tell: of reads from links those that give bytes or the end, of writes to links those that the
+// A call counts where it has something to report: of reads from links those that give bytes or the end, of writes to links those that the
 // system would take now, of waiting calls all. Memory counts where the program itself asks for it, and not the C library.
 #define _GNU_SOURCE
 #include <dlfcn.h>
@@ -51,7 +51,7 @@ static enum device named(const char *name, size_t length) {
   _exit(120);
 }
 
-// The code of the program itself, which is the first object that is told.
+// The code of the program itself, which is the first object that is listed.
 static int find_code(struct dl_phdr_info *info, size_t size, void *unused) {
   (void)size, (void)unused;
   for (int it = 0; it < info->dlpi_phnum; it++) {
@@ -96,7 +96,7 @@ __attribute__((constructor)) static void begin(void) {
   is_ready = 1;
 }
 
-// Counts a call of a device; whether it is to fail, with errno as it is told.
+// Counts a call of a device; whether it is to fail, with errno as it is given.
 static int fails(enum device device) {
   if (device >= COUNT || !is_ready) return 0;
   uint64_t number = __atomic_add_fetch(&counts[device], 1, __ATOMIC_SEQ_CST);

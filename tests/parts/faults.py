@@ -37,8 +37,8 @@ class Faults:
         the calls of these devices move at most so many bytes."""
         if os.path.exists(self.counts):
             os.unlink(self.counts)
-        told = ",".join(f"{device}:{first}:{last}:{getattr(errno, error)}" for device, first, last, error in faults)
-        return {**os.environ, "LD_PRELOAD": self.library, "COUNTS": self.counts, "FAULTS": told, "PIECES": ",".join(f"{device}:{most}" for device, most in pieces)}
+        wanted = ",".join(f"{device}:{first}:{last}:{getattr(errno, error)}" for device, first, last, error in faults)
+        return {**os.environ, "LD_PRELOAD": self.library, "COUNTS": self.counts, "FAULTS": wanted, "PIECES": ",".join(f"{device}:{most}" for device, most in pieces)}
 
     def called(self, device):
         """How often the last run called a device."""

@@ -46,7 +46,7 @@ class Link:
 
 
 class Known:
-    """What the replies to the beginning of a session tell."""
+    """What the replies to the beginning of a session say."""
 
     def __init__(self):
         self.entries, self.open, self.waiting, self.links, self.was_asked = 0, [], [], [], False

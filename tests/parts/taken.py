@@ -89,12 +89,12 @@ def response_of(row, frames):
 
 
 def code_of(status):
-    """The code that trailers tell by their `grpc-status`, where they have one alone."""
+    """The code that trailers give by their `grpc-status`, where they have one alone."""
     return int(status[0]) if len(status) == 1 and re.fullmatch(rb"[0-9]+", status[0]) and int(status[0]) <= 16 else 2
 
 
 def takes_of(events):
-    """What the takes of each call gave: items, and behind the end what came then."""
+    """What the takes of each call gave: items, and after the end what came then."""
     found = {}
     for _, event, reply in events:
         if event.startswith("take ") and reply != "notyet":
@@ -110,10 +110,10 @@ def of_call(call, replies, rows, frames):
     response = response_of(committed[-1], frames) if committed else Response()
     whole = response.items()
     ends = [at for at, reply in enumerate(replies) if reply.startswith("end ")]
-    behind = replies[ends[0] + 1 :] if ends else []
+    later = replies[ends[0] + 1 :] if ends else []
     taken = [re.sub(r"^head .*", "head", reply) for reply in (replies[: ends[0]] if ends else replies)]
-    if any(reply != "refused 2" for reply in behind):
-        yield f"call {call} is told something behind its end"
+    if any(reply != "refused 2" for reply in later):
+        yield f"call {call} is given something after its end"
     if taken != whole[: len(taken)]:
         yield f"call {call} is not given what came for it, in order"
     if not ends:
@@ -126,7 +126,7 @@ def of_call(call, replies, rows, frames):
     elif code != committed[-1]["code"]:
         yield f"call {call} ends with another code than its attempt"
     elif committed[-1]["cause"] == "status" and int(code) != code_of(response.status or []):
-        yield f"call {call} ends with another code than its trailers tell"
+        yield f"call {call} ends with another code than its trailers say"
     if taken != whole:
         yield f"call {call} is not given all that came for it"
 

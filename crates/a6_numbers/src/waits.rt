@@ -35,7 +35,7 @@ pub fn retry_wait(cap: u64, word: u64) -> u64
 }
 
 /// The wait of the `n`-th dial since the last success in nanoseconds, `n` from 1: 1 s, times 1.6 for each
-/// further dial, at most 120 s, spread by a fifth to both sides; the first dial's is not spread
+/// further dial, at most 120 s, spread by a fifth to both sides. The first dial's is not spread
 /// (gRPC, "Connection Backoff Protocol").
 pub fn next_connect_wait(n: u32, word: u64) -> u64
     requires { 1 ≤ n }

@@ -14,19 +14,6 @@ use Rattle.attempt_buffer.specs.declared.cursors.Cursor.{Cursor}
 use Rattle.attempt_buffer.specs.declared.messages.Spot.{Spot}
 use Rattle.attempt_buffer.proofs.SpotLaws.{bytes_more, sized_more, unpassed_there}
 
--- the row's cursor, as a contract sees it
-pub found_seen : (row : ℕ) (cs : List Cursor) → option_map (λ c. c.spot.taken) (find (λ c. c.row == row) cs) ≡ taken_uncommitted row (map seen_cursor cs)
-found_seen row [] = refl
-found_seen row (c ∷ cs) =
-    elim (c.row == row) as (λ b. option_map (λ x. x.spot.taken) (if b then Some c else find (λ x. x.row == row) cs) ≡ option_map (λ x. x.taken) (if b then Some (seen_cursor c) else find (λ x. x.row == row) (map seen_cursor cs)))
-    [ true ↦ refl | false ↦ found_seen row cs ]
-
-pub found_at : (ms : List (List ℕ)) (row : ℕ) (cs : List Cursor) → CursorsAreAt ms cs → IfSome (find (λ c. c.row == row) cs) (λ c. IsAt ms c.spot)
-found_at ms row [] at = tt
-found_at ms row (c ∷ cs) at =
-    elim (c.row == row) as (λ b. IfSome (if b then Some c else find (λ x. x.row == row) cs) (λ x. IsAt ms x.spot))
-    [ true ↦ at.0 | false ↦ found_at ms row cs at.1 ]
-
 -- a cursor that moves
 one_seen : (row : ℕ) (spot : Spot) (c : Cursor) → seen_cursor (at_spot row spot c) ≡ moved_one row spot.taken (seen_cursor c)
 one_seen row spot c =
@@ -67,10 +54,6 @@ closed_at ms row (c ∷ cs) at =
 pub begun_at : (ms : List (List ℕ)) (cs : List Cursor) (c : Cursor) → CursorsAreAt ms cs → IsAt ms c.spot → CursorsAreAt ms (cs ++ c ∷ [])
 begun_at ms [] c at here = (here, tt)
 begun_at ms (x ∷ cs) c at here = (at.0, begun_at ms cs c at.1 here)
-
-pub begun_seen : (cs : List Cursor) (c : Cursor) → map seen_cursor (cs ++ c ∷ []) ≡ map seen_cursor cs ++ seen_cursor c ∷ []
-begun_seen [] c = refl
-begun_seen (x ∷ cs) c = ap (λ l. seen_cursor x ∷ l) (begun_seen cs c)
 
 -- one message more leaves each spot
 first_more : (ms : List (List ℕ)) (k o : ℕ) (m : List ℕ) → k ≤ length ms → 0 < length m → IsInFirst o (drop k ms) → IsInFirst o (drop k (ms ++ m ∷ []))
@@ -131,11 +114,6 @@ passed_at ms s sized at =
 -- where the passed messages are gone, a spot stands in the first message
 pub spot_rest : (ms : List (List ℕ)) (k o : ℕ) → IsInFirst o (drop k ms) → IsSpot (drop k ms) 0 o o
 spot_rest ms k o first = record { within = omega arith; sum = sym (zero-add o); first = first }
-
--- a byte of the first message is within the length of a message, and a spot within the text
-pub first_short : (ms : List (List ℕ)) (o : ℕ) → MessagesAreSized ms → IsInFirst o ms → o ≤ 4194309
-first_short [] o sized first = omega (arith, first)
-first_short (m ∷ ms) o sized first = omega (arith, first, sized.1)
 
 first_within : (ms : List (List ℕ)) (o : ℕ) → IsInFirst o ms → o ≤ length (concat ms)
 first_within [] o first = omega (arith, first)
@@ -221,10 +199,6 @@ pub most_is : (o : Option Committed) → most_bytes o ≡ (if is_some (option_ma
 most_is None = refl
 most_is (Some c) = refl
 
-pub most_at_most : (o : Option Committed) → most_bytes o ≤ 8454153
-most_at_most None = omega arith
-most_at_most (Some c) = omega arith
-
 -- where a committed row is open, no other one is
 pub alone_kept : (f : List Cursor → List Cursor) (cs : List Cursor) (o : Option Committed) → f [] ≡ [] → IfSome o (λ c. c.is_open ≡ true → cs ≡ []) → IfSome o (λ c. c.is_open ≡ true → f cs ≡ [])
 alone_kept f cs None e alone = tt
@@ -235,18 +209,6 @@ alone_opened whole other cs None can = tt
 alone_opened whole other cs (Some c) can = λ h.
     let closed : not c.is_open ≡ true = (and_parts whole (not c.is_open) (and_parts (whole && not c.is_open) other can).0).1 in
     absurd (false≢true (sym (not-true c.is_open closed) ∙ h))
-
--- a row that is closed
-pub shut_seen : (o : Option Committed) → option_map seen_committed (option_map shut_code o) ≡ option_map shut (option_map seen_committed o)
-shut_seen None = refl
-shut_seen (Some c) = refl
-
-pub sound_shut : (ms : List (List ℕ)) (cs : List Cursor) (o : Option Committed) → IsSound ms cs o → IsSound ms cs (option_map shut_code o)
-sound_shut ms cs None sound = record { sized = sound.sized; spots = sound.spots; first = tt; fits = sound.fits; alone = tt }
-sound_shut ms cs (Some c) sound = record { sized = sound.sized; spots = sound.spots; first = sound.first; fits = sound.fits; alone = λ h. absurd (false≢true h) }
-
-pub closed_then : (row : ℕ) (b : Buffered) → is_committed_row row b.committed ≡ true → ◌≡◌ {A = Buffered} (record b { committed = option_map shut b.committed }) (closed row b)
-closed_then row b h = sym (ap (λ t. if t then record b { committed = option_map shut b.committed } else record b { cursors = filter (λ c. not (c.row == row)) b.cursors }) h)
 
 pub closed_else : (row : ℕ) (b : Buffered) → is_committed_row row b.committed ≡ false → ◌≡◌ {A = Buffered} (record b { cursors = filter (λ c. not (c.row == row)) b.cursors }) (closed row b)
 closed_else row b h = sym (ap (λ t. if t then record b { committed = option_map shut b.committed } else record b { cursors = filter (λ c. not (c.row == row)) b.cursors }) h)
@@ -261,9 +223,6 @@ taken_else row taken b h = sym (ap (λ t. if t then committed_at row taken b els
 -- what an open row has still to send
 pub left_is : (row taken : ℕ) (b : Buffered) → taken_by row b ≡ Some taken → left_of row b ≡ drop taken (text_of b)
 left_is row taken b e = ap (λ o. option_map_or (λ t. drop t (text_of b)) o []) e
-
-pub commit_is : (row taken : ℕ) (b : Buffered) → taken_by row b ≡ Some taken → committed_at row taken b ≡ committed_to row b
-commit_is row taken b e = sym (ap (λ o. option_map_or (λ t. committed_at row t b) o b) e)
 
 pub uncommitted_most : (o : Option Committed) → option_map seen_committed o ≡ None → most_bytes o ≡ 262144
 uncommitted_most None h = refl

@@ -107,8 +107,8 @@ closed row b =
     if is_committed_row row b.committed then record b { committed = option_map shut b.committed }
     else record b { cursors = filter (λ c. not (c.row == row)) b.cursors }
 
--- whether a message is accepted (a call holds 262,144 bytes for the attempts to come; once it is committed it holds 65,536 before
--- it takes no more): kept, kept by a commitment to the row that was sent furthest, or not
+-- whether a message is accepted: a call holds 262,144 bytes for the attempts to come; once it is committed it holds 65,536 before
+-- it takes no more. It is kept, kept by a commitment to the row that was sent furthest, or not
 abbrev pub push_answer : Buffered → ℕ → Option ℕ → Result Pushed PushFault
 push_answer b len outstanding =
     if is_some b.committed then (if nat_le 65536 (held b) then Err (fault.Full (held b)) else Ok pushed.Kept)

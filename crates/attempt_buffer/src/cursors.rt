@@ -25,7 +25,7 @@ impl Cursor {
     }
 }
 
-/// The row to which a call is committed. Once it closed, its spot reports what it had sent.
+/// The row to which a call is committed. Once it closed, its spot says what it had sent.
 #[derive(Clone, Copy, Debug)]
 pub struct Committed {
     pub cursor: Cursor,

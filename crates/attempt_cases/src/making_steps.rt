@@ -8,7 +8,7 @@ use call_actions::calls_in_turn::{attempts_keep_turn, posts_keep_order};
 use call_cases::other_calls::{calls_stay, others_are_same, sets_stay};
 use call_core::{calls_are_kept, calls_go_on, takes_leave_rows};
 use channel_actions::kept_sessions::sessions_are_kept;
-use channel_actions::link_frames::{actions_are_untold, links_stay};
+use channel_actions::link_frames::{actions_make_no_difference, links_stay};
 use net_actions::net_frames::nets_stay;
 use net_actions::{policy_steps_are_actions, subchannel_steps_are_actions};
 use session_order::{attempts_stir, queues_stir, quiescence_is_exact};
@@ -28,7 +28,7 @@ pub fn attempts_get_rows()
 pub fn one_is_made()
     ensures { OneIsMade }
 {
-    actions_are_untold();
+    actions_make_no_difference();
     attempts_get_rows();
     attempts_stir();
     calls_go_on_alike();
@@ -47,7 +47,7 @@ pub fn one_is_made()
 pub fn one_is_withheld()
     ensures { OneIsWithheld }
 {
-    actions_are_untold();
+    actions_make_no_difference();
     books_are_kept();
     calls_go_on_alike();
     calls_share_tokens_alone();

@@ -9,7 +9,7 @@ use call_actions::{attempts_are_made_alike, calls_go_on_alike};
 use call_cases::other_calls::{calls_stay, others_are_same, sets_stay};
 use call_core::{calls_are_kept, calls_go_on, takes_leave_rows};
 use channel_actions::kept_sessions::sessions_are_kept;
-use channel_actions::link_frames::{actions_are_untold, links_stay};
+use channel_actions::link_frames::{actions_make_no_difference, links_stay};
 use lb_policy::laws_of_the_table;
 use link_actions::reader_actions::readers_come_and_open;
 use link_actions::steady_links::placings_keep;
@@ -28,7 +28,7 @@ pub fn asks_follow()
 pub fn asks_agree()
     ensures { AsksAgree }
 {
-    actions_are_untold();
+    actions_make_no_difference();
     calls_stay();
     links_stay();
     policy_steps_are_actions();
@@ -67,7 +67,7 @@ pub fn attempts_go_out()
     ensures agree { PlacedOnesAgree }
     ensures places { PlacesFollow }
 {
-    actions_are_untold();
+    actions_make_no_difference();
     attempts_are_made_alike();
     attempts_keep_turn();
     books_are_kept();

@@ -63,9 +63,6 @@ pub record ArePassed (chosen : Chosen) (rows : List Row) (count i : ℕ) : Type 
   pub many : count ≡ length (attempts_of (take i rows))
   pub clear : (law place : ℕ) → BreaksAt chosen law rows place → i < place
 
-pub none-passed : (chosen : Chosen) (rows : List Row) → ArePassed chosen rows 0 0
-none-passed chosen rows = record { many = refl; clear = λ law place b. let p = b.place_is in omega arith }
-
 length-snoc : (own : List Row) (row : Row) → length (own ++ row ∷ []) ≡ length own + 1
 length-snoc own row = length-append own (row ∷ [])
 

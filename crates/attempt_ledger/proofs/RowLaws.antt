@@ -16,9 +16,6 @@ from-place rows i row inside is =
 abbrev pub NoneSoFar : (ℕ → Row → List Row → Bool) → List Row → ℕ → Type 0
 NoneSoFar test rows i = some_row_from test i (drop i rows) ≡ some_row test rows
 
-pub none-yet : (test : ℕ → Row → List Row → Bool) (rows : List Row) → NoneSoFar test rows 0
-none-yet test rows = refl
-
 -- at a row
 at-row : (test : ℕ → Row → List Row → Bool) (rows : List Row) (i : ℕ) (row : Row) → i < length rows → row ≡ get_or rows i row → NoneSoFar test rows i → (test i row (drop (i + 1) rows) || some_row_from test (i + 1) (drop (i + 1) rows)) ≡ some_row test rows
 at-row test rows i row inside is so_far = sym (ap (some_row_from test i) (from-place rows i row inside is)) ∙ so_far

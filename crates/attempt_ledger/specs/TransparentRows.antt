@@ -50,7 +50,7 @@ is_committed_at entry row = option_map_or (λ committed. committed == entry) row
 abbrev pub may_follow : List Row → RowEnd → ℕ → Bool
 may_follow rows end place = not (is_retry_taken rows end place) && not (list_any (is_committed_before end.entry) rows)
 
--- and it has to be. In the entry of a commitment the rows don't report which came first, so both are allowed there
+-- and it has to be. In the entry of a commitment the rows don't show which came first, so both are allowed there
 abbrev pub must_follow : List Row → RowEnd → ℕ → Bool
 must_follow rows end place = may_follow rows end place && not (list_any (is_committed_at end.entry) rows)
 

@@ -45,7 +45,7 @@ impl RowFault {
 ///
 /// - Numbering: the rows that aren't transparent are numbered from 1 in order, up to the plan's maximum, or 1 without a
 ///   plan. The first is a First, the others are retries or hedges by the plan. Each row is due at or before its placing,
-///   and placed at or before its end; it has a stream only where it is placed; and where it ended without a placing, a
+///   and placed at or before its end. It has a stream only where it is placed; and where it ended without a placing, a
 ///   failed pick ended it, with the code UNAVAILABLE.
 /// - Retries: an end can be tried again where it counts, its code is one of the policy's, the server doesn't forbid it,
 ///   more than half of the tokens are left, and one more attempt is allowed. Each retry has such an end of the number
@@ -56,7 +56,7 @@ impl RowFault {
 ///   asks. No end before that moment forbids it, or has another code than the policy's, unless a transparent row follows.
 /// - Transparent retries: each follows the last row of its number before it, is due at its end, and is committed then if
 ///   that row was. An end is followed where the request was never sent, and once a call where the peer refused it unseen
-///   while the call wasn't committed; in the entry of a commitment both are allowed.
+///   while the call wasn't committed. In the entry of a commitment both are allowed.
 /// - Throttling: a count of tokens is at most the start, after a failure at most the start less a token, and after a
 ///   success at least the ratio, or the start where that is less.
 ///

@@ -13,7 +13,7 @@ fn framed(alloc: Global, len: usize) -> Result<Octets, Fail> {
     Ok(Octets::of_vec(bytes)?)
 }
 
-/// A step: pushes so many bytes, for the row that is committed where they overflow, with the answer; opens a row, takes so many
+/// A step: pushes so many bytes, for the row that is committed where they overflow, with the answer. Or it opens a row, takes so many
 /// bytes of it, commits to it or closes it; or compares what is kept, or what a row has still to send.
 #[derive(Clone, Copy)]
 enum Step {

@@ -13,8 +13,8 @@ fn policy(max: u32, delay: u64) -> Result<HedgePolicy, Fail> {
     })
 }
 
-/// Each line how many attempts were made, when the newest was placed, what an end forced, whether nothing is due any more, and the
-/// moment at which the next one is due, of a policy with three attempts 50 ms apart.
+/// A policy has three attempts 50 ms apart. Each line how many attempts were made, when the newest was placed, what an end forced,
+/// whether nothing is due any more, and the moment at which the next one is due.
 #[test]
 fn due_moments_of_worked_states(rt: HostRuntime) -> Result<(), Fail> {
     let rows = [
@@ -45,7 +45,7 @@ fn due_moments_of_worked_states(rt: HostRuntime) -> Result<(), Fail> {
 }
 
 /// Each line the most attempts, how many were made and are outstanding, the moment, code and pushback of an end, whether the tokens
-/// suffice, when the next attempt is due, if one is, and what is then forced, whether hedging stopped, and what is outstanding.
+/// suffice. Then when the next attempt is due, if one is, and what is then forced, whether hedging stopped, and what is outstanding.
 #[test]
 fn ends_of_worked_states(rt: HostRuntime) -> Result<(), Fail> {
     let none = Pushback::None;

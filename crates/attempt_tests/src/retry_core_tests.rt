@@ -28,7 +28,7 @@ fn next_of(
 }
 
 /// Each line an attempt's number, how many attempts ended since the server last asked for a delay, the moment, code and pushback of
-/// its end, whether the tokens suffice, a random word, and the moment at which the next attempt is due, if one is. The policy has
+/// its end, whether the tokens suffice, and a random word. Then the moment at which the next attempt is due, if one is. The policy has
 /// four attempts, 0.1 s at first, twice as long each time, at most 1 s.
 #[test]
 fn retries_of_the_worked_rows(rt: HostRuntime) -> Result<(), Fail> {

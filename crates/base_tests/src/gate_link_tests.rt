@@ -25,7 +25,7 @@ fn link(alloc: Global, bytes: &[u8]) -> Result<MemLink, AllocError> {
 }
 
 #[test]
-fn a_link_in_memory_fails_ends_and_stays_quiet_as_reported(rt: HostRuntime) -> Result<(), Fail> {
+fn a_link_in_memory_fails_ends_and_stays_quiet_as_it_is_made(rt: HostRuntime) -> Result<(), Fail> {
     let failing = vec![in rt.alloc(); 2]?;
     let source = MemSource::new(b"abcd".to_vec(rt.alloc())?, 3, failing);
     let mut open = MemLinkIn::new(source, false);
@@ -109,7 +109,7 @@ fn clocks_and_random_words(rt: HostRuntime) -> Result<(), Fail> {
 }
 
 #[test]
-fn the_clock_of_the_system_reports_a_moment_of_this_century(rt: HostRuntime) {
+fn the_clock_of_the_system_gives_a_moment_of_this_century(rt: HostRuntime) {
     let clock = StdClock::new(rt);
     let moment = clock.now();
     // The beginning of 2020, and that of 2096.

@@ -123,9 +123,6 @@ module _ (s : Seen) (c : Call) (place : ℕ) (a new : Attempt) (e : RowEnd) (pla
   others_same : (q : Attempt) → is_later_of a q ≡ false → (q.place == place) ≡ false → is_followed q more ≡ is_followed q s
   others_same q before off = followed_by q ∙ absorbs (is_followed q s) (is_later_of q new) (earlier_so q before off)
 
-  more_so : (q : Attempt) → is_followed q s ≡ true → is_followed q more ≡ true
-  more_so q was = followed_by q ∙ ap (λ (b : Bool). b || (is_later_of q new || false)) was
-
   -- which retries of refused attempts there were
   abbrev retried_by : Seen → Attempt → Bool
   retried_by z q = is_of c q && was_refused q && is_followed q z

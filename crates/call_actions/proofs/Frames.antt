@@ -1,4 +1,4 @@
--- What an application reports to a call or takes of it, and what is marked of it, changes nothing that a session says of attempts and tokens.
+-- What an application posts to a call or takes of it, and what is marked of it, changes nothing that a session says of attempts and tokens.
 use Rattle.std.proofs.Common.{◌≡◌, ◌-◌, ◌∷◌, ◌||◌, ◌&&◌, ◌==◌, not, nat_le, ap, refl, subst, sym, ◌∙◌, Bool, true, false, List, [], Option, None, Some, ℕ, cond, filter, if◌then◌else◌, is_none, is_some, map, max}
 use Rattle.std.proofs.lemmas.Bool.{eqb-false, eqb-true}
 use Rattle.std.specs.Option.{option_map, option_map_or}
@@ -54,7 +54,7 @@ pub rows_same : (g h : Mark → Option ℕ) → ((m : Mark) → g m ≡ h m) →
 rows_same g h same [] = refl
 rows_same g h same (m ∷ marks) = rows_by m g h marks (h m) (same m) refl (rows_same g h same marks)
 
--- a call of which this was reported
+-- a call after that
 abbrev pub retold : (Call → List (List ℕ)) → (Call → Bool) → (Call → ℕ) → (Call → Bool) → (Call → List Mark) → (Call → Option CallEnd) → Call → Call
 retold messages finished taken end_taken marks end c =
     record c { messages = messages c; finished = finished c; taken = taken c; end_taken = end_taken c; marks = marks c; end = end c }

@@ -79,9 +79,6 @@ module _ (s : Seen) (c : Call) (x : Stepped) (place : ℕ) (a : Attempt) (out : 
   abbrev number : ℕ
   number = a.row.number
 
-  abbrev put : Attempt → Attempt
-  put q = with_end_at place its q
-
   abbrev then_seen : Seen
   then_seen = t s c x place a out h o turn g n
 

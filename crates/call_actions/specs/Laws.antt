@@ -1,4 +1,4 @@
--- What is done to a call is an action of the session, and leaves the call as what the session then is: until it has its configuration, and of any call
+-- What is done to a call is an action of the session, and leaves the call as what the session then is. So it is until it has its configuration, and of any call
 -- that its request is finished, when its next attempt is due, that this is made and placed, and that a hedge is withheld. Each is stated of a session
 -- and a call that agree (`Sees`), apart from all other calls and from the rest of the entry; attempts also of what a session keeps in order (`IsInOrder`).
 -- Example: a call begins; its application finishes its request; then the config comes. In the session CallBegins, RequestFinished and CallConfigured; in

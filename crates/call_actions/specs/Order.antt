@@ -1,5 +1,5 @@
 -- What a session keeps in order of a call, whatever happens to it. It is said in the session's own words: it speaks of no channel.
--- Example: a call with the attempts 1 and 2, in rows 1 and 4, has two attempts made; its marks Made 1, Made 4 and Ended 1 name rows of it; and no
+-- Example: a call with the attempts 1 and 2, in rows 1 and 4, has two attempts made. Its marks Made 1, Made 4 and Ended 1 name rows of it; and no
 -- attempt of it has a number above 2.
 use Rattle.std.specs.List.{list_all, list_any}
 use Rattle.std.specs.Option.{option_map_or}

@@ -2,7 +2,7 @@
 ghost use Rattle.call_actions.specs.ReadsInOrder.Laws.{FramesComeAfter, LinksBegin, LinksStay, NextReadsOn, ReadsBegin, ReadsStay};
 
 /// Of each link of a session no frame lies past the bytes that were read (RFC 9113, section 4.1): it is so before anything happened, and each action keeps it
-/// whose frame, if it reads one, ends no earlier; and so does the one that the bytes of a link show next.
+/// whose frame, if it reads one, ends no earlier. So does the one that the bytes of a link show next.
 pub fn reads_stay_in_order()
     ensures begins { ReadsBegin }
     ensures stays { ReadsStay }

@@ -1,4 +1,4 @@
-pub mod UnconfiguredEnds
+pub mod EndsWithoutAttempts
 pub mod BeginActions
 pub mod CallEnds
 pub mod CallPosts

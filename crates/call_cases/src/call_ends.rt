@@ -1,7 +1,7 @@
 // Calls that end; nothing runs.
 ghost use Rattle.call_cases.specs.CallEnds.Laws.{CancelsStand, EndsAgree, EndsGoOn, LateCancels};
 
-/// Where a call ends, its attempts are cut off and their streams are reset, each of these the next action; and then nothing more follows from it, and the clock,
+/// Where a call ends, its attempts are cut off and their streams are reset, each of these the next action. Then nothing more follows from it, and the clock,
 /// the configs, the links and the net of the channel agree (gRPC, "Core concepts": RPC life cycle).
 pub fn ends_go_on()
     ensures on { EndsGoOn }

@@ -1,4 +1,4 @@
-// What the application of a call takes and reports; nothing runs.
+// What the application of a call takes and posts; nothing runs.
 ghost use Rattle.call_cases.specs.CallPosts.Laws.{FinishesAreAnswered, SendsAreAnswered, TakesAreAnswered};
 
 /// A Take is answered with the next item of what came, with NotYet, or refused once the end was taken (gRPC, "Core concepts").

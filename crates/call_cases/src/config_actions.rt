@@ -5,7 +5,7 @@ use crate::configured_calls::calls_get_configs;
 use crate::other_calls::{calls_stay, others_are_same, sets_stay};
 use channel_actions::kept_calls::calls_are_kept;
 use channel_actions::kept_sessions::sessions_are_kept;
-use channel_actions::link_frames::{actions_are_untold, links_stay};
+use channel_actions::link_frames::{actions_make_no_difference, links_stay};
 use net_actions::net_frames::nets_stay;
 use net_actions::{policy_steps_are_actions, subchannel_steps_are_actions};
 use session_order::config_stirs::configs_stir;
@@ -25,7 +25,7 @@ pub fn unserved_calls_end()
 pub fn served_calls_get_configs()
     ensures { ServedCallsGetConfigs }
 {
-    actions_are_untold();
+    actions_make_no_difference();
     calls_are_kept();
     calls_get_configs();
     calls_stay();

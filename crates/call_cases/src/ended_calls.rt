@@ -1,6 +1,6 @@
 // What stands on the end of one call; nothing runs.
 ghost use Rattle.call_cases.specs.CallEnds.Laws.{OpenCancels};
-ghost use Rattle.call_cases.specs.ConfigActions.Ends.{UnconfiguredCallsEnd};
+ghost use Rattle.call_cases.specs.ConfigActions.Ends.{CallsWithoutAttemptsEnd};
 ghost use Rattle.call_cases.specs.EndedCalls.Laws.{CallsGetConfigsOrEnd, DeadlinesAreMet, LongSendsEnd};
 ghost use Rattle.call_cases.specs.LongSends.Laws.{CallsEndAlike};
 ghost use Rattle.call_cases.specs.SettlingActions.Steps.{ConfigSteps};
@@ -10,7 +10,7 @@ use crate::configured_calls::calls_get_configs;
 use crate::other_calls::{calls_stay, others_are_same, sets_stay};
 use channel_actions::kept_calls::calls_are_kept;
 use channel_actions::kept_sessions::sessions_are_kept;
-use channel_actions::link_frames::{actions_are_untold, links_stay};
+use channel_actions::link_frames::{actions_make_no_difference, links_stay};
 use net_actions::net_frames::nets_stay;
 use net_actions::{policy_steps_are_actions, subchannel_steps_are_actions};
 use session_order::config_stirs::configs_stir;
@@ -32,8 +32,8 @@ pub fn long_sends_end()
 {}
 
 /// A call without an attempt ends alike in channel and session ("gRPC Wait for Ready Semantics").
-pub fn unconfigured_calls_end_too()
-    ensures { UnconfiguredCallsEnd }
+pub fn calls_without_attempts_end_too()
+    ensures { CallsWithoutAttemptsEnd }
 {
     calls_stir();
 }
@@ -47,7 +47,7 @@ pub fn deadlines_are_met()
 pub fn calls_get_configs_or_end()
     ensures { CallsGetConfigsOrEnd }
 {
-    actions_are_untold();
+    actions_make_no_difference();
     calls_are_kept();
     calls_get_configs();
     calls_stay();
@@ -66,7 +66,7 @@ pub fn calls_get_configs_or_end()
 pub fn config_steps_are_done()
     ensures { ConfigSteps }
 {
-    unconfigured_calls_end_too();
+    calls_without_attempts_end_too();
     calls_get_configs_or_end();
     unserved_calls_end();
 }

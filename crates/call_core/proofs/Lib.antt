@@ -26,7 +26,6 @@ mod Moves
 mod NamedRows
 mod Numbers
 mod Outstanding
-pub mod Queued
 mod Reasons
 mod Refusals
 mod Room

@@ -219,10 +219,6 @@ pub marked_configured : (policy : HedgePolicy) (marks : List Mark) (chosen : Cho
 marked_configured policy marks chosen moment s numbered h =
     configured_by policy marks chosen moment s s.call.ended s.call.chosen refl refl (λ e. let fresh : IsFresh s.call.attempts = numbered.fresh e in fresh.none) h
 
--- a placing
-pair_some : (b : Bool) (a : Attempts) (m : ℕ) (x : Option ℕ) (said : Option ℕ) → x ≡ said → (if b then Some m else x) ≡ (if b then Some m else said)
-pair_some b a m x said e = ap (λ (o : Option ℕ). if b then Some m else o) e
-
 placed_fits : (policy : HedgePolicy) (marks : List Mark) (a : Attempts) (place moment : ℕ) → Fits policy marks a → Fits policy (Placed place moment ∷ marks) (placed_attempts place moment a)
 placed_fits policy marks a place moment old = record {
   sent = old.sent;

@@ -25,13 +25,6 @@ furthest_from-open b [] best old = old
 furthest_from-open b (row ∷ live) best old =
     furthest_from-open b live (further b best row) (further-open b best row (is_open row.place b) refl old)
 
-place-open : (b : Buffered) (o : Option LiveRow) → IfSome o (IsOpen b) → IfSome (option_map (λ r. r.place) o) (λ place. is_open place b ≡ true)
-place-open b None old = old
-place-open b (Some row) old = old
-
-pub furthest_open : (b : Buffered) (live : List LiveRow) → IfSome (furthest b live) (λ place. is_open place b ≡ true)
-furthest_open b live = place-open b (furthest_from b None live) (furthest_from-open b live None tt)
-
 pub open_found : (b : Buffered) (live : List LiveRow) (row : LiveRow) → Some row ≡ furthest_from b None live → is_open row.place b ≡ true
 open_found b live row e = subst (λ (o : Option LiveRow). IfSome o (IsOpen b)) (sym e) (furthest_from-open b live None tt)
 

@@ -227,6 +227,3 @@ tied_chain = record {
       added s.call.number s.ledger.rows _ s.call.live (record { place = next_place s.ledger; number = min (s.call.attempts.sent + 1) 4294967295; link = None }) refl refl refl refl tt old;
   sent = λ message row s old. old;
 }
-
-pub tied_new : (number : ℕ) (request : RequestSeen) (begun : ℕ) (ledger : Ledger) (tokens : Option Bucket) (acts : List CallAct) → IsTied (step.lent (step.new_call number request begun) ledger tokens acts)
-tied_new number request begun ledger tokens acts = tt

@@ -37,7 +37,7 @@ pub record IsGoing (call : CallState) : Type 0 where
   -- the law: one attempt at a time, where the plan isn't to hedge
   pub alone : hedges (call_plan call) ≡ false → HasAtMostOne call
   -- what the call keeps for it: a plan allows an attempt; none is made before the configuration; a call that runs, doesn't hedge and
-  -- isn't committed makes attempts; once all rows of a call that runs have ended it knows the last end that counts; and no row is
+  -- isn't committed makes attempts. Once all rows of a call that runs have ended it knows the last end that counts; and no row is
   -- live before the first attempt
   pub most : 1 ≤ most_attempts (call_plan call)
   pub fresh : call.chosen ≡ None → call.attempts.sent ≡ 0

@@ -1,4 +1,4 @@
--- What holds of a call whatever was done to it: a call that ended has no row left and makes none; of a call that is committed every
+-- What holds of a call whatever was done to it: a call that ended has no row left and makes none. Of a call that is committed every
 -- row that is left is the committed one; and before the configuration there is no row.
 use Rattle.std.specs.Prelude.{◌≡◌, ◌≤◌, ◌<◌, ℕ, ◌+◌, Bool, true, false, not, ◌&&◌, ◌||◌, nat_le, if◌then◌else◌, Option, Some, None, is_some, List, [], ◌∷◌, ◌++◌, length, map}
 use Rattle.std.specs.Option.{is_none}
@@ -87,8 +87,8 @@ pub record IsMade (moment : ℕ) (s t : Stepped) : Type 0 where
   pub allowed : is_tested (call_plan s.call) s.call.attempts ≡ true → is_above s.tokens ≡ true
   pub acts : t.acts ≡ s.acts ++ act.Queue (length s.ledger.rows + 1) ∷ []
 
--- what the end of an attempt of a call with retries means, in a call that isn't committed: where the policy licenses a retry it is
--- due at its moment, and a random word is used unless the server asks for a delay; where it doesn't, the call is committed to the
+-- what the end of an attempt of a call with retries means, in a call that isn't committed. Where the policy licenses a retry it is
+-- due at its moment, and a random word is used unless the server asks for a delay. Where it doesn't, the call is committed to the
 -- attempt and ends (gRFC A6, "Retry Policy")
 abbrev pub licensed_retry : RetryPolicy → Attempts → ℕ → ℕ → RowEnd → Bool → ℕ → Judged
 licensed_retry policy a number since end above word = record {
@@ -101,7 +101,7 @@ licensed_retry policy a number since end above word = record {
 }
 
 -- what the end of an attempt of a hedged call means, in a call that isn't committed: a code of the policy forces the next attempt, at
--- once or after the delay that the server asks for; hedging stops where the policy says so; the call is committed to the attempt and
+-- once or after the delay that the server asks for. Hedging stops where the policy says so; the call is committed to the attempt and
 -- ends where the code is none of the policy's, or where no row is left and none is due (gRFC A6, "Hedging Policy")
 abbrev pub hedged_end : HedgePolicy → Attempts → Bool → RowEnd → Bool → Judged
 hedged_end policy a is_alone end above = record {
@@ -114,7 +114,7 @@ hedged_end policy a is_alone end above = record {
 }
 
 -- what a call holds, where a framed message of so many bytes finds no room: a committed call takes messages until it holds 65,536
--- bytes; an uncommitted one takes what makes at most 262,144 bytes, and more where the call can be committed to an outstanding row
+-- bytes. An uncommitted one takes what makes at most 262,144 bytes, and more where the call can be committed to an outstanding row
 abbrev pub full_of : Bool → Bool → ℕ → ℕ → Option ℕ
 full_of true has_outstanding held framed = if nat_le 65536 held then Some held else None
 full_of false true held framed = None

@@ -36,7 +36,7 @@ pub record AskedDelay (owner : ℕ) (rows : List Row) (attempt : ℕ) : Type 0 w
   pub number : has.row.number ≡ attempt
   pub delay : is_some (delay_of has.end.pushback) ≡ true
 
--- a retry is due at this moment, after the attempt of this number: the policy licenses it, by the tokens after that end, and it is due
+-- a retry is due at this moment, after the attempt of this number: the policy licenses it, by the tokens after that end. It is due
 -- after the delay that the server asks for, or after the wait that grows with the attempts since the server last asked for one
 pub record IsRetryDue (policy : RetryPolicy) (owner : ℕ) (rows : List Row) (attempt moment : ℕ) : Type 0 where
   pub place : ℕ

@@ -21,7 +21,7 @@ use std::marker::Model;
 
 /// One call: the attempts that it makes, the messages that it sends, and what came for its application.
 ///
-/// Its rows stand in the ledger that each call is lent; the call is reported there by the number it began with, and
+/// Its rows stand in the ledger that each call is lent; the call is found there by the number it began with, and
 /// keeps the places of its own rows, so that what it does costs time in these alone. Where a place or a number names nothing of
 /// this call, nothing changes. On out of memory the call and the ledger may be changed in part.
 #[derive(Drop)]

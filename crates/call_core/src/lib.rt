@@ -36,7 +36,7 @@ pub use laws::{
 pub use live::LiveRow;
 pub use new_rows::own_end;
 pub use outcomes::{
-    calls_are_committed_once, calls_go_on, committed_calls_receive_one_row,
+    calls_are_committed_once, calls_go_on, committed_calls_follow_one_row,
     due_moments_follow_each_step, ended_rows_hold_tokens, limits_end_calls, other_rows_are_over,
     outstanding_rows_are_live, rows_are_in_order, rows_have_reasons, stopped_calls_make_no_attempt,
     takes_leave_rows, unseen_attempts_are_retried, waiting_items_stay,

@@ -113,7 +113,7 @@ pub fn limits_end_calls()
 
 /// A law for proofs: the head of a live row commits the call to it and comes first; and of a committed call nothing that is reported of
 /// another row changes anything. The call does nothing.
-pub fn committed_calls_receive_one_row()
+pub fn committed_calls_follow_one_row()
     ensures head { (row : ℕ) (live : LiveRow) (meta : List Field) (moment : ℕ) (s : Stepped) → find_live row s.call.live ≡ Some live → came (received_head row meta moment s).call ≡ reply.Head meta ∷ message_items s.call.inbox.messages }
     ensures commits { (row : ℕ) (live : LiveRow) (meta : List Field) (moment : ℕ) (s : Stepped) → IsKept s.call → find_live row s.call.live ≡ Some live → (received_head row meta moment s).call.attempts.committed ≡ Some row }
     ensures placed { (row place : ℕ) (at : Placed) (s : Stepped) → IsKept s.call → s.call.attempts.committed ≡ Some place → (row ≡ place → ⊥) → placed_at row at s ≡ s }
@@ -131,7 +131,7 @@ pub fn ended_rows_hold_tokens()
 {}
 
 /// A law for proofs: each row of a call has its reason among the rows before it. A retry follows an end that licenses it, a hedge the
-/// delay since a placing or an end that forces it, and a transparent retry an attempt that the server can't have seen; each is due at
+/// delay since a placing or an end that forces it, and a transparent retry an attempt that the server can't have seen. Each is due at
 /// the moment that follows from it. The call does nothing.
 pub fn rows_have_reasons()
     ensures begun { (number : ℕ) (request : RequestSeen) (begun : ℕ) (ledger : Ledger) (tokens : Option Bucket) (acts : List CallAct) → ((place : ℕ) (row : Row) → row_in ledger.rows place ≡ Some row → row.call ≡ number → ⊥) → HasReasons (lent (new_call number request begun) ledger tokens acts) }
@@ -176,7 +176,7 @@ pub fn takes_leave_rows()
 {}
 
 /// A law for proofs: when the next attempt of a call is due, after each thing that decides it. The first one is due at the
-/// configuration; after a making none is, nor after the tokens forbade one, a commitment and the end of the call; the hedging delay counts
+/// configuration; after a making none is, nor after the tokens forbade one, a commitment and the end of the call. The hedging delay counts
 /// from the placing of the newest attempt's own row; and an end that a transparent retry follows changes nothing. What the other ends
 /// mean is said by `retries_follow_their_license` and `hedges_follow_their_policy`. The call does nothing.
 pub fn due_moments_follow_each_step()
@@ -190,7 +190,7 @@ pub fn due_moments_follow_each_step()
     ensures ended { (why : EndCause) (moment : ℕ) (s : Stepped) → next_due (ended_as why moment s).call ≡ None }
 {}
 
-/// A law for proofs: over a whole run of a hedged call its next attempt is due as all that happened to it says: at the moment that the
+/// A law for proofs: over a whole run of a hedged call its next attempt is due as all that happened to it says. That is at the moment that the
 /// last end since the newest making asked for, or else the delay after the newest attempt's own row was placed, unless hedging
 /// stopped. One that is due is made, unless the tokens forbid it; and none is made that isn't due. The call does nothing.
 pub fn hedges_follow_their_marks()

@@ -48,7 +48,7 @@ pub fn rows_keep_throttling()
     ensures made { (moment : ℕ) (s : Stepped) → IsKept s.call → IsApart s → TokensAreOwn s.tokens s.call.chosen → RowsAreThrottled s → RowsAreThrottled (made_due moment s) }
 {}
 
-/// A law for proofs: no hedge is due after an end that stops hedging, and each has what makes it due before it, so no row breaks the law of
+/// A law for proofs: no hedge is due after an end that stops hedging, and each has what makes it due before it. So no row breaks the law of
 /// hedging, if an end that a transparent retry follows forbids nothing. The call does nothing.
 pub fn rows_keep_hedging()
     ensures law { (chosen : Chosen) (s : Stepped) → s.call.chosen ≡ Some chosen → HasReasons s → RowsAreHedged s → NeverBreaks 10 chosen s }
@@ -81,7 +81,7 @@ pub fn rows_are_chained()
 {}
 
 /// A law for proofs: an end is followed by a transparent retry where the request never left the client, and once a call where the peer
-/// refused it unseen before the commitment; the retry follows the nearest row of its number, is due at its end, and takes over its
+/// refused it unseen before the commitment. The retry follows the nearest row of its number, is due at its end, and takes over its
 /// commitment. So no row breaks the law of transparent retries, if entries don't fall and the news of one entry come in the order of
 /// their bytes. The call does nothing.
 pub fn rows_keep_transparent_retries()

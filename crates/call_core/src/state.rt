@@ -1,4 +1,14 @@
 // A call's record.
+//
+//   Begin ---> without a config -----------> configured --------------------> committed to one attempt
+//                 |          a config is held    |    a head, an overflow,         |
+//                 |                              |    or a last end                | that attempt ends,
+//                 | Cancel, deadline, Shutdown,  | Cancel, deadline, Shutdown,     | or as before
+//                 | no config to wait for        | a message above its limit       |
+//                 v                              v                                 v
+//                 +-------------------------> ended <------------------------------+
+//
+// A commitment cuts off all other attempts. What came is still taken once the call has ended, and then its end.
 ghost use Rattle.std.specs.Prelude.{◌≡◌};
 ghost use Rattle.call_core.specs.Parts.{has_none};
 ghost use Rattle.call_core.specs.Steps.{call_plan, new_call};

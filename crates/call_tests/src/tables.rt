@@ -82,7 +82,7 @@ fn line_of(fixture: &mut Fixture, line: &str) -> Result<String, Fail> {
         return Ok(format!(in fixture.alloc; "{step} breaks a law of attempts")?);
     }
     let state = report_state(fixture)?;
-    Ok(format!(in fixture.alloc; "{step} = {told} / {state}")?)
+    Ok(format!(in fixture.alloc; "{step} = {reported} / {state}")?)
 }
 
 /// The first line of a table that is not written down as it stands, with what is written down in its place; empty where there

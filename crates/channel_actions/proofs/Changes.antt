@@ -59,7 +59,7 @@ use Rattle.std.proofs.lemmas.Bool.{and_from, and_parts}
 use Rattle.std.specs.Option.{option_map_or}
 
 -- the small changes: of nothing that is counted; of one call, but not of its request and begin; of one attempt, but not of its place and stream, nor so that it waits
--- again; a new attempt; of one link, but not of what passed on it; of one subchannel, but for more dials of it; a new subchannel; and of the open entry, but not of its
+-- again; a new attempt. And those of one link, but not of what passed on it; of one subchannel, but for more dials of it; a new subchannel; and of the open entry, but not of its
 -- moment, event and stage, and its answer
 pub record Small (R : Seen → Seen → Type 0) : Type 0 where
   pub joined : (s t u : Seen) → R s t → R t u → R s u

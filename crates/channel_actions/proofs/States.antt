@@ -16,9 +16,6 @@ use Rattle.session_actions.specs.declared.policy.PolicyUse.{PolicyUse}
 use Rattle.session_actions.specs.declared.seen.Seen.{Seen}
 
 module _ (x : StateSeen) (s : Seen) (h : Agrees x s) where
-  idle_or : Bool → Conn
-  idle_or b = if b then conn.Failure else conn.Idle
-
   -- no policy is current: then no config is held
   unheld : (o : Option Config) → x.held ≡ o → s.shut ≡ false → current_policy s ≡ None → (x.held ≡ None)
   unheld None e unshut none = e

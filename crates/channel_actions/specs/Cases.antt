@@ -78,7 +78,7 @@ pub record IsIdle (x : StateSeen) (s : Seen) : Type 0 where
   pub due : next_due_attempt s ≡ None
   pub queue : next_of_queue s ≡ None
 
--- What is left of the stages: a deadline has come; an event that is not refused does something, other than a Tick, a resolution that failed, a TakeDial
+-- What is left of the stages: a deadline has come. An event that is not refused does something, other than a Tick, a resolution that failed, a TakeDial
 -- without a dial, and LinkUp and DialFailed of a subchannel that is not being dialled; something is due
 abbrev pub HasOverdue : StateSeen → Seen → Type 0
 HasOverdue x s = is_some (next_deadline s) ≡ true

@@ -1,4 +1,4 @@
--- What is known at each stage of an entry, beside that channel and session agree: what each step of a channel keeps, what every session keeps, that the journal is
+-- What is known at each stage of an entry, beside that channel and session agree. It is what each step of a channel keeps, what every session keeps, that the journal is
 -- below its limit, and that what was posted is what types allow. It holds of a new channel and a new session, and is carried along a run.
 -- Example: the deadline of call 1 has come. That no stream was reset of an attempt of it that goes on is no part of the agreement; every session keeps it.
 use Rattle.std.specs.Prelude.{length, nat_lt, true, ◌≡◌}
@@ -26,7 +26,7 @@ pub record IsKnown (x : StateSeen) (s : Seen) : Type 0 where
   pub calls : CallsAreSound x
   pub buffers : BuffersAreSound x
   -- of the session alone, beside `IsKept`: calls before their first attempt, resets of streams; links of subchannels are their own, and links that take further streams
-  -- are; attempts are only on links with SETTINGS, and no two of a link have one stream
+  -- are. Attempts are only on links with SETTINGS, and no two of a link have one stream
   pub early : IsEarlyKept s
   pub own : LinksAreOwn s
   pub theirs : LinksAreTheirs s

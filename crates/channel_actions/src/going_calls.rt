@@ -4,7 +4,7 @@ ghost use Rattle.channel_actions.specs.GoingCalls.Laws.{AnswersGoOn, DeadlinesGo
 use call_core::{calls_are_kept, calls_go_on, takes_leave_rows};
 
 /// Of a channel every call that runs has an attempt that is queued or outstanding, or one that is due, and makes one attempt at a time where its plan is not
-/// to hedge (gRFC A6): it is so of a new channel, and each step keeps it, and each part of a step.
+/// to hedge (gRFC A6). It is so of a new channel, and each step keeps it, and each part of a step.
 pub fn calls_of_channels_go_on()
     ensures begins { NewCallsGoOn }
     ensures steps { StepsGoOn }

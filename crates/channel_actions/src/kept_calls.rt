@@ -1,5 +1,5 @@
 // What every session keeps of calls before their first attempt; nothing runs.
-ghost use Rattle.channel_actions.specs.KeptCalls.Laws.{CallsAreUnconfigured, EarlyAlong, EarlyBegins, EarlyStays, FramesAreFresh};
+ghost use Rattle.channel_actions.specs.KeptCalls.Laws.{UnconfiguredHaveNoAttempts, EarlyAlong, EarlyBegins, EarlyStays, FramesAreFresh};
 
 use crate::kept_sessions::sessions_are_kept;
 
@@ -9,7 +9,7 @@ pub fn calls_are_kept()
     ensures begins { EarlyBegins }
     ensures stays { EarlyStays }
     ensures along { EarlyAlong }
-    ensures awaiting_config { CallsAreUnconfigured }
+    ensures awaiting_config { UnconfiguredHaveNoAttempts }
     ensures fresh { FramesAreFresh }
 {
     sessions_are_kept();

@@ -1,5 +1,5 @@
 // The frame of links; nothing runs.
-ghost use Rattle.channel_actions.specs.LinkFrames.Laws.{ActionsAreUntold, FewerDistinguish, LinksStay, ListsAreUntold, NothingIsReported, OthersAgree, DistinguishingJoins};
+ghost use Rattle.channel_actions.specs.LinkFrames.Laws.{ActionsMakeNoDifference, FewerSeeNone, LinksStay, ListsMakeNoDifference, NothingMakesADifference, OthersAgree, DifferencesJoin};
 
 /// Links that an action does not bear on agree with the session as before, with their streams, their readers and the lines that they are fed with; so all agree
 /// again where those that it bears on do.
@@ -8,11 +8,11 @@ pub fn links_stay()
     ensures all { LinksStay }
 {}
 
-/// An action cannot be distinguished by the links on which it does not bear, nor can a list of actions.
-pub fn actions_are_untold()
-    ensures nothing { NothingIsReported }
-    ensures joins { DistinguishingJoins }
-    ensures fewer { FewerDistinguish }
-    ensures action { ActionsAreUntold }
-    ensures list { ListsAreUntold }
+/// An action makes no difference to the links on which it does not bear, nor does a list of actions.
+pub fn actions_make_no_difference()
+    ensures nothing { NothingMakesADifference }
+    ensures joins { DifferencesJoin }
+    ensures fewer { FewerSeeNone }
+    ensures action { ActionsMakeNoDifference }
+    ensures list { ListsMakeNoDifference }
 {}

@@ -4,7 +4,7 @@ ghost use Rattle.channel_actions.specs.SoundBuffers.Laws.{AnswersHoldSoundly, Bu
 use call_core::{calls_are_kept, calls_go_on, takes_leave_rows};
 
 /// Of a channel no row of a call took more than the call holds, and a call that is committed holds its messages for that row alone (gRFC A6, "Memory Management
-/// (Buffering)"): it is so of a new channel, and each step keeps it, and each part of a step.
+/// (Buffering)"). It is so of a new channel, and each step keeps it, and each part of a step.
 pub fn buffers_stay_sound()
     ensures begins { NewBuffersAreSound }
     ensures steps { StepsHoldSoundly }

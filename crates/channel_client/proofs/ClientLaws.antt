@@ -201,13 +201,13 @@ left_clients seat_of shows lock held config o beside keepers before after links 
       (let made = clients.parts in omega (arith, parts, made, mine, all)) (leaves clients.owns (seat_of before.closer).seen (seat_of before.closer).own clients.closes);
 }
 
--- the same of a run over a world, which reports what its dialers hold
+-- the same of a run over a world, which says what its dialers hold
 pub left_world : {J E : Type 0} {V : Type 0} (shows : J → List Entry → Type 0) (items : V → List J) (lock : LockId) (held reported : List (Option (List (List ℕ)))) (config : Option (List ℕ)) (keepers : List Keeper) (seat : SeatSeen Entry) (result : Result (SeatSeen Entry × Outcome × V) E) → held ≡ reported → DialersAreGiven held config keepers seat
     → IfOk result (λ r. (h : List (Option (List (List ℕ)))) (g : Option (List ℕ)) → DialersAreGiven h g keepers seat → LeavesClients shows lock h g r.1 (items r.2) r.0) → IfOk result (λ r. LeavesClients shows lock reported config r.1 (items r.2) r.0)
 left_world shows items lock held reported config keepers seat (Ok r) same given left = subst (λ (h : List (Option (List (List ℕ)))). LeavesClients shows lock h config r.1 (items r.2) r.0) same (left held config given)
 left_world shows items lock held reported config keepers seat (Err e) same given left = tt
 
--- and what was reported stays so of a handle that has seen all that
+-- and what was said stays so of a handle that has seen all that
 pub reported_client : {X Y E : Type 0} (t : Target) (config : Option (List ℕ)) (seat : SeatSeen Entry) (result : Result (SeatSeen Entry × X × Y) E) → ReportsTarget t config seat.seen → IfOk result (λ r. StartsWith r.0.seen seat.seen) → IfOk result (λ r. ReportsTarget t config r.0.seen)
 reported_client t config seat (Ok r) reported sees = reported_stays t config r.0.seen seat.seen sees reported
 reported_client t config seat (Err e) reported sees = tt

@@ -50,7 +50,7 @@ pub record ClientsDone {H J : Type 0} (seat_of : H → SeatSeen Entry) (shows : 
   pub calls : AllByRecursion EntriesAreOfCalls owns
   pub closes : Closes after.outcome owns (seat_of before.closer).seen (seat_of before.closer).own (seat_of after.closer)
 
--- the handle that a run leaves beside workers of the first of these dialers, and where addresses were reported with this config; and the work that was done
+-- the handle that a run leaves beside workers of the first of these dialers, and where addresses came with this config; and the work that was done
 pub record LeavesClients {J : Type 0} (shows : J → List Entry → Type 0) (lock : LockId) (held : List (Option (List (List ℕ)))) (config : Option (List ℕ)) (o : Outcome) (works : List J) (seat : SeatSeen Entry) : Type 0 where
   pub owns : List (List (ℕ × Entry))
   pub done : AllZip (ShowsOwn shows) works owns

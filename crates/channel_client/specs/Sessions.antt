@@ -38,7 +38,7 @@ pub record CarriesWorks {J : Type 0} (shows : J → List Entry → Type 0) (r : 
   pub shares : SharesOut r owns prefix rest entries
 
 -- the text is the report of the one channel of a run: a new channel, whose requests have the authority of the target, and which has these
--- policies, was given exactly the events of this journal, one after another. The journal begins with what is reported to the channel first, and
+-- policies, was given exactly the events of this journal, one after another. The journal begins with the event that the channel is given first, and
 -- has the entries of the work, and the Shutdown after them; what came on its links is as the dialers held it. Where the session was
 -- stopped it is nearly full
 pub record IsClientReport {J : Type 0} (shows : J → List Entry → Type 0) (policies : List PolicySeen) (held : List (Option (List (List ℕ)))) (r : Ran) (target : Target) (config : Option (List ℕ)) (name : List ℕ) (works : List J) (text : List ℕ) : Type 0 where

@@ -34,8 +34,8 @@ struct Keeping {
     seed: u64,
 }
 
-/// Opens a channel for a target over this world with these policies, does all work over it, each in a thread of its own with a handle
-/// of its own, shuts the channel down after it, joins everything, and gives the work back. May never return.
+/// Opens a channel for a target over this world with these policies. Does all work over it, each in a thread of its own with a handle
+/// of its own. Shuts the channel down after it, joins everything, and gives the work back. May never return.
 pub fn run_clients<
     R: Threads + Wait + Sync,
     P: Balancer + Send,

@@ -105,9 +105,6 @@ module _ (R : StateSeen → StateSeen → Type 0) (c : IsActionInvariant R) wher
   pub same : (s : StateSeen) → R s s
   same s = going.same R (goes R c) s
 
-  pub timers_of : (number : ℕ) (s : StateSeen) → R s (step.timers_moved number s)
-  timers_of number s = going.timers_of R (goes R c) number s
-
   pub after_book : (b : BookActs) (number : ℕ) (s t : StateSeen) → t.held ≡ s.held → length t.links ≡ length s.links → (s.shut ≡ true → t.shut ≡ true) → R s (with_book b.book s) → R s (step.with_book b number t)
   after_book b number s t e l shut h = going.after_book R (goes R c) b number s t e l shut h
 

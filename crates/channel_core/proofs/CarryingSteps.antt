@@ -60,15 +60,6 @@ module _ (R : StateSeen → StateSeen → Type 0) (c : IsActionInvariant R) wher
   gone (event.Drain link room) k = λ s t r g. drain link (min room drained_limit) s r t g
   gone e k = tt
 
-  pub readdress : (kind : Option Kind) (addresses : List Address) (s : StateSeen) → R s (applying.readdressed_by kind addresses s)
-  readdress kind addresses s = going.readdress R (goes R c) kind addresses s
-
-  pub close_all : (more index : ℕ) (s : StateSeen) → R s (applying.calls_closed more index s)
-  close_all more index s = going.close_all R (goes R c) more index s
-
-  pub close_net : (s : StateSeen) → R s (applying.net_closed s)
-  close_net s = going.close_net R (goes R c) s
-
   pub answered : (refused : Option Refusal) (e : Event) (s t : StateSeen) (r : Reply) → Carried R e → AnswersBy refused e s t r → R s t
   answered refused e s t r k g = going.answered R (goes R c) refused e s t r (gone e k) g
 

@@ -1,14 +1,11 @@
 -- What news report of the ends of attempts: no end is a cut, and one that a transparent retry may follow asks for nothing.
-use Rattle.std.proofs.Common.{◌≡◌, ℕ, ◌==◌, Bool, true, false, ◌&&◌, if◌then◌else◌, Option, Some, None, IfSome, List, [], ◌∷◌, ◌++◌, map, refl, ap, subst}
-use Rattle.std.proofs.lemmas.Bool.{eqb-true}
+use Rattle.std.proofs.Common.{◌≡◌, ℕ, Bool, true, false, if◌then◌else◌, Option, Some, None, IfSome, List, [], ◌∷◌, ◌++◌, map, refl, subst}
 use Rattle.std.specs.BTreeMap.{insert_entry}
 use Rattle.std.specs.List.{AllByRecursion, remove}
-use Rattle.std.specs.Option.{option_map_or}
 use Rattle.std.specs.Ordering.{match_ordering, nat_cmp}
 use Rattle.std.specs.declared.cmp.Ordering.{Ordering}
 use Rattle.std.specs.declared.cmp.Ordering.TheVariants as ordering
 use Rattle.grpc_base.specs.declared.code.Code.{Code}
-use Rattle.grpc_base.specs.declared.code.Code.TheVariants as code
 use Rattle.grpc_base.specs.declared.fields.Field.{Field}
 use Rattle.grpc_base.specs.declared.plan.Pushback.{Pushback}
 use Rattle.std.specs.Prelude.{codes}
@@ -21,14 +18,13 @@ use Rattle.attempt_ledger.specs.declared.news.News.{News}
 use Rattle.attempt_ledger.specs.declared.news.News.TheVariants as news
 use Rattle.attempt_ledger.specs.declared.row.RowCause.TheVariants as cause
 use Rattle.grpc_meta.specs.ResponseFields.{shown_of, values_of}
-use Rattle.grpc_status.specs.StatusMaps.{http_codes, looked_up, reset_codes}
 use Rattle.h2_link.specs.Status.{http_status, is_interim}
-use Rattle.grpc_base.specs.ErrorCodes.{cancel, refused_stream}
+use Rattle.grpc_base.specs.ErrorCodes.{cancel}
 use Rattle.h2_link.specs.Received.{handled}
 use Rattle.h2_link.specs.Steps.{cut}
 use Rattle.h2_link.specs.declared.news.LinkNews.{LinkNews}
 use Rattle.h2_link.specs.declared.news.LinkNews.TheVariants as link
-use Rattle.grpc_link.specs.Ends.{end_with, framing_end, http_code, is_head, is_ok, reset_end, status_end, status_end_by, unseen_end, http_end}
+use Rattle.grpc_link.specs.Ends.{end_with, framing_end, http_code, is_head, reset_end, status_end, status_end_by, unseen_end, http_end}
 use Rattle.grpc_link.specs.Links as links
 use Rattle.grpc_link.specs.Links.{GrpcSeen, Report, found, reported_all, reported_by, reported_of, with_reader}
 use Rattle.grpc_link.specs.Readers.{ReaderSeen, Stepped, data_by, headers_by, read_on, stepped}
@@ -214,23 +210,3 @@ fair_kept (news.TooLarge tag seen) ends fair all = all
 pub fair_ends : (ns : List News) (ends : List (ℕ × EndNews)) → AreFair ns → AreFairEnds ends → AreFairEnds (ends_kept ns ends)
 fair_ends [] ends fair all = all
 fair_ends (n ∷ ns) ends fair all = fair_ends ns (end_kept n ends) fair.1 (fair_kept n ends fair.0 all)
-
--- no end that is reported is a cut
-pub own_ends : (reported : News) → IsFair reported → (tag : ℕ) (end : EndNews) → reported ≡ news.Ended tag end → is_cut end.cause ≡ false
-own_ends (news.Ended t x) fair tag end e = (let same : x ≡ end = (cc) in subst (λ (y : EndNews). is_cut y.cause ≡ false) same fair.own)
-own_ends news.Ready fair tag end e = absurd (let no : ⊥ = (cc) in no)
-own_ends news.Retiring fair tag end e = absurd (let no : ⊥ = (cc) in no)
-own_ends (news.Broken why) fair tag end e = absurd (let no : ⊥ = (cc) in no)
-own_ends (news.Head t meta seen) fair tag end e = absurd (let no : ⊥ = (cc) in no)
-own_ends (news.Message t octets seen) fair tag end e = absurd (let no : ⊥ = (cc) in no)
-own_ends (news.TooLarge t seen) fair tag end e = absurd (let no : ⊥ = (cc) in no)
-
--- an end that a transparent retry may follow forbids none
-pub asking_ends : (a : Attempts) (reported : News) → IsFair reported → (tag : ℕ) (end : EndNews) → reported ≡ news.Ended tag end → is_followed a end.cause end.unseen ≡ true → is_stop end.pushback ≡ false
-asking_ends a (news.Ended t x) fair tag end e = (let same : x ≡ end = (cc) in subst (λ (y : EndNews). is_followed a y.cause y.unseen ≡ true → is_stop y.pushback ≡ false) same (fair.asks a))
-asking_ends a news.Ready fair tag end e = absurd (let no : ⊥ = (cc) in no)
-asking_ends a news.Retiring fair tag end e = absurd (let no : ⊥ = (cc) in no)
-asking_ends a (news.Broken why) fair tag end e = absurd (let no : ⊥ = (cc) in no)
-asking_ends a (news.Head t meta seen) fair tag end e = absurd (let no : ⊥ = (cc) in no)
-asking_ends a (news.Message t octets seen) fair tag end e = absurd (let no : ⊥ = (cc) in no)
-asking_ends a (news.TooLarge t seen) fair tag end e = absurd (let no : ⊥ = (cc) in no)

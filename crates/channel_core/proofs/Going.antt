@@ -94,9 +94,6 @@ module _ (R : StateSeen → StateSeen → Type 0) (c : IsLocalActionInvariant R)
   pub same : (s : StateSeen) → R s s
   same s = resting.same R (rests R c) s
 
-  pub timers_of : (number : ℕ) (s : StateSeen) → R s (step.timers_moved number s)
-  timers_of number s = resting.timers_of R (rests R c) number s
-
   pub follow : (number : ℕ) (acts : List CallAct) (s : StateSeen) → R s (step.followed number acts s)
   follow number acts s = resting.follow R (rests R c) number acts s
 

@@ -14,15 +14,6 @@ use Rattle.channel_core.proofs.Going.{Configures, IsLocalActionInvariant, Gone, 
 use Rattle.channel_core.proofs.RestingSteps as resting
 
 module _ (R : StateSeen → StateSeen → Type 0) (c : IsLocalActionInvariant R) where
-  pub readdress : (kind : Option Kind) (addresses : List Address) (s : StateSeen) → R s (applying.readdressed_by kind addresses s)
-  readdress kind addresses s = resting.readdress R (rests R c) kind addresses s
-
-  pub close_all : (more index : ℕ) (s : StateSeen) → R s (applying.calls_closed more index s)
-  close_all more index s = resting.close_all R (rests R c) more index s
-
-  pub close_net : (s : StateSeen) → R s (applying.net_closed s)
-  close_net s = resting.close_net R (rests R c) s
-
   pub answered : (refused : Option Refusal) (e : Event) (s t : StateSeen) (r : Reply) → Gone R e → AnswersBy refused e s t r → R s t
   answered refused e s t r k g = resting.answered R (rests R c) refused e s t r (gone_with R c e k) g
 

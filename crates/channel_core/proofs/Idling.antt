@@ -1,11 +1,11 @@
 -- Where nothing is due, nothing happens.
-use Rattle.std.proofs.Common.{◌≡◌, ℕ, ◌==◌, Bool, true, false, List, [], ◌∷◌, Option, Some, None, ap, refl, sym}
+use Rattle.std.proofs.Common.{◌≡◌, ℕ, ◌==◌, Bool, true, false, List, [], ◌∷◌, Option, Some, None, ap, arith, length, refl, sym}
 use Rattle.std.specs.Prelude.{if◌then◌else◌, is_some, nat_le}
 use Rattle.std.specs.Option.{option_eq}
 use Rattle.picker_gate.specs.Pairs.{first_due, next_moment}
 use Rattle.channel_core.specs.States.{StateSeen}
 use Rattle.channel_core.specs.Steps.{all_configured, all_unconfigured, unconfigured_served, overdue_ended, round_made}
-use Rattle.channel_core.specs.Timing.{due_keys, is_same_moment, later}
+use Rattle.channel_core.specs.Timing.{due_keys, is_same_moment, later, sorted_into}
 
 -- both stand for one moment, or for none
 pub same_moment : (one other : Option ℕ) → is_same_moment one other ≡ option_eq (λ m n. m == n) one other
@@ -57,3 +57,9 @@ served_if false false s awaiting_config fail_fast = refl
 pub none_unconfigured : (s : StateSeen) → None ≡ next_moment s.awaiting_config → None ≡ next_moment s.fail_fast → unconfigured_served s ≡ s
 unfolding unconfigured_served
 none_unconfigured s awaiting_config fail_fast = served_if (is_some s.held) s.unconfigured s (no_timer s.awaiting_config awaiting_config) (no_timer s.fail_fast fail_fast)
+
+-- one call alone is sorted
+pub alone_sorted : (calls : List ℕ) → length calls ≡ 1 → calls ≡ due_keys 0 (sorted_into [] calls)
+alone_sorted [] h = absurd (omega arith)
+alone_sorted (call ∷ []) h = refl
+alone_sorted (call ∷ other ∷ calls) h = absurd (omega arith)

@@ -13,7 +13,6 @@ pub mod Receiving
 pub mod Idling
 pub mod Lending
 pub mod LookLaws
-pub mod OwnRows
 pub mod Places
 pub mod Readdressing
 pub mod Replies

@@ -134,7 +134,7 @@ send_reported b len number s is message long =
     let P : Bool → Type 0 = λ x. (x ≡ false) ↔ ((held : ℕ) × ((t : StateSeen) × Answers (event.Send number message) s t (reply.Full held))) in
     subst P (sym (is ∙ ap (λ (n : ℕ). can_send_in n number s) (sym long))) (send_waits number message s)
 
--- a drain that is not refused, of a link of which it is reported that it cannot be drained, gives nothing
+-- a drain that is not refused, of a link of which a look shows that it cannot be drained, gives nothing
 octets_refused : (octets : List ℕ) (why : Refusal) → reply.Octets octets ≡ reply.Refused why → ⊥
 octets_refused octets why e = (cc)
 

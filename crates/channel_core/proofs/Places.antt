@@ -6,31 +6,6 @@ use Rattle.std.proofs.lemmas.Option.{slice_get_past}
 use Rattle.ledger_stamps.specs.Steps.{changed, changed_at, index_at}
 use Rattle.channel_core.specs.Tables.{numbered}
 
--- a number names the element of its index, or none
-pub number_there : {X : Type 0} (xs : List X) (number index : ℕ) → index_at number (length xs) ≡ Some index → numbered xs number ≡ slice_get xs index
-number_there xs zero index is = absurd (let no : ⊥ = (cc) in no)
-number_there xs (suc k) index is =
-    let I : Bool → Option ℕ = λ b. if b then Some k else None in
-    elim (cases_Bool (nat_lt k (length xs))) [
-      | inl inside ↦ let e : Some k ≡ Some index = sym (ap I inside) ∙ is in ap (slice_get xs) (let same : k ≡ index = (cc) in same)
-      | inr past ↦ let e : None ≡ Some index = sym (ap I past) ∙ is in absurd (let no : ⊥ = (cc) in no)
-    ]
-
-pub number_none : {X : Type 0} (xs : List X) (number : ℕ) → index_at number (length xs) ≡ None → numbered xs number ≡ None
-number_none xs zero is = refl
-number_none xs (suc k) is =
-    let I : Bool → Option ℕ = λ b. if b then Some k else None in
-    elim (cases_Bool (nat_lt k (length xs))) [
-      | inl inside ↦ let e : Some k ≡ None = sym (ap I inside) ∙ is in absurd (let no : ⊥ = (cc) in no)
-      | inr past ↦ slice_get_past xs k (ltb-false k (length xs) past)
-    ]
-
-pub changed_there : {X : Type 0} (f : X → X) (xs : List X) (number index : ℕ) → index_at number (length xs) ≡ Some index → changed_at f xs number ≡ changed f xs index
-changed_there f xs number index is = ap (λ o. option_map_or (λ i. changed f xs i) o xs) is
-
-pub changed_none : {X : Type 0} (f : X → X) (xs : List X) (number : ℕ) → index_at number (length xs) ≡ None → changed_at f xs number ≡ xs
-changed_none f xs number is = ap (λ o. option_map_or (λ i. changed f xs i) o xs) is
-
 -- an element is written back
 set_changed : {X : Type 0} (f : X → X) (xs : List X) (k : ℕ) (x y : X) → slice_get xs k ≡ Some x → y ≡ f x → slice_set xs k y ≡ changed f xs k
 set_changed f [] k x y is new = refl

@@ -1,5 +1,5 @@
 -- What holds of each single thing that is done to a channel, but for what its applications send and finish, what its links take and what comes
--- on them, holds of a whole step without these: events, the settling, and all of it.
+-- on them, holds of a whole step without these. A step is its events, the settling, and all of it.
 use Rattle.std.proofs.Common.{if◌then◌else◌, ◌≡◌, ℕ, zero, suc, ◌+◌, Bool, true, false, nat_lt, ◌==◌, min, length, Option, Some, None, is_some, List, [], ◌∷◌, Result, Ok, Err, refl, sym, subst}
 use Rattle.grpc_base.specs.Requests.{RequestSeen}
 use Rattle.grpc_base.specs.Kinds.{KindsSeen, has_kind}

@@ -1,4 +1,4 @@
--- Nobody has to believe these steps: what comes on links, and what applications and dialers report, one definition for each function.
+-- Nobody has to believe these steps: what comes on links, and what applications and dialers post, one definition for each function.
 use Rattle.std.specs.Prelude.{ℕ, zero, suc, ◌+◌, ◌-◌, Bool, true, false, nat_lt, min, if◌then◌else◌, Option, Some, None, List, [], ◌∷◌, ◌++◌, length}
 use Rattle.grpc_base.specs.Limits.{message_limit}
 use Rattle.grpc_base.specs.Requests.{RequestSeen}

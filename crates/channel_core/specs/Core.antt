@@ -58,7 +58,7 @@ abbrev pub next_entry : List Entry → ℕ
 next_entry before = length before + 1
 
 -- what a step adds to the journal: one entry of this event with its word, at the later of its moment and the last step's, with
--- its reply and the channel's state; and what it makes of the channel, and its reply, are those of the step
+-- its reply and the channel's state. What it makes of the channel, and its reply, are those of the step
 pub record Steps (old new : CoreSeen) (s : Stamped) (reply : Reply) : Type 0 where
   pub journal : new.journal.entries ≡ old.journal.entries ++ record { moment = moment_of old.journal.entries s; word = s.word; event = s.event; reply = reply; state = conn_of new.state } ∷ []
   pub by : Stepped (next_entry old.journal.entries) (moment_of old.journal.entries s) s.word s.event old.state new.state reply
@@ -76,7 +76,7 @@ abbrev pub Runs : CoreSeen → List Stamped → CoreSeen → Type 0
 Runs old [] new = new ≡ old
 Runs old (s ∷ events) new = (next : CoreSeen) × (reply : Reply) × Steps old next s reply × Runs next events new
 
--- what a look at a channel reports: its state after the last step, and what it waits for
+-- what a look at a channel shows: its state after the last step, and what it waits for
 abbrev pub view_of : CoreSeen → View
 view_of core = record {
   state = last_state core.journal.entries;

@@ -115,13 +115,8 @@ impl<P: Balancer> ChannelCore<P> {
         if self.spent {
             return Err(CoreError::NoMemory { spent: true });
         }
-        let Stamped {
-            moment,
-            word,
-            event,
-        } = stamped;
         let entries = self.journal.len() as u64;
-        if has_no_room(entries, self.bytes, &event) {
+        if has_no_room(entries, self.bytes, &stamped.event) {
             return Err(CoreError::SessionFull {
                 entries,
                 octets: self.bytes,
@@ -131,10 +126,19 @@ impl<P: Balancer> ChannelCore<P> {
             return Err(CoreError::NoMemory { spent: false });
         }
         self.spent = true;
-        let moment = self.journal.step_moment(moment);
-        let reply = self.state.step(entries + 1, moment, word, &event)?;
+        let moment = self.journal.step_moment(stamped.moment);
+        let reply = self
+            .state
+            .step(entries + 1, moment, stamped.word, &stamped.event)?;
         let kept = reply.copy()?;
-        let bytes = self.bytes.saturating_add(entry_bytes(&event, &reply));
+        let bytes = self
+            .bytes
+            .saturating_add(entry_bytes(&stamped.event, &reply));
+        let Stamped {
+            moment: _,
+            word,
+            event,
+        } = stamped;
         self.journal.append(Entry {
             moment,
             word,

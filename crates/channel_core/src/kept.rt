@@ -42,6 +42,9 @@ impl Kept {
         ensures ok { OnOk result (1 ≤ self.new.room) }
         ensures entries { self.new.entries ≡ self.old.entries }
     {
+        if self.room > 0 {
+            return Ok(());
+        }
         let mut entries = mem::replace(
             &mut self.journal.entries,
             Items::new(self.alloc),

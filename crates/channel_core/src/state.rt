@@ -182,7 +182,7 @@ impl<P: Balancer> State<P> {
         }
     }
 
-    /// The first refusal that stands, of those that the channel itself reports.
+    /// The first refusal that stands, of those that the channel itself gives.
     fn refused(&self, event: &Event) -> Option<Refusal>
         ensures { result ≡ applying.refusal_of event.now self.now }
     {
@@ -258,7 +258,7 @@ impl<P: Balancer> State<P> {
         &self.book.ledger
     }
 
-    /// What a look at the channel reports, with its state after the last step and whether it is spent.
+    /// What a look at the channel shows, with its state after the last step and whether it is spent.
     pub fn view(&self, state: Conn, spent: bool) -> View
         ensures { result ≡ record { state = state; wants_resolution = self.now.resolver; next = applying.next_of self.now; dialable = applying.is_dialable_in self.now; spent = spent } }
     {

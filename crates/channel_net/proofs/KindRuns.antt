@@ -1,4 +1,4 @@
--- The kinds of the policies of a rack stay over a run, and report which place a kind has.
+-- The kinds of the policies of a rack stay over a run, and decide which place a kind has.
 use Rattle.std.proofs.Common.{◌≡◌, ◌≤◌, ◌+◌, ◌==◌, ℕ, zero, suc, Bool, true, false, ◌&&◌, ◌||◌, not, cond, if◌then◌else◌, Option, Some, None, List, [], ◌∷◌, map, slice_get, refl, ap, sym, subst, ◌∙◌, arith}
 use Rattle.std.specs.List.{list_any, position_from}
 use Rattle.std.proofs.lemmas.Option.{same_Some, none-some}

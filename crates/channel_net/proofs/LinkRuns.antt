@@ -465,7 +465,7 @@ tied-calls : (calls : List NetCall) (n : NetSeen) → TiedNet n → TiedNet (aft
 tied-calls [] n x = x
 tied-calls (call ∷ calls) n x = tied-calls calls (after_call call n) (tied-call call n x)
 
--- what a link reports of the state
+-- what a link says of the state
 shape-link : (a : Address) (c : Conn) (d : ℕ) (again until : Option ℕ) (linked : Bool) → IsShaped c until linked → linked ≡ (is_ready c || awaits_preface (sub_of a c d again until linked))
 shape-link a conn.Idle d again until linked h = h.1
 shape-link a conn.Connecting d again None linked h = h

@@ -129,8 +129,3 @@ view-is board addresses view few kept e =
 pub ok-map : {A E : Type 0} {P Q : A → Type 0} (r : Result A E) → ((a : A) → P a → Q a) → IfOk r P → IfOk r Q
 ok-map (Ok a) f h = f a h
 ok-map (Err e) f h = h
-
--- one address more of a view
-pub view-more : (view more rest all : List SubSeen) (after : List SubSeen) → view ++ (more ++ rest) ≡ all → after ≡ view ++ more → after ++ rest ≡ all
-view-more view more rest all after e new =
-    ap (λ (v : List SubSeen). v ++ rest) new ∙ append_assoc view more rest ∙ e

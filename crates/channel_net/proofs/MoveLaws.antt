@@ -161,7 +161,7 @@ moves-if : (b : Bool) (n s t : NetSeen) → Moves n s → Moves n t → Moves n 
 moves-if true n s t x y = x
 moves-if false n s t x y = y
 
--- a call of the board that keeps no lists, with what it reports to the rack
+-- a call of the board that keeps no lists, with what it gives to the rack
 moves-by : (n : NetSeen) (call : BoardCall) (a : AskerSeen) (links : List OwnLink) → NoKeep call → Orderly n → Reaches n.asker.rack a.rack → Moves n (record { asker = a; board = board.after_call call n.board; current = n.current; pending = n.pending; links = links })
 moves-by n call a links quiet o r = record {
   rack = r;

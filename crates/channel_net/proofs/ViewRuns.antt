@@ -71,7 +71,7 @@ sees-along : (old new : List SubRecord) (addresses : List Address) (ps : List Po
 sees-along old new addresses ps None v x = tt
 sees-along old new addresses ps (Some live) v x = (x.0, (x.1.0, x.1.1 ∙ sym v))
 
--- a subchannel changed, and the rack was reported
+-- a subchannel changed, and the rack was given its state
 abbrev reported-net : (SubRecord → SubRecord) → ℕ → Option Conn → NetSeen → List OwnLink → NetSeen
 reported-net f sub state n links = record { asker = reported state sub n.asker; board = changed_at f n.board sub; current = n.current; pending = n.pending; links = links }
 
@@ -262,11 +262,6 @@ module _ (keeps : rack.RackKeeps) (policies : List PolicySeen) where
   seen-settled n x =
       let first : NetLeft = steps.settle_round (steps.left_of n) in
       seen-further (may_take_over first.net.asker.rack) first (seen-settle-round (steps.left_of n) x)
-
-  -- a result
-  emptied-of : (ps : List PolicySeen) (n : Option Live) (i : ℕ) → is_at i n ≡ false → slice_get (changed_of emptied n ps) i ≡ slice_get ps i
-  emptied-of ps None i e = refl
-  emptied-of ps (Some later) i e = get-other emptied ps later.place i (eqb-false later.place i e)
 
   -- there is a policy at a place, whatever was dropped
   dropped-by : (b : Bool) (ps : List PolicySeen) (j i : ℕ) (q : PolicySeen) → (j == i) ≡ b → slice_get ps i ≡ Some q → (p : PolicySeen) × (slice_get (changed emptied ps j) i ≡ Some p)

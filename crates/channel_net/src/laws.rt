@@ -4,7 +4,7 @@ ghost use Rattle.channel_net.specs.Laws.{LiveWhereListed, NumbersStay, LinksAreO
 use policy_rack::laws_of_runs;
 
 /// The laws of subchannels, whatever calls are made of a net and in whichever order: an address has one live subchannel
-/// while a live generation was given it, and else none; a number is that of one subchannel for good; and a subchannel has a
+/// while a live generation was given it, and else none. A number is that of one subchannel for good; and a subchannel has a
 /// link of its own exactly where it is READY, or CONNECTING with a dial that is a link.
 pub fn laws_of_subchannels()
     ensures listed { LiveWhereListed }
@@ -13,7 +13,7 @@ pub fn laws_of_subchannels()
 {}
 
 /// The laws of generations, whatever calls are made of a net and in whichever order: a pending one stands only beside a
-/// current one, and is of another kind; one that is dropped or replaced is reset in that very call.
+/// current one, and is of another kind. One that is dropped or replaced is reset in that very call.
 pub fn laws_of_generations()
     ensures kept { GenerationsAreKept }
     ensures kinds { LiveKindsDiffer }
@@ -21,8 +21,8 @@ pub fn laws_of_generations()
     laws_of_runs();
 }
 
-/// The laws of pick requests: one changes no policy but that of the current generation, whose answer is that of the table;
-/// and whatever calls are made of a net, the turns of the current generation are the pick requests that it answered.
+/// The laws of pick requests: one changes no policy but that of the current generation, whose answer is that of the table.
+/// Whatever calls are made of a net, the turns of the current generation are the pick requests that it answered.
 pub fn laws_of_asks()
     ensures current { AsksReachTheCurrent }
     ensures answers { AnswersAreOfTheTable }

@@ -199,7 +199,7 @@ no_bad_relay input script n cause live none bad =
 
 -- ---- server scripts
 
--- an answer's path and number are reported by its line
+-- an answer's path and number are decided by its line
 one_place : (answered : Answered) (texts : List (List ℕ)) (a b : AnswerLine) → IsAnswerText answered texts a → IsAnswerText answered texts b → ◌≡◌ {A = Answered} ((b.path, b.n) ∷ answered) ((a.path, a.n) ∷ answered)
 one_place answered (name ∷ path ∷ n ∷ parts ∷ []) a b t u =
     let path_same : b.path ≡ a.path = u.2 ∙ sym t.2 in

@@ -174,7 +174,7 @@ not_listening_input policies (mode.Load load) input left left' taken taken' faul
 not_listening_input policies (mode.Live settings) input left left' taken taken' faults faults' is ends = absurd ends
 not_listening_input policies (mode.Relay settings) input left left' taken taken' faults faults' is ends = reads_relay policies input left left' ends.script is ends.read
 
--- ---- what a status reports of the mode
+-- ---- what a status says of the mode
 
 refuses_lack : (policies : List PolicySeen) (m : Mode) (left left' : Option (List ℕ)) (text : List ℕ) → RefusesIn policies m left left' text → HasItsPolicies policies (name_of m) → ⊥
 refuses_lack policies mode.Replay left left' text refused has = refused

@@ -29,10 +29,6 @@ IsRunning-step old all core new left rest s running e (room, posted, reply, step
   goes_on = goes_on_join old core new running.prefix (s ∷ []) running.goes_on (goes_on_step core new s reply step posted room);
 }
 
-pub IsRunning-done : (old : CoreSeen) (all : List Stamped) (core : CoreSeen) (left : List Stamped) → IsRunning old all core left → left ≡ [] → GoesOn old all core
-IsRunning-done old all core left running none =
-    subst (λ (xs : List Stamped). GoesOn old xs core) (sym (running.parts ∙ ap (λ (xs : List Stamped). running.prefix ++ xs) none ∙ append-nil running.prefix)) running.goes_on
-
 pub IsRunning-full : (old : CoreSeen) (all : List Stamped) (core new : CoreSeen) (left rest : List Stamped) (s : Stamped) → IsRunning old all core left → left ≡ s ∷ rest → StepsTo ran.Full core s new → FillsUp old all new
 IsRunning-full old all core new left rest s running e full =
     subst (λ (c : CoreSeen). FillsUp old all c) (sym full.1)

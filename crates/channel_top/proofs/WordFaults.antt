@@ -17,7 +17,7 @@ use Rattle.channel_top.specs.declared.words.ModeName.{ModeName}
 use Rattle.channel_top.specs.declared.words.ModeName.TheVariants as name
 use Rattle.channel_top.specs.Words.{WordsAreWrong, AskForText, AskPlainly, IsAlone, IsAskWord, IsLiveBy, IsLoadBy, IsRelayBy, IsServeBy, Runs, RunsPlain, app_for, mode_command, dashes, kinds_at, kinds_of, mode_named, mode_of, name_of, name_text}
 
--- each command is of the form whose answers clap reports exactly
+-- each command is of the form whose answers clap states exactly
 pub is_free : (m : Option ModeName) → is_simple_and_free (app_for m) ≡ true
 unfolding clap_on_literals app_for mode_command
 is_free (Some name.Replay) = refl
@@ -179,55 +179,9 @@ wrong_of_refused words k memory help version has = (
 pub the_some : {X : Type 0} (x y : X) → Some x ≡ Some y → x ≡ y
 the_some x y e = (cc)
 
--- the mode of a name
-named_is : (word : List ℕ) (m : ModeName) → mode_named word ≡ Some m → word ≡ name_text m
-named_is word m e = first (bytes_eq word (codes "replay")) refl e
-  where
-    seventh : (b : Bool) → bytes_eq word (codes "relay") ≡ b → (if b then Some name.Relay else None) ≡ Some m → word ≡ name_text m
-    seventh true is e = (bytes_eq-Decides word (codes "relay")).0 is ∙ ap name_text (the_some name.Relay m e)
-    seventh false is e = absurd (cc)
-
-    sixth : (b : Bool) → bytes_eq word (codes "live") ≡ b → (if b then Some name.Live else (if bytes_eq word (codes "relay") then Some name.Relay else None)) ≡ Some m → word ≡ name_text m
-    sixth true is e = (bytes_eq-Decides word (codes "live")).0 is ∙ ap name_text (the_some name.Live m e)
-    sixth false is e = seventh (bytes_eq word (codes "relay")) refl e
-
-    fifth : (b : Bool) → bytes_eq word (codes "load") ≡ b → (if b then Some name.Load else (if bytes_eq word (codes "live") then Some name.Live else (if bytes_eq word (codes "relay") then Some name.Relay else None))) ≡ Some m → word ≡ name_text m
-    fifth true is e = (bytes_eq-Decides word (codes "load")).0 is ∙ ap name_text (the_some name.Load m e)
-    fifth false is e = sixth (bytes_eq word (codes "live")) refl e
-
-    fourth : (b : Bool) → bytes_eq word (codes "serve") ≡ b → (if b then Some name.Serve else (if bytes_eq word (codes "load") then Some name.Load else (if bytes_eq word (codes "live") then Some name.Live else (if bytes_eq word (codes "relay") then Some name.Relay else None)))) ≡ Some m → word ≡ name_text m
-    fourth true is e = (bytes_eq-Decides word (codes "serve")).0 is ∙ ap name_text (the_some name.Serve m e)
-    fourth false is e = fifth (bytes_eq word (codes "load")) refl e
-
-    third : (b : Bool) → bytes_eq word (codes "migrate") ≡ b → (if b then Some name.Migrate else (if bytes_eq word (codes "serve") then Some name.Serve else (if bytes_eq word (codes "load") then Some name.Load else (if bytes_eq word (codes "live") then Some name.Live else (if bytes_eq word (codes "relay") then Some name.Relay else None))))) ≡ Some m → word ≡ name_text m
-    third true is e = (bytes_eq-Decides word (codes "migrate")).0 is ∙ ap name_text (the_some name.Migrate m e)
-    third false is e = fourth (bytes_eq word (codes "serve")) refl e
-
-    second : (b : Bool) → bytes_eq word (codes "config") ≡ b → (if b then Some name.Config else (if bytes_eq word (codes "migrate") then Some name.Migrate else (if bytes_eq word (codes "serve") then Some name.Serve else (if bytes_eq word (codes "load") then Some name.Load else (if bytes_eq word (codes "live") then Some name.Live else (if bytes_eq word (codes "relay") then Some name.Relay else None)))))) ≡ Some m → word ≡ name_text m
-    second true is e = (bytes_eq-Decides word (codes "config")).0 is ∙ ap name_text (the_some name.Config m e)
-    second false is e = third (bytes_eq word (codes "migrate")) refl e
-
-    first : (b : Bool) → bytes_eq word (codes "replay") ≡ b → (if b then Some name.Replay else (if bytes_eq word (codes "config") then Some name.Config else (if bytes_eq word (codes "migrate") then Some name.Migrate else (if bytes_eq word (codes "serve") then Some name.Serve else (if bytes_eq word (codes "load") then Some name.Load else (if bytes_eq word (codes "live") then Some name.Live else (if bytes_eq word (codes "relay") then Some name.Relay else None))))))) ≡ Some m → word ≡ name_text m
-    first true is e = (bytes_eq-Decides word (codes "replay")).0 is ∙ ap name_text (the_some name.Replay m e)
-    first false is e = second (bytes_eq word (codes "config")) refl e
-
--- what runs a mode without options: its name as the first word, alone
-runs_of : (m : ModeName) (words : List (List ℕ)) → mode_of words ≡ Some m → IsAlone words → RunsPlain m words
-runs_of m [] e alone = absurd alone
-runs_of m (word ∷ []) e alone = inl (ap (λ (w : List ℕ). w ∷ []) (named_is word m e))
-runs_of m (word ∷ (last ∷ [])) e alone = inr (two word last (name_text m) dashes (named_is word m e) alone)
-  where
-    two : (a b c d : List ℕ) → a ≡ c → b ≡ d → a ∷ b ∷ [] ≡ c ∷ d ∷ []
-    two a b c d e f = (cc)
-runs_of m (word ∷ (last ∷ (more ∷ rest))) e alone = absurd alone
-
 mode_of_plain : (m : ModeName) (words : List (List ℕ)) → RunsPlain m words → mode_of words ≡ Some m
 mode_of_plain m words (inl e) = ap mode_of e ∙ named m []
 mode_of_plain m words (inr e) = ap mode_of e ∙ named m (dashes ∷ [])
-
-alone_of_plain : (m : ModeName) (words : List (List ℕ)) → RunsPlain m words → IsAlone words
-alone_of_plain m words (inl e) = subst IsAlone (sym e) tt
-alone_of_plain m words (inr e) = subst IsAlone (sym e) refl
 
 pub mode_of_runs : (m : Mode) (words : List (List ℕ)) → Runs m words → mode_of words ≡ Some (name_of m)
 mode_of_runs mode.Replay words runs = mode_of_plain name.Replay words runs
@@ -237,36 +191,6 @@ mode_of_runs (mode.Serve port links) words runs = runs.named
 mode_of_runs (mode.Load load) words runs = runs.named
 mode_of_runs (mode.Live settings) words runs = runs.named
 mode_of_runs (mode.Relay settings) words runs = runs.named
-
-alone_of_runs : (m : Mode) (words : List (List ℕ)) → HasNone (name_of m) → Runs m words → IsAlone words
-alone_of_runs mode.Replay words none runs = alone_of_plain name.Replay words runs
-alone_of_runs mode.Config words none runs = alone_of_plain name.Config words runs
-alone_of_runs mode.Migrate words none runs = alone_of_plain name.Migrate words runs
-alone_of_runs (mode.Serve port links) words none runs = absurd none
-alone_of_runs (mode.Load load) words none runs = absurd none
-alone_of_runs (mode.Live settings) words none runs = absurd none
-alone_of_runs (mode.Relay settings) words none runs = absurd none
-
-runs_plain : (m : Mode) (words : List (List ℕ)) → HasNone (name_of m) → RunsPlain (name_of m) words → Runs m words
-runs_plain mode.Replay words none runs = runs
-runs_plain mode.Config words none runs = runs
-runs_plain mode.Migrate words none runs = runs
-runs_plain (mode.Serve port links) words none runs = absurd none
-runs_plain (mode.Load load) words none runs = absurd none
-runs_plain (mode.Live settings) words none runs = absurd none
-runs_plain (mode.Relay settings) words none runs = absurd none
-
--- the answer of a mode without options
-pub plain_some : (m : Mode) (n : ModeName) (words : List (List ℕ)) (r : Option Mode) → n ≡ name_of m → HasNone (name_of m) → mode_of words ≡ Some n → IfSome r (λ x. (x ≡ m) × IsAlone words) → IfSome r (λ x. Runs x words)
-plain_some m n words None same none is reported = tt
-plain_some m n words (Some x) same none is reported =
-    subst (λ (y : Mode). Runs y words) (sym reported.0) (runs_plain m words none (runs_of (name_of m) words (is ∙ ap (λ (k : ModeName). Some k) same) reported.1))
-
-pub plain_none : (n : ModeName) (words : List (List ℕ)) (r : Option Mode) → HasNone n → mode_of words ≡ Some n → IfNone r (IsAlone words → ⊥) → IfNone r ((m : Mode) → Runs m words → ⊥)
-plain_none n words None none is reported = λ m runs.
-    let same : n ≡ name_of m = the_some n (name_of m) (sym is ∙ mode_of_runs m words runs) in
-    reported (alone_of_runs m words (subst HasNone same none) runs)
-plain_none n words (Some x) none is reported = tt
 
 -- the answer of the mode `serve`
 pub serve_some : (n : ModeName) (words : List (List ℕ)) (rows : List Row) (r : Option Mode) → n ≡ name.Serve → mode_of words ≡ Some n → kinds_at (Some n) words ≡ [] → rows ≡ matches_of (app_for (Some n)) words → IfSome r (IsServeBy rows) → IfSome r (λ x. Runs x words)
@@ -399,12 +323,3 @@ names_no_mode words o is none m runs = some_none (name_of m) (sym (mode_of_runs 
   where
     some_none : (x : ModeName) → Some x ≡ None → ⊥
     some_none x e = (cc)
-
--- an answer with a text is not for want of memory
-pub asks_help : (words : List (List ℕ)) (k : ErrorKind) → k ≡ kind.DisplayHelp → (k ≡ kind.OutOfMemory) ⊎ IsAmong k (kinds_of words) → AskForText words
-asks_help words k e (inl memory) = absurd (cc)
-asks_help words k e (inr among) = inl (subst (λ (x : ErrorKind). IsAmong x (kinds_of words)) e among)
-
-pub asks_version : (words : List (List ℕ)) (k : ErrorKind) → k ≡ kind.DisplayVersion → (k ≡ kind.OutOfMemory) ⊎ IsAmong k (kinds_of words) → AskForText words
-asks_version words k e (inl memory) = absurd (cc)
-asks_version words k e (inr among) = inr (subst (λ (x : ErrorKind). IsAmong x (kinds_of words)) e among)

@@ -1,4 +1,4 @@
--- What each mode reads. By it is given how a mode ends, where no device fails.
+-- What each mode reads. By it is said how a mode ends, where no device fails.
 -- Example: `migrate` reads a report. It ends with status 0, or with 6 for want of memory. Given the line `channel 3 x`, which is none, it ends with 3 or 6.
 use Rattle.std.specs.Prelude.{◌≡◌, ◌⊎◌, true, ℕ, IsSomeAnd, Option, Some, List, [], Ok}
 use Rattle.grpc_base.specs.Kinds.{has_kind}
@@ -25,7 +25,7 @@ use Rattle.channel_top.specs.declared.words.ModeName.TheVariants as name
 abbrev pub IsAnyScript : Form → List ℕ → Type 0
 IsAnyScript f input = (input ≡ []) ⊎ ((target : List ℕ) × (value : Target) × (events : List Stamped) × IsScript f input target value events)
 
--- what a mode reads, all of which is known: a script; a service config without a fault, where the kinds of these policies are supported; a
+-- what a mode reads, all of which is known: a script; a service config without a fault, where the kinds of these policies are supported. A
 -- script or a report; a server script; a live script; a live script without calls. `load` reads nothing
 abbrev pub IsInputOf : List PolicySeen → ModeName → Option (List ℕ) → Type 0
 IsInputOf policies name.Replay left = IsSomeAnd left (IsAnyScript form.Script)

@@ -16,7 +16,7 @@ use Rattle.channel_top.specs.declared.words.Mode.{Mode}
 use Rattle.channel_top.specs.declared.words.Mode.TheVariants as mode
 
 -- a mode is done, and this is its text, where the program has these policies and the dialers of its world hold this for the links that they
--- will open, where they report
+-- will open, where they say them
 abbrev pub IsDoneIn : List PolicySeen → List (Option (List (List ℕ))) → Mode → Option (List ℕ) → Option (List ℕ) → List ℕ → Type 0
 IsDoneIn policies held mode.Replay left left' text = IsDone policies left left' text
 IsDoneIn policies held mode.Config left left' text = IsConfigDone (kinds_of policies) left left' text

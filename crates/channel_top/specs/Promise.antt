@@ -18,7 +18,7 @@ abbrev pub setup_of : List ℕ → List PolicySeen → Setup
 setup_of authority policies = record { authority = authority; policies = map (λ p. record { kind = p.kind; width = p.width }) policies }
 
 -- Journal and ledger are those of a list of actions of the definition, each of which is the next one, from the empty history of this
--- authority and these policies; what was posted in them is these events, in order, and nothing else. No other journal and no other
+-- authority and these policies. What was posted in them is these events, in order, and nothing else. No other journal and no other
 -- ledger is of such a list
 pub record KeepsThePromise (authority : List ℕ) (policies : List PolicySeen) (events : List Stamped) (journal : Journal) (ledger : Ledger) : Type 0 where
   pub consistent : IsConsistent (setup_of authority policies) journal.entries ledger

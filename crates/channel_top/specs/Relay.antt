@@ -5,7 +5,7 @@ use Rattle.relay_mode.specs.Relayed.{EndsRelayFull, IsRelayed, ReportsBadRelay}
 use Rattle.resolver_core.specs.AnyTargets.{authority_of}
 use Rattle.channel_top.specs.Promise.{KeepsThePromise}
 
--- status 0: the input was read to its end and is a live script without calls, and the text is the report of the relay's channel, whose
+-- status 0: the input was read to its end and is a live script without calls. The text is the report of the relay's channel, whose
 -- journal and ledger keep the promise, for the authority of the script's target and these policies
 pub record IsRelayedAsPromised (policies : List PolicySeen) (held : List (Option (List (List ℕ)))) (links : ℕ) (left left' : Option (List ℕ)) (text : List ℕ) : Type 0 where
   pub relayed : IsRelayed policies held links left left' text

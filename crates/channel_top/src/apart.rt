@@ -1,4 +1,4 @@
-// What a mode writes reports its status, and what `replay` writes of one input is one text; nothing runs.
+// What a mode writes shows its status, and what `replay` writes of one input is one text; nothing runs.
 ghost use Rattle.std.specs.Prelude.{◌≡◌, ◌⊎◌, ℕ, List, Option, Some};
 ghost use Rattle.lb_policy.specs.Table.{PolicySeen};
 ghost use Rattle.channel_top.specs.Modes.{FillsIn, IsDoneIn, RefusesIn, ReportsFaultIn};

@@ -266,7 +266,7 @@ fn taken_mode(name: ModeName, words: &[String], matches: &ArgMatches<'_>) -> Opt
     }
 }
 
-/// The text for the user that an answer of `clap` has, as what is reported of any words that ask for a text.
+/// The text for the user that an answer of `clap` has, as what is known of any words that ask for a text.
 fn printed(alloc: Global, answer: &Error) -> Result<Asked, WordsFault>
     ensures { (words : List (List ℕ)) → AskForText words → IsAskedBy words result }
 {

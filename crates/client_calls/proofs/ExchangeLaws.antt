@@ -94,11 +94,6 @@ pub record Gathers (call : ℕ) (start here : List Entry) (head : Option (List F
   pub head_is : head ≡ head_in given
   pub messages_are : messages ≡ messages_in given
 
--- nothing yet
-pub gathers_none : (call : ℕ) (start : List Entry) (head : Option (List Field)) (messages : List (List ℕ)) → head ≡ None → messages ≡ [] → Gathers call start start head messages
-gathers_none call start head messages no_head no_messages =
-    record { given = []; before_end = All-nil (λ (x : Received). end_of x ≡ None); takes = refl; head_is = no_head; messages_are = no_messages }
-
 -- and more, which is no end
 pub gathers_more : (call : ℕ) (start here next : List Entry) (head head' : Option (List Field)) (messages messages' : List (List ℕ)) (x : Received)
     → Gathers call start here head messages → AddsEntry here next (event.Take call) (reply_of x) → end_of x ≡ None

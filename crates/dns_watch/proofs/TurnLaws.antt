@@ -16,12 +16,12 @@ same_handle m m2 n n2 l l2 p q r =
     ∙ ap (λ (x : ℕ). let h : HandleSeen = record { made = m; errors = x; last = l2 } in h) q
     ∙ ap (λ (x : Option PostError). let h : HandleSeen = record { made = m; errors = n; last = x } in h) r
 
--- a look before changes nothing of what is posted
+-- a look beforehand changes nothing of what is posted
 pub reports_looked : (e : Event) (m m2 : List Entry) (n n2 : ℕ) (l l2 : Option PostError) (after : HandleSeen) (result : DnsOnce) → m2 ≡ m → n2 ≡ n → l2 ≡ l
     → ReportsThat e (record { made = m2; errors = n2; last = l2 }) after result → ReportsThat e (record { made = m; errors = n; last = l }) after result
 reports_looked e m m2 n n2 l l2 after result p q r reports_that = subst (λ (h : HandleSeen). ReportsThat e h after result) (same_handle m m2 n n2 l l2 p q r) reports_that
 
--- the name's turn has come: it was looked up, and the channel was reported
+-- the name's turn has come: it was looked up, and the channel was given the answer
 pub turn_taken : (view : View) (may_give : ℕ → Type 0) (may_find : DnsName → List ℕ → Type 0) (config : Option (List ℕ)) (moment : ℕ) (before after : JobSeen) (answer : Looked) (result : DnsOnce)
     → false ≡ is_shut view.state → may_give moment → true ≡ is_turn before.search.watch.newest moment view.wants_resolution
     → LooksUp may_find moment answer before.search after.search → ReportsThat (event_of answer config) before.handle after.handle result

@@ -11,7 +11,7 @@ failures_of [] = 0
 failures_of (a ∷ older) = if a.found then 0 else failures_of older + 1
 
 -- whether a lookup is due at a moment: the first one is; after one that found addresses, one is due once it is wanted
--- and 30 s have passed; after n in a row that failed, once the wait of the n-th dial has passed, spread by the word of
+-- and 30 s have passed. After n in a row that failed, once the wait of the n-th dial has passed, spread by the word of
 -- the last one
 abbrev pub turn_after : List DnsAnswer → ℕ → Bool → Bool
 turn_after [] moment wanted = true

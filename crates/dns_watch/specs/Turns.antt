@@ -1,4 +1,4 @@
--- What one turn of a name's job does: a look at the channel, maybe a lookup, and what the channel is notified of it.
+-- What one turn of a name's job does: a look at the channel, maybe a lookup, and what the channel is given of it.
 use Rattle.std.specs.Prelude.{◌≡◌, ◌⊎◌, ℕ, ◌+◌, Bool, true, false, Option, Some, Result, Ok, Err, List}
 use Rattle.grpc_base.specs.Counts.{one_more}
 use Rattle.grpc_base.specs.Posts.{CountsErrors, Posts}
@@ -52,7 +52,7 @@ pub record DoesNothing (before after : JobSeen) : Type 0 where
   pub handle : PostsNothing before.handle after.handle
   pub search : after.search ≡ before.search
 
--- the name was looked up once, with this answer, and the schedule was reported of it with the next random word
+-- the name was looked up once, with this answer, and the schedule was given it with the next random word
 pub record LooksUp (may_find : DnsName → List ℕ → Type 0) (moment : ℕ) (answer : Looked) (before after : SearchSeen) : Type 0 where
   pub answers : Answers may_find before.watch.name answer
   pub lookups : after.lookups ≡ one_more before.lookups
@@ -61,7 +61,7 @@ pub record LooksUp (may_find : DnsName → List ℕ → Type 0) (moment : ℕ) (
   pub watch : after.watch ≡ answered before.watch (record { moment = moment; word = before.words 0; found = is_found answer })
   pub words : (k : ℕ) → after.words k ≡ before.words (k + 1)
 
--- the event that reports to the channel of an answer
+-- the event for the channel that an answer is
 abbrev pub event_of : Looked → Option (List ℕ) → Event
 event_of (looked.Found addresses) config = event.Resolved addresses config
 event_of looked.Failed config = event.ResolveFailed
@@ -83,7 +83,7 @@ ReportsThat e before after result =
     ((came : Result Reply PostError) × PostsOne e before after came × (result ≡ once_of came))
     ⊎ (PostsNothing before after × (result ≡ once.Failed (failed.NoMemory false)))
 
--- where it is the name's turn, it is looked up and the channel is notified of the very answer; else nothing is done
+-- where it is the name's turn, it is looked up and the channel gets the very answer; else nothing is done
 abbrev pub TurnsIf : Bool → (DnsName → List ℕ → Type 0) → Option (List ℕ) → ℕ → JobSeen → JobSeen → DnsOnce → Type 0
 TurnsIf true may_find config moment before after result =
     (answer : Looked) × LooksUp may_find moment answer before.search after.search × ReportsThat (event_of answer config) before.handle after.handle result

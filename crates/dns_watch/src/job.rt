@@ -1,4 +1,4 @@
-// The job that looks a name up and reports to the channel of it.
+// The job that looks a name up and posts the answer to the channel.
 ghost use Rattle.std.specs.Prelude.{◌≡◌, ◌≤◌, ℕ, List, Some, IfOk, true, false};
 ghost use Rattle.grpc_base.specs.Counts.{one_more};
 ghost use Rattle.grpc_base.specs.Limits.{moment_limit};
@@ -28,7 +28,7 @@ pub enum DnsOnce {
     Failed(PostError),
 }
 
-/// Looks the name up, and reports the schedule of the answer.
+/// Looks the name up, and notes the answer in the schedule.
 fn look_up<L: Lookup, D: Draws>(
     watch: &mut DnsWatch,
     lookup: &mut L,
@@ -53,7 +53,7 @@ fn share(config: &Option<Octets>) -> Result<Option<Octets>, NoMemory>
     }
 }
 
-/// The event that reports to the channel of an answer.
+/// The event for the channel that an answer is.
 fn event_of(alloc: Global, answer: Looked, config: &Option<Octets>) -> Result<Event, NoMemory>
     ensures { IfOk result (λ e. e ≡ event_of answer config.now) }
 {
@@ -80,7 +80,7 @@ fn once_of(came: &Result<Reply, PostError>) -> DnsOnce
     }
 }
 
-/// reports to the channel of an answer.
+/// Posts an answer to the channel.
 fn report<P: Post>(alloc: Global, post: &mut P, answer: Looked, config: &Option<Octets>) -> DnsOnce
     ensures reported { let before : HandleSeen = record { made = P.made post.old; errors = P.errors post.old; last = P.last_error post.old } in let after : HandleSeen = record { made = P.made post.new; errors = P.errors post.new; last = P.last_error post.new } in ReportsThat (event_of answer config.now) before after result }
     ensures looks { (P.looks post.new ≡ P.looks post.old) × (P.last_look post.new ≡ P.last_look post.old) }

@@ -1,4 +1,4 @@
-// The resolver of a name: when it is looked up, what a lookup brings, and what the channel is notified of it.
+// The resolver of a name: when it is looked up, what a lookup brings, and what the channel is given of it.
 #![tactic(auto)]
 
 mod job;

@@ -1,4 +1,4 @@
-// A lookup in memory, whose answers are made before, and which fails at the lookups that it is reported to fail at.
+// A lookup in memory, whose answers are made before, and which fails at the lookups at which it is made to.
 ghost use Rattle.std.specs.Prelude.{◌≡◌, ◌∷◌, ◌↔◌, [], ℕ, List, Some, None, IfSome, IfNone};
 ghost use Rattle.gate_io.specs.Memory.{FailsNext};
 ghost use Rattle.grpc_base.specs.Counts.{one_more};

@@ -28,7 +28,7 @@ pub struct Newest {
 }
 
 /// The schedule of a name's lookups. The first is made at once; after one that found addresses a further one is
-/// made once the channel wants it, 30 s later at the earliest; after failures in a row, once the wait of as many
+/// made once the channel wants it, 30 s later at the earliest. After failures in a row, once the wait of as many
 /// failed dials is over (gRPC, "Connection Backoff Protocol"). Moments are in nanoseconds, at most
 /// 4,000,000,000,000,000,000.
 #[derive(Debug, Drop)]

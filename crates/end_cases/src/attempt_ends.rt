@@ -2,8 +2,8 @@
 ghost use Rattle.end_cases.specs.AttemptEnds.Laws.{CallsGoOnAfterEnds, CommittedEndsClose, EndsByCases, EndsByCuts, EndsStayHeld, LastEndsCutOff, LoneLastEndsClose, NoneIsOwed, OneAttemptEnds, RetriesFollowEnds};
 ghost use Rattle.end_cases.specs.AttemptEnds.Runs.{RunsOfSessions, RunsStay};
 
-/// Where an attempt ends, by its pick or by the wire, and its call goes on, since a retry is licensed, or another attempt of the hedged call goes on or is due,
-/// the end is the next action, nothing follows at once from it but resets, and channel and session agree, with the tokens and the moment of the next attempt
+/// An attempt ends, by its pick or by the wire, and its call goes on, since a retry is licensed, or another attempt of the hedged call goes on or is due.
+/// Then the end is the next action, nothing follows at once from it but resets, and channel and session agree, with the tokens and the moment of the next attempt
 /// (gRFC A6, "Retry Policy", "Hedging Policy", "Exponential Backoff", "Pushback" and "Throttling Retry Attempts and Hedged RPCs").
 pub fn calls_go_on_after_ends()
     ensures goes { CallsGoOnAfterEnds }
@@ -16,8 +16,8 @@ pub fn committed_ends_close()
     ensures { CommittedEndsClose }
 {}
 
-/// Where an attempt ends, no further attempt follows it, and no other attempt of its call goes on, the call is committed to it next, and then ends by it; and
-/// nothing follows at once but resets, and channel and session agree (gRFC A6, "Retry Policy", "Hedging Policy" and "When Retries are Valid").
+/// Where an attempt ends, no further attempt follows it, and no other attempt of its call goes on, the call is committed to it next, and then ends by it.
+/// Nothing follows at once but resets, and channel and session agree (gRFC A6, "Retry Policy", "Hedging Policy" and "When Retries are Valid").
 pub fn lone_last_ends_close()
     ensures { LoneLastEndsClose }
 {}
@@ -35,14 +35,14 @@ pub fn ends_are_by_cases()
     ensures cuts { EndsByCuts }
 {}
 
-/// Where a hedged call's attempt ends by a code that its policy does not name, and other attempts of the call go on, the call is committed to it next, each of the
-/// others is cut off in its turn, and the call ends; then nothing follows at once but resets, and channel and session agree (gRFC A6, "Hedging Policy" and "When
+/// A hedged call's attempt ends by a code that its policy does not name, and other attempts of the call go on. The call is committed to it next, each of the
+/// others is cut off in its turn, and the call ends. Then nothing follows at once but resets, and channel and session agree (gRFC A6, "Hedging Policy" and "When
 /// Retries are Valid").
 pub fn last_ends_cut_off()
     ensures { LastEndsCutOff }
 {}
 
-/// So one attempt ends, by its pick or by the wire, for whatever cause but that it is cut off: its end is the next action, what follows from it is alike in channel
+/// So one attempt ends, by its pick or by the wire, for whatever cause but that it is cut off. Its end is the next action, what follows from it is alike in channel
 /// and session, and the two agree but for resets (gRFC A6, "Retry Policy", "Hedging Policy", "Transparent Retries" and "When Retries are Valid").
 pub fn one_attempt_ends()
     ensures { OneAttemptEnds }

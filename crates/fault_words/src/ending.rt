@@ -28,7 +28,7 @@ pub struct Ended<'a> {
     pub words: &'a [String],
     /// Whether all words of the command were text; where one was not, `words` is empty.
     pub are_text: bool,
-    /// The prefix of what was written to standard output: its first line, if that reports a fault.
+    /// The prefix of what was written to standard output: its first line, if that is a fault's.
     pub output: &'a [u8],
     pub input: &'a Remembered,
     /// Why the last read that failed did.

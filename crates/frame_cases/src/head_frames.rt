@@ -1,5 +1,5 @@
 // Frames that bring the head of a response; nothing runs.
-ghost use Rattle.frame_cases.specs.FrameKinds.Laws.{HeadsAreReceived};
+ghost use Rattle.frame_cases.specs.FrameKinds.Laws.{HeadsAreHandled};
 ghost use Rattle.frame_cases.specs.HeadFrames.Laws.{HeadsComeAlone};
 
 /// Where a link reports a head, and neither an end nor a message that is too long, it came of one response, which is otherwise as before, and nothing came of any other (gRPC over
@@ -10,6 +10,6 @@ pub fn heads_come_alone()
 
 /// So it is handled: a call that is not committed is committed to the attempt, and its other attempts are cut off (gRFC A6, "When Retries are Valid"); of a call that is committed
 /// already the application gets it; and channel and session agree after it.
-pub fn heads_are_received()
-    ensures { HeadsAreReceived }
+pub fn heads_are_handled()
+    ensures { HeadsAreHandled }
 {}

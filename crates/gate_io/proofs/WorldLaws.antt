@@ -1,8 +1,8 @@
--- Dialers that report nothing of the links to come.
+-- Dialers that say nothing of the links to come.
 use Rattle.std.proofs.Common.{◌≡◌, None, List, [], ◌∷◌, length, map, refl, arith}
 use Rattle.gate_io.specs.Links.{untold}
 
--- four dialers report four times nothing
+-- four dialers say four times nothing
 pub four_untold : {D : Type 0} (dialers : List D) → length dialers ≡ 4 → map (λ (d : D). untold d) dialers ≡ None ∷ None ∷ None ∷ None ∷ []
 four_untold (a ∷ b ∷ c ∷ d ∷ []) four = refl
 four_untold (a ∷ b ∷ c ∷ d ∷ e ∷ more) four = absurd (omega arith)

@@ -25,7 +25,7 @@ abbrev pub CountsQuiet : ℕ → ℕ → LinkRead → Type 0
 CountsQuiet before after link.Quiet = after ≡ one_more before
 CountsQuiet before after _ = after ≡ before
 
--- the next link had these bytes left, where the bytes of the links to come are reported
+-- the next link had these bytes left, where the bytes of the links to come are known
 abbrev pub TakesLink : Option (List (List ℕ)) → Option (List (List ℕ)) → Option (List ℕ) → Type 0
 TakesLink (Some before) (Some after) (Some bytes) = before ≡ bytes ∷ after
 TakesLink None None left = Unit {0}
@@ -41,7 +41,7 @@ abbrev pub AcceptCounts : {I O : Type 0} → ℕ → ℕ → Dialed I O → Type
 AcceptCounts faults faults_after (dialed.Open input output) = faults_after ≡ faults
 AcceptCounts faults faults_after dialed.Failed = faults_after ≡ one_more faults
 
--- what a dialer says of the links to come that reports nothing of them
+-- what a dialer shows of the links to come that says nothing of them
 abbrev pub untold : {D : Type 0} → D → Option (List (List ℕ))
 untold dialer = None
 

@@ -6,14 +6,14 @@ use Rattle.gate_io.specs.declared.world.ReadAnswer.TheVariants as read
 use Rattle.gate_io.specs.declared.world.WriteAnswer.{WriteAnswer}
 use Rattle.gate_io.specs.declared.world.WriteAnswer.TheVariants as write
 
--- these bytes were next, where what is left is reported
+-- these bytes were next, where what is left is known
 abbrev pub Takes : Option (List ℕ) → Option (List ℕ) → List ℕ → Type 0
 Takes (Some before) (Some after) bytes = before ≡ bytes ++ after
 Takes (Some before) None bytes = ⊥
 Takes None (Some after) bytes = ⊥
 Takes None None bytes = Unit {0}
 
--- nothing is left, where what is left is reported
+-- nothing is left, where what is left is known
 abbrev pub IsAtEnd : Option (List ℕ) → Type 0
 IsAtEnd left = IfSome left (λ bytes. bytes ≡ [])
 
@@ -29,7 +29,7 @@ CountsRead before after (read.Got n) = after ≡ before
 CountsRead before after read.End = after ≡ before
 CountsRead before after read.Failed = (before ≤ after) × (after ≡ one_more before)
 
--- these bytes were taken after what was taken before, where that is reported
+-- these bytes were taken after what was taken before, where that is known
 abbrev pub Appends : Option (List ℕ) → Option (List ℕ) → List ℕ → Type 0
 Appends (Some before) after bytes = after ≡ Some (before ++ bytes)
 Appends None after bytes = after ≡ None

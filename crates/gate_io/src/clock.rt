@@ -16,7 +16,7 @@ pub enum Woken {
     All,
 }
 
-/// What reports the time, in nanoseconds since the beginning of 1970, at most 4,000,000,000,000,000,000, and lets time
+/// What has the time, in nanoseconds since the beginning of 1970, at most 4,000,000,000,000,000,000, and lets time
 /// pass. A clock may go back.
 pub trait Clock: Send + Sync + Drop {
     /// The moments that the clock may give.

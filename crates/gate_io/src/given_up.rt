@@ -1,4 +1,4 @@
-// Links that a channel has given up, as who looks at the channel reports who keeps its links open.
+// Links that a channel has given up: what a look at the channel shows to whoever keeps its links open.
 use grpc_base::NoMemory;
 use std::alloc::Global;
 use std::sync::Arc;

@@ -68,7 +68,7 @@ pub(crate) struct Lately {
 /// What becomes of a dial.
 #[derive(Drop)]
 pub(crate) enum Turn {
-    /// It is made, and reported whether an answer comes, where there was memory for a note of it.
+    /// It is made, and it is noted whether an answer comes, where there was memory for a note of it.
     Made(Option<Arc<AtomicBool>>),
     /// It is not made.
     TooSoon,
@@ -83,7 +83,7 @@ impl Lately {
     }
 
     /// Whether a dial to an address is made at a moment, which is given up at the moment `until`. It is not where the last one has just run to
-    /// its end, or where the last three connections to it were of no use: so an address that answers nothing, or that ends each connection
+    /// its end, or where the last three connections to it were of no use. So an address that answers nothing, or that ends each connection
     /// right after its SETTINGS, is seen to fail. Only one dial after such an end is not made.
     pub(crate) fn dial(&mut self, to: Address, until: u64, now: u64) -> Turn {
         for last in self.dials.iter_mut() {
@@ -115,7 +115,7 @@ fn again(alloc: Global, last: &mut LastDial, until: u64, now: u64) -> Turn {
     Turn::Made(reported)
 }
 
-/// Where the connection of a dial reports that an answer came; None where there is no memory.
+/// Where the connection of a dial notes that an answer came; None where there is no memory.
 fn reported_by(dial: &LastDial) -> Option<Arc<AtomicBool>> {
     dial.answered.clone().ok()
 }

@@ -44,7 +44,7 @@ pub enum Happened<I, O> {
 
 /// What comes on a link.
 pub trait LinkIn: Send + Drop {
-    /// The bytes that are left, where the link reports them. Memory does, and a socket does not.
+    /// The bytes that are left, where the link shows them. Memory does, and a socket does not.
     ghost left: { Self → Option (List ℕ) };
 
     /// How often a read has failed.
@@ -53,7 +53,7 @@ pub trait LinkIn: Send + Drop {
     /// How often a read was quiet.
     ghost quiet: { Self → ℕ };
 
-    /// Reads into the prefix of a buffer that is not empty.
+    /// Reads into the first bytes of a buffer that is not empty.
     fn read(&mut self, buf: &mut [u8]) -> LinkRead
         requires { 0 < length buf.old }
         ensures bytes { LinkReads (left self.old) (left self.new) (length buf.old) buf.new result }
@@ -70,7 +70,7 @@ pub trait LinkIn: Send + Drop {
 
 /// What goes on a link.
 pub trait LinkOut: Send + Drop {
-    /// The bytes that were taken, where the link reports them. Memory does, and a socket does not.
+    /// The bytes that were taken, where the link shows them. Memory does, and a socket does not.
     ghost taken: { Self → Option (List ℕ) };
 
     /// How often a write has failed.
@@ -99,7 +99,7 @@ pub trait Dialer: Send + Drop {
 
     type Out: LinkOut;
 
-    /// The bytes that each link which is still to be opened will have left, in order, where the dialer reports them.
+    /// The bytes that each link which is still to be opened will have left, in order, where the dialer says them.
     ghost coming: { Self → Option (List (List ℕ)) };
 
     /// How often a dial has failed.

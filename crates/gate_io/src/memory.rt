@@ -1,4 +1,4 @@
-// A source and a sink in memory, which fail at the calls that they are reported to fail at.
+// A source and a sink in memory, which fail at the calls at which they are made to.
 ghost use Rattle.std.specs.Prelude.{◌≡◌, ◌<◌, ◌↔◌, ◌⊎◌, [], Some, false, true, length};
 ghost use Rattle.gate_io.specs.Memory.{FailsNext, GivesMost, TakesMost};
 ghost use Rattle.gate_io.specs.Outside.{Reads, CountsRead, Writes, CountsWrite, one_more};

@@ -1,4 +1,4 @@
-// A dialer and a listener in memory, whose links are made before, and which fail at the calls that they are reported to fail at.
+// A dialer and a listener in memory, whose links are made before, and which fail at the calls at which they are made to.
 ghost use Rattle.std.specs.Prelude.{◌≡◌, ◌↔◌, ◌⊎◌, ◌∷◌, [], ℕ, Some, None, IfSome, IfNone, false, true, map};
 ghost use Rattle.gate_io.specs.Memory.{FailsNext, LinkInSeen, LinkOutSeen};
 ghost use Rattle.gate_io.specs.MemoryLinks.{lefts_of, opened_of};

@@ -1,4 +1,4 @@
-// Links in memory, which fail at the calls that they are reported to fail at.
+// Links in memory, which fail at the calls at which they are made to.
 ghost use Rattle.std.specs.Prelude.{◌≡◌, ◌<◌, ◌↔◌, ◌⊎◌, [], Some, false, true, length};
 ghost use Rattle.gate_io.specs.Memory.{FailsNext, TakesMost};
 ghost use Rattle.gate_io.specs.Outside.{Writes, CountsWrite, one_more};

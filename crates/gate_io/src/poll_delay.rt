@@ -37,7 +37,7 @@ const BRIEF_TRIES: u64 = 8;
 /// So many more are each after a short pause.
 const SHORT_TRIES: u64 = 20;
 
-/// Counts tries that found nothing, and reports how long to pause before the next: right after one that found something not
+/// Counts tries that found nothing, and says how long to pause before the next: right after one that found something not
 /// at all, and the longer the more of them found nothing.
 #[derive(Debug, Drop)]
 pub struct PollDelay {

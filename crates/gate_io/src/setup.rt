@@ -26,7 +26,7 @@ pub trait World: Drop {
 
     type Dialer: Dialer;
 
-    /// Of each dialer in turn, the bytes that each link which it is to open will have left, where it reports them.
+    /// Of each dialer in turn, the bytes that each link which it is to open will have left, where it says them.
     ghost held: { Self → List (Option (List (List ℕ))) };
 
     /// The parts of the world; the random words are those of this seed.

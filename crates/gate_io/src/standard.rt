@@ -1,4 +1,4 @@
-// Thin adapters over std's readers and writers, the trusted edge: they report no bytes and count faults.
+// Thin adapters over std's readers and writers, the trusted edge: they show no bytes and count faults.
 ghost use Rattle.std.specs.Prelude.{◌≡◌, ◌<◌, ◌≤◌, None, IfSome, length};
 
 use crate::{ReadAnswer, Sink, Source, WriteAnswer};

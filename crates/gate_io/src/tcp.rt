@@ -1,4 +1,4 @@
-// Links over TCP, the trusted edge: they report no bytes and count faults and quiet reads.
+// Links over TCP, the trusted edge: they show no bytes, and count faults and quiet reads.
 ghost use Rattle.std.specs.Prelude.{◌≡◌, ◌<◌, ◌≤◌, ℕ, None, Some, IfSome, length, false, true};
 ghost use Rattle.gate_io.specs.declared.wire.Received.TheVariants as received;
 
@@ -11,7 +11,7 @@ use std::io;
 use std::net::TcpStream;
 use std::sync::{Arc, Mutex};
 
-/// What comes over a TCP connection. A read waits at most 5 ms, and less where it is reported so; it is quiet as long as the connection does
+/// What comes over a TCP connection. A read waits at most 5 ms, and less where it is asked to; it is quiet as long as the connection does
 /// not stand yet, and fails where it can't be made.
 #[derive(Drop)]
 pub struct TcpIn {
@@ -33,7 +33,7 @@ pub struct TcpOut {
 }
 
 /// Both ends of a connection that was accepted, and waits, or of one that was dialled. Small frames are sent at once. Where one waits for
-/// the links of a dialer, it is reported when this one is closed.
+/// the links of a dialer, it is notified when this one is closed.
 pub(crate) fn link_over(
     alloc: Global,
     stream: TcpStream,
@@ -117,7 +117,7 @@ impl LinkIn for TcpIn {
         if pause == self.pause {
             return;
         }
-        // Where it cannot be distinguished, reads wait as before.
+        // Where it cannot be set, reads wait as before.
         if let Some(wire) = self.wire.try_lock() {
             if wire.wait_at_most(pause) {
                 self.pause = pause;

@@ -10,7 +10,7 @@ use std::thread::sleep;
 use std::time::Duration;
 use std::{io, time};
 
-/// How many events one wait is reported of, at most.
+/// How many events one wait reports, at most.
 const EVENTS: usize = 16;
 
 /// The least time of the system's wait for links, in nanoseconds, by whose multiples it waits.

@@ -53,7 +53,7 @@ pub(crate) struct Wire {
     held: Vec<u8>,
     sent: usize,
     broken: bool,
-    /// Whether nothing is read as long as something is held: so a peer that reads nothing makes its server hold no more than one read of
+    /// Whether nothing is read as long as something is held. So a peer that reads nothing makes its server hold no more than one read of
     /// it asks for, and the end of what it sends is seen after all that it was sent.
     reads_last: bool,
     /// Whether an answer came, for the dialer.

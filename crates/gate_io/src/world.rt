@@ -24,13 +24,13 @@ pub enum WriteAnswer {
 
 /// Where bytes come from.
 pub trait Source {
-    /// The bytes that are left, where the source reports them. Memory does, and a standard stream does not.
+    /// The bytes that are left, where the source shows them. Memory does, and a standard stream does not.
     ghost left: { Self → Option (List ℕ) };
 
     /// How often a read has failed.
     ghost faults: { Self → ℕ };
 
-    /// Reads into the prefix of a buffer that is not empty.
+    /// Reads into the first bytes of a buffer that is not empty.
     fn read(&mut self, buf: &mut [u8]) -> ReadAnswer
         requires { 0 < length buf.old }
         ensures bytes { Reads (left self.old) (left self.new) (length buf.old) buf.new result }
@@ -39,7 +39,7 @@ pub trait Source {
 
 /// Where bytes go.
 pub trait Sink {
-    /// The bytes that were taken, where the sink reports them. Memory does, and a standard stream does not.
+    /// The bytes that were taken, where the sink shows them. Memory does, and a standard stream does not.
     ghost taken: { Self → Option (List ℕ) };
 
     /// How often a write has failed.

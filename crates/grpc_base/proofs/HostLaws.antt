@@ -6,13 +6,6 @@ use Rattle.std.proofs.lemmas.List.Elements.{All-cons}
 all_after : {X : Type 0} (P : X → Type 0) (x : X) (xs : List X) → All P (x ∷ xs) → All P xs
 all_after P x xs all = λ k d below. all (suc k) d (omega arith)
 
-all_first : {X : Type 0} (P : X → Type 0) (x : X) (xs : List X) → All P (x ∷ xs) → P x
-all_first P x xs all = all 0 x (omega arith)
-
 -- a test of those after the first decides for all, where it holds of the first
 pub more_decided : {X : Type 0} (P : X → Type 0) (all : List X) (x : X) (xs : List X) (b : Bool) → all ≡ x ∷ xs → P x → IsTrue b ↔ All P xs → IsTrue b ↔ All P all
 more_decided P all x xs b e p decides = subst (λ ys. IsTrue b ↔ All P ys) (sym e) ((λ h. All-cons P x xs p (decides.0 h)), (λ h. decides.1 (all_after P x xs h)))
-
--- where it does not hold of the first, it does not hold of all
-pub none_decided : {X : Type 0} (P : X → Type 0) (all : List X) (x : X) (xs : List X) → all ≡ x ∷ xs → All P all → P x
-none_decided P all x xs e h = all_first P x xs (subst (λ ys. All P ys) e h)

@@ -108,7 +108,7 @@ some_mapped : {X Y : Type 0} (f : X → Y) (o : Option X) → is_some (option_ma
 some_mapped f None = refl
 some_mapped f (Some x) = refl
 
--- what reports whether there are names reports whether it is a path
+-- what says whether there are names says whether it is a path
 pub path_reported : {X : Type 0} (f : X → List ℕ × List ℕ) (o : Option X) (path : List ℕ) (reported : Bool) → reported ≡ is_some o → option_map f o ≡ names_of_path path → (reported ≡ true → IsPath path) × (IsPath path → reported ≡ true)
 path_reported f o path reported e named =
     let same : reported ≡ is_some (names_of_path path) = e ∙ sym (some_mapped f o) ∙ ap is_some named in

@@ -4,7 +4,7 @@ use Rattle.std.proofs.lemmas.Bool.Decides.{nat_tests}
 use Rattle.std.proofs.lemmas.List.Splits.{slice_split_none, slice_split_at}
 use Rattle.grpc_base.specs.Pieces.{pieces}
 
--- a byte that is no separator is reported to be none
+-- a byte that is no separator is found to be none
 no_separator : (separator b : ℕ) → (b ≡ separator → ⊥) → (b == separator) ≡ false
 no_separator separator b other = grind (arith, nat_tests)
 

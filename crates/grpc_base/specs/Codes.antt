@@ -23,7 +23,7 @@ code_number code.Unavailable = 14
 code_number code.DataLoss = 15
 code_number code.Unauthenticated = 16
 
--- a set of codes reports for each number from 0 to 16 whether the code is in it
+-- a set of codes says for each number from 0 to 16 whether the code is in it
 abbrev pub CodesSeen : Type 0
 CodesSeen = List Bool
 

@@ -29,7 +29,7 @@ kind_named name = find (λ k. bytes_eq (kind_name k) name) each_kind
 abbrev pub kind_named_in_any_case : List ℕ → Option Kind
 kind_named_in_any_case name = find (λ k. str_eq_ignore_ascii_case (kind_name k) name) each_kind
 
--- a set of kinds reports for each number whether the kind is in it
+-- a set of kinds says for each number whether the kind is in it
 abbrev pub KindsSeen : Type 0
 KindsSeen = List Bool
 

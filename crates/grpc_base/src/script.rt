@@ -47,7 +47,7 @@ pub enum AnswerPart {
 }
 
 impl ServerScript {
-    /// Whether a scripted server can answer by it: each answer has the path of a method and at least one part, each part is
+    /// Whether a scripted server can answer by it. Each answer has the path of a method and at least one part. Each part is
     /// within its limit, after a status or a reset there is only GOAWAY, and the answers of a path are numbered from 1.
     /// The time grows with the square of the answers.
     pub fn is_valid(&self) -> bool

@@ -25,7 +25,7 @@ pub struct TendTurn {
     pub answer: Tend,
 }
 
-/// Watches over links: it is reported when one opens and when bytes come, and is asked what is to be done.
+/// Watches over links: it is notified when one opens and when bytes come, and is asked what is to be done.
 /// Moments are in nanoseconds, at most 4,000,000,000,000,000,000.
 pub trait Tender {
     /// How many turns there were.

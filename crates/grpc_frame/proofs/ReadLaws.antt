@@ -72,12 +72,6 @@ rest_fault limit taken f rest begun bytes e h =
     ap (λ (xs : List ℕ). kept (messages_of limit xs)) (sym (rejoin rest begun bytes taken e))
     ∙ ap kept (messages_fault limit f (begun ++ drop taken bytes) (fault_stays limit f begun (drop taken bytes) h))
 
-pub rest_partial : (limit taken : ℕ) (rest begun bytes : List ℕ) → begun ≡ rest ++ take taken bytes → next_of limit begun ≡ next.Partial → taken ≡ length bytes
-    → kept (messages_of limit (rest ++ bytes)) ≡ record { whole = []; rest = begun; fault = None }
-rest_partial limit taken rest begun bytes e h all =
-    let same : begun ≡ rest ++ bytes = e ∙ ap (λ (xs : List ℕ). rest ++ xs) (take_all taken bytes (omega (arith, all))) in
-    ap (λ (xs : List ℕ). kept (messages_of limit xs)) (sym same) ∙ ap kept (messages_none limit begun h)
-
 -- all that is after a place
 pub tail_is : (at : ℕ) (bytes : List ℕ) → take (length bytes - at) (drop at bytes) ≡ drop at bytes
 tail_is at bytes = take_all (length bytes - at) (drop at bytes) (omega (arith, length-drop at bytes))

@@ -15,7 +15,7 @@ framed message = 0 ∷ bytes_32 (length message) ++ message
 abbrev pub framed_all : List (List ℕ) → List ℕ
 framed_all messages = flat_map framed messages
 
--- the length that a prefix reports, where all of it is there: a flag 0 and four bytes, the highest first
+-- the length that a prefix has, where all of it is there: a flag 0 and four bytes, the highest first
 abbrev pub length_reported : List ℕ → Option ℕ
 length_reported (zero ∷ a ∷ b ∷ c ∷ d ∷ text) = Some (a * 16777216 + b * 65536 + c * 256 + d)
 length_reported _ = None

@@ -1,4 +1,9 @@
-// A message for the wire.
+// A message for the wire (gRPC over HTTP/2, "Length-Prefixed-Message").
+//
+//   bytes  1       4         `length`
+//        +------+--------+--------------------+
+//        | flag | length |      message       |
+//        +------+--------+--------------------+
 ghost use Rattle.std.specs.Prelude.{◌≡◌, ◌<◌, ◌↔◌, Err, IfOk, length};
 ghost use Rattle.grpc_base.specs.Limits.{message_limit};
 ghost use Rattle.grpc_frame.specs.Messages.{framed};

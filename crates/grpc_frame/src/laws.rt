@@ -11,7 +11,7 @@ pub fn texts_are_messages()
     ensures one { (limit : ℕ) (text : List ℕ) (m n : Messages) → AreMessages limit text m → AreMessages limit text n → m ≡ n }
 {}
 
-/// The messages of a text do not depend on how it is cut: a reader that was fed a text, in whatever pieces, gives for one
+/// The messages of a text do not depend on how it is cut. A reader that was fed a text, in whatever pieces, gives for one
 /// piece more just the messages that the longer text has more, and is then a reader that was fed the longer text.
 pub fn pieces_join()
     ensures messages { (limit : ℕ) (text piece : List ℕ) →

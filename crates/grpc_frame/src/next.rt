@@ -50,7 +50,7 @@ fn next_by(limit: u32, size: usize, length: Option<u32>) -> NextMessage
     }
 }
 
-/// The length that a prefix reports, where all of it is there.
+/// The length that a prefix has, where all of it is there.
 pub fn length_reported(bytes: &[u8]) -> Option<u32>
     ensures { result ≡ length_reported bytes.now }
 {

@@ -82,7 +82,7 @@ reported_all g (n ∷ ns) =
     let rest = reported_all t.link ns in
     record { link = rest.link; news = t.news ++ rest.news }
 
--- what a link is notified of a piece
+-- what a link reports of a piece
 abbrev pub link_received : GrpcSeen → List ℕ → Report
 link_received g piece =
     let h = handled g.link piece in reported_all (record { link = h.link; readers = g.readers }) h.news

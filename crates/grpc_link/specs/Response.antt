@@ -1,4 +1,4 @@
--- The response on a stream, as all that its link reported it says: a head or none, the bytes of its messages, and an end or
+-- The response on a stream, as all that its link reported says: a head or none, the bytes of its messages, and an end or
 -- none (gRPC over HTTP/2, "Responses").
 use Rattle.std.specs.Prelude.{ℕ, Bool, true, false, Option, Some, None, List, [], ◌∷◌, ◌++◌, ◌&&◌, ◌||◌, not, length, drop, map, is_none, is_some, if◌then◌else◌}
 use Rattle.grpc_base.specs.declared.code.Code.TheVariants as code
@@ -85,7 +85,7 @@ with_data limit r bytes ends seen =
     let flaw = (messages_of limit (r.data_ ++ bytes)).fault in
     record r { data_ = r.data_ ++ bytes; end = data_end flaw ends seen; large = data_large flaw seen }
 
--- the response with one thing more that the link reports its stream
+-- the response with one thing more that the link reports of its stream
 abbrev pub with_news : ℕ → Response → LinkNews → Response
 with_news limit r (link.Fields tag fields ends seen) = with_headers limit r fields ends seen
 with_news limit r (link.Data tag bytes ends seen) = with_data limit r bytes ends seen
@@ -94,7 +94,7 @@ with_news limit r (link.Fault tag number seen) = record r { end = Some (end_with
 with_news limit r (link.Unseen tag seen) = record r { end = Some (unseen_end r.opened seen) }
 with_news limit r _ = r
 
--- the response with all that the link reports its stream, up to its end
+-- the response with all that the link reports of its stream, up to its end
 abbrev pub handled : ℕ → Response → LinkNews → Response
 handled limit r n = if is_over r then r else with_news limit r n
 
@@ -126,7 +126,7 @@ message_news tag seen message = news.Message tag message seen
 abbrev pub messages_gained : ℕ → ℕ → List (List ℕ) → List (List ℕ) → List News
 messages_gained tag seen before after = map (message_news tag seen) (drop (length before) after)
 
--- the news of one thing that the link reported a stream, over whose response that was not over
+-- the news of one thing that the link reported of a stream, over whose response that was not over
 abbrev pub gained : ℕ → ℕ → ℕ → Response → Response → List News
 gained limit tag seen r s =
     head_gained tag seen r.head s.head

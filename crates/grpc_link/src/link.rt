@@ -15,7 +15,7 @@ use h2_link::{DrainFault, Drained, Feed, Link, LinkFault, LinkNews, PlaceFault};
 use std::alloc::Global;
 use std::marker::Model;
 
-/// One connection to a gRPC server: a link of HTTP/2 that reports the attempts on it. A tag names an attempt.
+/// One connection to a gRPC server: a link of HTTP/2 that reports of the attempts on it. A tag names an attempt.
 #[derive(Debug, Drop)]
 pub struct GrpcLink {
     alloc: Global,

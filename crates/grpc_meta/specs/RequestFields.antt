@@ -48,7 +48,7 @@ list_size fields = sum_by field_size fields
 abbrev pub list_limit : ℕ
 list_limit = 16384
 
--- the size of the greatest header list: 1448 for method, scheme, a path of 1024 and an authority of 259 bytes, 53 for a time left
+-- the size of the greatest header list: 1448 for method, scheme, a path of 1024 and an authority of 259 bytes. Then 53 for a time left
 -- of nine, 102 for `te` and the content type, 68 for ten digits of earlier attempts, and 14336 for the metadata
 abbrev pub greatest_list : ℕ
 greatest_list = 16007

@@ -8,7 +8,7 @@ mod remember;
 
 use crate::announced::Announced;
 use crate::places::hold_places;
-use crate::remember::{PrefixKept, Remembering, reporting};
+use crate::remember::{FirstBytesKept, Remembering, reporting};
 use channel_top::run_channel;
 use dns_watch::TcpNamedWorld;
 use fault_words::is_misspelled;
@@ -140,7 +140,7 @@ fn main(rt: HostRuntime) -> ExitCode {
     let is_refused = is_misspelled(words.as_slice());
     let run_words: &[String] = if is_refused { &[] } else { words.as_slice() };
     let mut input = Remembering::new(alloc, rt, words.as_slice(), rt.reader());
-    let mut output = PrefixKept::new(words.as_slice(), io::writer(&rt));
+    let mut output = FirstBytesKept::new(words.as_slice(), io::writer(&rt));
     let ended = run(
         &rt,
         alloc,

@@ -7,7 +7,7 @@ use std::rt::Files;
 /// A file that gives nothing, and keeps nothing of what it takes.
 const NOTHING: &str = "/dev/null";
 
-/// Opens nothing in the place of each standard stream that is closed, and holds the places: the system gives the lowest free descriptor to
+/// Opens nothing in the place of each standard stream that is closed, and holds the places. For the system gives the lowest free descriptor to
 /// what is opened next, so that a socket would get that of standard output, and its peer the report. Reads and writes of such a stream
 /// fail as before.
 pub fn hold_places<R: Files<File = File>>(rt: &R) -> [Option<File>; 3] {

@@ -6,7 +6,7 @@ use std::alloc::Global;
 use std::io;
 use std::io::{ErrorKind, IsTerminal, Read, Write};
 
-/// How many bytes of the prefix of standard output are remembered: more than a fault line has.
+/// How many of the first bytes of standard output are remembered: more than a fault line has.
 const PREFIX: usize = 256;
 
 /// The status where a session had no room for an event.
@@ -88,25 +88,25 @@ impl<R: Read + IsTerminal, E: Eprint> Read for Remembering<R, E> {
     }
 }
 
-/// A writer that remembers the prefix of what it wrote, and why a write failed. Of a run over a network it counts how its calls ended.
+/// A writer that remembers the first bytes of what it wrote, and why a write failed. Of a run over a network it counts how its calls ended.
 #[derive(Drop)]
-pub struct PrefixKept<W> {
+pub struct FirstBytesKept<W> {
     writer: W,
     prefix: [u8; PREFIX],
-    /// How many bytes the prefix has.
+    /// How many bytes that is.
     count: usize,
     failure: Option<Failure>,
     tally: Option<RunTally>,
 }
 
-impl<W: Write> PrefixKept<W> {
+impl<W: Write> FirstBytesKept<W> {
     /// A writer over this one, for the output of the mode that these words name.
-    pub fn new(words: &[String], writer: W) -> PrefixKept<W> {
+    pub fn new(words: &[String], writer: W) -> FirstBytesKept<W> {
         let tally = match words {
             [first, ..] if first.as_bytes() == b"live".as_slice() => Some(RunTally::new()),
             _ => None,
         };
-        PrefixKept {
+        FirstBytesKept {
             writer,
             prefix: [0; PREFIX],
             count: 0,
@@ -116,8 +116,8 @@ impl<W: Write> PrefixKept<W> {
     }
 }
 
-impl<W> PrefixKept<W> {
-    /// The prefix of what was written.
+impl<W> FirstBytesKept<W> {
+    /// The first bytes of what was written.
     fn first_bytes(&self) -> &[u8] {
         match self.prefix.as_slice().get(0..self.count) {
             Some(prefix) => prefix,
@@ -126,7 +126,7 @@ impl<W> PrefixKept<W> {
     }
 }
 
-impl<W: Write> Write for PrefixKept<W> {
+impl<W: Write> Write for FirstBytesKept<W> {
     ghost contents = { λ w. W.contents w.writer };
 
     fn write(&mut self, buf: &[u8]) -> io::Result<usize> {
@@ -150,7 +150,7 @@ impl<W: Write> Write for PrefixKept<W> {
     }
 }
 
-/// Appends to a prefix of so many bytes what it has room for.
+/// Appends to these first bytes what they have room for.
 fn keep(prefix: &mut [u8; PREFIX], count: &mut usize, piece: &[u8]) {
     for byte in piece {
         if *count >= PREFIX {
@@ -178,7 +178,7 @@ pub fn reporting<E: Eprint, R, T, W>(
     words: &[String],
     are_text: bool,
     input: &Remembering<R, T>,
-    output: &PrefixKept<W>,
+    output: &FirstBytesKept<W>,
 ) {
     let ended = Ended {
         status,
@@ -209,7 +209,7 @@ fn sum_up<E: Eprint>(rt: &E, alloc: Global, ended: &Ended<'_>, tally: &Option<Ru
     }
 }
 
-/// Prints on standard error; where that fails, nothing is left to be notified it.
+/// Prints on standard error; where that fails, there is nobody left to say it to.
 fn print<E: Eprint>(rt: &E, text: &[u8]) {
     if let Ok(text) = std::str::from_utf8(text) {
         let _ = rt.eprint(text);

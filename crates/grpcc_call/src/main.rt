@@ -1,4 +1,4 @@
-// Calls a service from the command line, and is the example of how to use `channel_client`: the words are read, the policies made, a channel
+// Calls a service from the command line, and is the example of how to use `channel_client`. The words are read, the policies made, a channel
 // is opened for the target, and the calls are the work that is passed to it.
 #![tactic(auto)]
 

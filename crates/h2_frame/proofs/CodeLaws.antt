@@ -141,9 +141,6 @@ keep_by t more a b c kind flags bytes e =
       kept = zeros_keep a b c kind flags;
     }
 
-fault_seen : (r : Reading) (c : ℕ) → r ≡ Fault c → is_fault r ≡ true
-fault_seen r c e = rw e refl
-
 -- a test that showed no fault is after
 quiet_else : (b : Bool) (c : ℕ) (y z : Reading) → is_fault (cond b (Fault c) y) ≡ false → (d : ℕ) → cond b (Fault c) z ≡ Fault d → (is_fault y ≡ false) × (z ≡ Fault d)
 quiet_else true c y z quiet d h = absurd (false≢true (sym quiet))

@@ -9,7 +9,7 @@ use Rattle.h2_frame.specs.Frames.{number_24, number_31, bytes_24, bytes_32, is_o
 use Rattle.h2_frame.specs.Readings.{Reading, Fault, reading_of_payload, reading_6, reading_3, reading_of}
 use Rattle.h2_frame.specs.Steps.{reading_of_header}
 
--- an earlier test that reports what a later one reports
+-- an earlier test that says what a later one says
 reported_before : (b c : Bool) (x y : Reading) → (b ≡ true → c ≡ true) → cond b x (cond c x y) ≡ cond c x y
 reported_before true true x y so = refl
 reported_before true false x y so = let no : false ≡ true = so refl in absurd (cc)

@@ -93,7 +93,7 @@ keeps_sizes f =
 abbrev pub is_allowed : FrameSeen → Bool
 is_allowed f = keeps_protocol f && keeps_sizes f
 
--- the bytes are a header of nine bytes and the payload whose length it reports (section 4.1)
+-- the bytes are a header of nine bytes and the payload whose length it has (section 4.1)
 abbrev pub Spells : List ℕ → FrameSeen → Type 0
 Spells (a ∷ b ∷ c ∷ kind ∷ flags ∷ p ∷ q ∷ r ∷ s ∷ payload) f =
     (length payload ≡ number_24 a b c)

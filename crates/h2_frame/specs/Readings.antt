@@ -1,4 +1,4 @@
--- What some bytes are as frames: a frame before, a proper prefix of one, or a fault, reported at the earliest byte (RFC 9113, sections 4.1 and 4.2).
+-- What some bytes are as frames: a frame at their start, a proper prefix of one, or a fault, reported at the earliest byte (RFC 9113, sections 4.1 and 4.2).
 use Rattle.std.specs.Prelude.{◌≡◌, ◌<◌, ◌≤◌, ◌⊎◌, ℕ, zero, suc, ◌+◌, ◌*◌, ◌%◌, Bool, true, false, Option, Some, None, List, [], ◌∷◌, ◌++◌, length, take, drop, nat_lt, nat_le, ◌&&◌, IsTrue, if◌then◌else◌, MatchOption}
 use Rattle.std.specs.List.{AllByRecursion}
 use Rattle.grpc_base.specs.ErrorCodes.{protocol_error, frame_size_error}

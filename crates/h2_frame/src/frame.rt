@@ -1,4 +1,10 @@
-// A frame and the answers of a reader.
+// A frame and the answers of a reader (RFC 9113, section 4.1).
+//
+//   bytes    3         1      1         4           `length`
+//        +--------+--------+-------+---------+--------------------+
+//        | length |  kind  | flags | stream  |      payload       |
+//        +--------+--------+-------+---------+--------------------+
+//                                   the first bit of the stream's number is reserved
 ghost use Rattle.std.specs.Prelude.{◌<◌, ◌^◌, IsTrue};
 ghost use Rattle.h2_frame.specs.Frames.{is_allowed};
 

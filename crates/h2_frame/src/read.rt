@@ -16,7 +16,7 @@ use grpc_base::error_code::{FRAME_SIZE_ERROR, PROTOCOL_ERROR};
 ///
 /// `Got` has the frame and its size, and the bytes go on after it. `More` comes exactly where the bytes are a
 /// proper prefix of a frame. `Bad` comes exactly where they begin with no frame and can't go on to be one, from the
-/// first byte on that shows it; its code is FRAME_SIZE_ERROR for a length that the payload may not have, and
+/// first byte on that shows it. Its code is FRAME_SIZE_ERROR for a length that the payload may not have, and
 /// PROTOCOL_ERROR for a stream, a padding or an increment that the frame may not have.
 pub fn next_frame<'a>(bytes: &'a [u8]) -> FrameStep<'a>
     ensures got { IfGot result (λ frame len. (len ≤ length bytes.now) × IsFrame (take len bytes.now) (seen frame)) }

@@ -37,9 +37,6 @@ dynamic_at t (suc i) place is h =
 abbrev pub IsSought : (Field → Bool) → ℕ → Type 0
 IsSought test place = index_where test ≡ position_from test (place + 1) (drop place static_table)
 
-pub sought_first : (test : Field → Bool) → IsSought test 0
-sought_first test = refl
-
 cut_at : (xs : List Field) (i : ℕ) → i < length xs → (x : Field) × (slice_get xs i ≡ Some x) × (drop i xs ≡ x ∷ drop (i + 1) xs)
 cut_at [] i h = absurd (omega (arith, h))
 cut_at (x ∷ xs) zero h = (x, refl, refl)
@@ -63,9 +60,6 @@ sought_next test place below so is = one_on test place false below so is
 nothing_left : (place : ℕ) → 61 ≤ place → drop place static_table ≡ []
 nothing_left place h = drop_all place static_table (omega (arith, static_length, h))
 
-pub sought_nowhere : (test : Field → Bool) (place : ℕ) → 61 ≤ place → IsSought test place → index_where test ≡ None
-sought_nowhere test place h so = so ∙ ap (position_from test (place + 1)) (nothing_left place h)
-
 -- the search for a name, or what it found
 abbrev pub IsNameSought : (Field → Bool) → ℕ → Option ℕ → Type 0
 IsNameSought test place None = IsSought test place
@@ -82,10 +76,6 @@ name_here test place (Some index) none below so is = absurd (false≢true (sym n
 pub name_kept : (test : Field → Bool) (place : ℕ) (named : Option ℕ) → is_some named ≡ true → IsNameSought test place named → IsNameSought test (place + 1) named
 name_kept test place None some so = absurd (false≢true some)
 name_kept test place (Some index) some so = so
-
-pub name_nowhere : (test : Field → Bool) (place : ℕ) (named : Option ℕ) → 61 ≤ place → IsNameSought test place named → index_where test ≡ named
-name_nowhere test place None all so = sought_nowhere test place all so
-name_nowhere test place (Some index) all so = so
 
 -- another name is another pair
 other_name : (name value : List ℕ) (o : Option Field) → unwrap_or (option_map (same_name name) o) false ≡ false → unwrap_or (option_map (same_pair name value) o) false ≡ false

@@ -43,10 +43,3 @@ no_room room size h =
       | inl small ↦ small
       | inr fits ↦ absurd (cc (rw (le-leb size room fits) at h))
     ]
-
--- a field added to the entries that fit beside it
-pub fitting-added : (limit left : ℕ) (f : Field) (entries : List Field) → field_size f ≤ limit → left ≡ limit - field_size f → f ∷ fitting left entries ≡ fitting limit (f ∷ entries)
-fitting-added limit left f entries fits is = rw (le-ltb limit (field_size f) fits, is) refl
-
-pub fitting-too_large : (limit : ℕ) (f : Field) (entries : List Field) → limit < field_size f → [] ≡ fitting limit (f ∷ entries)
-fitting-too_large limit f entries above = rw (lt-ltb limit (field_size f) above) refl

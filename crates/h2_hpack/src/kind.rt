@@ -1,4 +1,12 @@
-// The representations that a header block is made of.
+// The representations that a header block is made of (RFC 7541, section 6), by the bits of the first byte:
+//
+//   1.......   an index
+//   01......   a literal that the dynamic table gets: an index of its name, or 0 and the name
+//   001.....   a new size of the dynamic table
+//   0001....   a literal that no hop puts into a table
+//   0000....   a literal that is not put into the table
+//
+// The dots begin an integer.
 ghost use Rattle.std.specs.Prelude.{◌≡◌};
 ghost use Rattle.h2_hpack.specs.Kinds.{kind_of};
 

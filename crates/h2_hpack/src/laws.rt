@@ -18,7 +18,7 @@ pub fn huffman_code_is_whole()
 {}
 
 /// What a block says over a dynamic table is what its representations say, each spelled by integers and strings and
-/// with its effect on the header list and the table (RFC 7541, sections 2 to 6); its fault is that of the first one
+/// with its effect on the header list and the table (RFC 7541, sections 2 to 6). Its fault is that of the first one
 /// that cannot be read.
 pub fn blocks_are_representations()
     ensures { BlocksAreRepresentations }

@@ -9,7 +9,7 @@ use std::alloc::Global;
 use std::collections::VecDeque;
 use std::marker::Model;
 
-/// The dynamic table, in a ring with its newest entry at the start.
+/// The dynamic table, in a ring with its newest entry first.
 #[derive(Debug, Drop)]
 pub(crate) struct DynamicTable {
     alloc: Global,

@@ -110,9 +110,6 @@ pub record SoFar (room : ℕ) (w : Wire) (g : ℕ → Line) (out : List ℕ) (w2
   pub fits : length out ≤ room
   pub holds : Holds w2 g2
 
-pub begin : (room : ℕ) (w : Wire) (g : ℕ → Line) (out : List ℕ) → out ≡ [] → Holds w g → SoFar room w g out w g
-begin room w g out e h = record { frames = []; sends = (refl, refl); whole = e; fits = rw e (omega arith); holds = h }
-
 pub record GoesOn (room : ℕ) (w : Wire) (g : ℕ → Line) (out out2 : List ℕ) (w2 : Wire) (g2 : ℕ → Line) : Type 0 where
   pub so_far : SoFar room w g out2 w2 g2
   pub smaller : room - length out2 < room - length out
@@ -141,35 +138,3 @@ more_as room left w g out w2 g2 w3 g3 out3 (Some s) f l n h =
 
 pub more : (room left : ℕ) (w : Wire) (g : ℕ → Line) (out : List ℕ) (w2 : Wire) (g2 : ℕ → Line) (w3 : Wire) (g3 : ℕ → Line) (out3 : List ℕ) → SoFar room w g out w2 g2 → left ≡ room - length out → WentAs true left w2 g2 out (next w2 g2) w3 g3 out3 → GoesOn room w g out out3 w3 g3
 more room left w g out w2 g2 w3 g3 out3 f l h = more_as room left w g out w2 g2 w3 g3 out3 (next w2 g2) f l refl h
-
-stop_as : (room left : ℕ) (w : Wire) (g : ℕ → Line) (out : List ℕ) (w2 : Wire) (g2 : ℕ → Line) (o : Option Sent) → SoFar room w g out w2 g2 → left ≡ room - length out → next w2 g2 ≡ o → WentAs false left w2 g2 out o w2 g2 out → Drains room w g out w2 g2
-stop_as room left w g out w2 g2 None f l n h = record { frames = f.frames; sends = f.sends; whole = f.whole; fits = f.fits; stops = λ s k. absurd (cc) }
-stop_as room left w g out w2 g2 (Some s) f l n h = record {
-  frames = f.frames;
-  sends = f.sends;
-  whole = f.whole;
-  fits = f.fits;
-  stops = λ t k.
-      let same : s ≡ t = cc in
-      let P : Sent → Type 0 = λ v. room < length out + length (octets_of v.frame) in
-      let below = h.3 in
-      let fit = f.fits in
-      subst P same (omega (arith, below, l, fit));
-}
-
-same_as : (left : ℕ) (out : List ℕ) (w2 : Wire) (g2 : ℕ → Line) (w3 : Wire) (g3 : ℕ → Line) (out3 : List ℕ) (o : Option Sent) → WentAs false left w2 g2 out o w3 g3 out3 → (w3 ≡ w2) × (g3 ≡ g2) × (out3 ≡ out)
-same_as left out w2 g2 w3 g3 out3 None h = h
-same_as left out w2 g2 w3 g3 out3 (Some s) h = (h.0, h.1, h.2)
-
-stopped_as : (left : ℕ) (out : List ℕ) (w2 : Wire) (g2 : ℕ → Line) (w3 : Wire) (g3 : ℕ → Line) (out3 : List ℕ) (o : Option Sent) → WentAs false left w2 g2 out o w3 g3 out3 → WentAs false left w2 g2 out o w2 g2 out
-stopped_as left out w2 g2 w3 g3 out3 None h = (refl, refl, refl)
-stopped_as left out w2 g2 w3 g3 out3 (Some s) h = (refl, refl, refl, h.3)
-
-pub stop : (room left : ℕ) (w : Wire) (g : ℕ → Line) (out : List ℕ) (w2 : Wire) (g2 : ℕ → Line) (w3 : Wire) (g3 : ℕ → Line) (out3 : List ℕ) → SoFar room w g out w2 g2 → left ≡ room - length out → WentAs false left w2 g2 out (next w2 g2) w3 g3 out3 → Drains room w g out3 w3 g3
-stop room left w g out w2 g2 w3 g3 out3 f l h =
-    let same = same_as left out w2 g2 w3 g3 out3 (next w2 g2) h in
-    let here = stop_as room left w g out w2 g2 (next w2 g2) f l refl (stopped_as left out w2 g2 w3 g3 out3 (next w2 g2) h) in
-    let P : Wire → Type 0 = λ v. Drains room w g out v g2 in
-    let Q : (ℕ → Line) → Type 0 = λ v. Drains room w g out w3 v in
-    let R : List ℕ → Type 0 = λ v. Drains room w g v w3 g3 in
-    subst R (sym same.2) (subst Q (sym same.1) (subst P (sym same.0) here))

@@ -5,7 +5,7 @@ use Rattle.h2_link.specs.declared.live.LiveStream.{LiveStream}
 use Rattle.h2_link.specs.LinkErrors.{send_window}
 use Rattle.h2_link.specs.Wire.{Wire}
 
--- what was received of the peer is the same in both
+-- what was received from the peer is the same in both
 pub record KeepsReceived (w w2 : Wire) : Type 0 where
   pub read : w2.read ≡ w.read
   pub broken : w2.broken ≡ w.broken

@@ -46,8 +46,8 @@ impl Link {
         self.state.broken.is_none() && self.state.can_send(feed)
     }
 
-    /// Gives whole frames within the room, as many as fit: the preface with the client's SETTINGS, once; the queued
-    /// frames; HEADERS of the tags that wait, the least first, while the peer allows more streams; and DATA of the
+    /// Gives whole frames within the room, as many as fit. First comes the preface with the client's SETTINGS, once, then the queued
+    /// frames. Then come HEADERS of the tags that wait, the least first, while the peer allows more streams, and DATA of the
     /// stream with the lowest number that may send. It stops exactly where nothing may be sent, or what stands next does
     /// not fit.
     ///

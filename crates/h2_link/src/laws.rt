@@ -16,7 +16,7 @@ pub fn pieces_join()
     ensures goes_on { (l : Seen) (prefix more : List ℕ) → reading_of (l.rest ++ prefix) ≡ Partial → handled l (prefix ++ more) ≡ received_after (length prefix) (handled (handled l prefix).link more) }
 {}
 
-/// Sending leaves all that was received of the peer as it was.
+/// Sending leaves all that was received from the peer as it was.
 pub fn sending_keeps_what_was_received()
     ensures { (w : Wire) (g : ℕ → Line) (frames : List Outgoing) (w2 : Wire) (g2 : ℕ → Line) → Sends w g frames w2 g2 → KeepsReceived w w2 }
 {}

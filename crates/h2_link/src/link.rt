@@ -1,4 +1,9 @@
-// A link: what it is to its callers, and the calls that take bytes.
+// A link: what it is to its callers, and the calls that take bytes (RFC 9113, sections 3.4, 5.4.1 and 6.8).
+//
+//   new -----------------------> prefaced ------------> retiring: no further stream, those up to its last one go on
+//    |  the server's SETTINGS       |        GOAWAY        |
+//    |                              |                      |
+//    +------------------------------+----------------------+----> broken, for good: the peer broke a rule of the connection
 ghost use Rattle.std.specs.Prelude.{◌≡◌, ◌<◌, ◌≤◌, ◌+◌, ◌^◌, ◌↔◌, ◌||◌, ◌++◌, [], true, IsTrue, length, is_some, IfOk, OnOk, OnErr, None, Err};
 ghost use Rattle.h2_frame.specs.Readings.{reading_of, Partial};
 ghost use Rattle.h2_link.specs.Received.{handled};
@@ -99,7 +104,7 @@ impl Link {
     }
 
     /// Takes a piece up to the byte that ends a frame or shows a fault, or else all of it, and reports the news of that
-    /// one frame; so a caller can place and reset before it hands in the rest. Gone comes exactly where the link is
+    /// one frame. So a caller can place and reset before it hands in the rest. Gone comes exactly where the link is
     /// broken.
     pub fn arrived(&mut self, piece: &[u8]) -> Result<Arrival, LinkFault>
         requires { 0 < length piece.now }

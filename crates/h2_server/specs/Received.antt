@@ -1,4 +1,4 @@
--- What a server's link is notified of a piece: the client's preface, one frame, or the fault of its bytes.
+-- What a server's link makes of a piece: the client's preface, one frame, or the fault of its bytes.
 use Rattle.std.specs.Prelude.{◌≡◌, ◌<◌, ℕ, suc, ◌+◌, ◌-◌, ◌==◌, Bool, true, false, if◌then◌else◌, Option, Some, None, List, [], ◌∷◌, ◌++◌, length}
 use Rattle.grpc_base.specs.ErrorCodes.{protocol_error}
 use Rattle.h2_frame.specs.Readings.{Reading, Whole, Partial, Fault, reading_of, fault_place}
@@ -63,6 +63,6 @@ received_with l piece (Some x) = record {
 abbrev pub handled : Seen → List ℕ → Receiving
 handled l piece = received_with l piece (prefix_of l.prefaced l.wire (l.rest ++ piece))
 
--- what is received of a piece of which so many bytes were taken before
+-- what is reported of a piece of which so many bytes were taken before
 abbrev pub received_after : ℕ → Receiving → Receiving
 received_after len h = record { taken = len + h.taken; link = h.link; news = h.news }

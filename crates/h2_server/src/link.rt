@@ -74,7 +74,7 @@ impl ServerLink {
     }
 
     /// Takes a piece up to the byte that ends the preface or a frame or shows a fault, or else all of it, and reports the
-    /// news of that one frame; so a caller can act on them before it hands in the rest. Broken comes exactly where the
+    /// news of that one frame. So a caller can act on them before it hands in the rest. Broken comes exactly where the
     /// link was broken before, with its code.
     pub fn arrived(&mut self, piece: &[u8]) -> Result<Arrival, LinkFault>
         requires { 0 < length piece.now }

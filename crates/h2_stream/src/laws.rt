@@ -33,7 +33,7 @@ pub fn ended_takes_nothing_more()
     ensures sends_nothing { (s : StreamView) → sendable (reset_step s) ≡ 0 }
 {}
 
-/// A stream that begins with the peer's initial window size, and is reported each change of it until it is closed, always
+/// A stream that begins with the peer's initial window size, and is given each change of it until it is closed, always
 /// meets the condition of `shift` (RFC 9113, section 6.9.2).
 pub fn shifts_are_allowed()
     ensures opened { (initial receive : ℤ) → HasRoom initial (opened initial receive) }

@@ -71,7 +71,7 @@ impl Stream {
     /// A header block of the peer, without or with END_STREAM: its head or its trailers (RFC 9113, section 8.1).
     ///
     /// A second block without END_STREAM is a PROTOCOL_ERROR of the stream. An interim response (a `:status` from 100 to
-    /// 199 before the head) is neither head nor trailers, and isn't passed over.
+    /// 199 before the head) is neither head nor trailers, and does not come here.
     pub fn on_headers(&mut self, end: bool) -> Result<(), StreamFault>
         ensures ok { OnOk result (headers_step self.old end ≡ Ok self.new) }
         ensures err { IfErr result (λ fault. headers_step self.old end ≡ Err fault) }

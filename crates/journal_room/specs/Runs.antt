@@ -14,7 +14,7 @@ use Rattle.journal_room.specs.Rooms.{HadRoom}
 abbrev pub looks_of : List PolicySeen → List (Kind × ℕ)
 looks_of policies = map (λ p. (p.kind, p.width)) policies
 
--- a channel that was new with this authority, and with policies that look like these, no two of one kind and one of them `pick_first`, was given these events,
+-- A channel was new with this authority, and with policies that look like these, no two of one kind and one of them `pick_first`. It was given these events,
 -- each of them such as its type allows, and for each entry there was room in its journal
 pub record HasRunBy (authority : List ℕ) (policies : List PolicySeen) (events : List Stamped) (core : CoreSeen) : Type 0 where
   pub alloc : Global

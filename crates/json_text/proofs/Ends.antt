@@ -34,9 +34,6 @@ value_ends (in_object ms name ∷ ps) v p u h is may =
 abbrev Whole : List ℕ → Type 0
 Whole t = (more : List ℕ) × IsNumber (t ++ more)
 
-plain_as : (t u : List ℕ) → t ≡ u → IsPlain u → IsPlain t
-plain_as t u e h = subst IsPlain (sym e) h
-
 number_ends : (q : Part) (t : List ℕ) → IsPart q t → Whole t
 number_ends part.Minus t h = (48 ∷ [], inl (inl (45 ∷ [], 48 ∷ [], ap (λ (x : List ℕ). x ++ 48 ∷ []) h, refl, inl (refl, refl))))
 number_ends part.Zero t h = ([], inl (inl (h.0, 48 ∷ [], sym (append_nil t) ∙ h.1, h.2, inl (refl, refl))))

@@ -80,7 +80,7 @@ name_goes_on : (ms : Members) (start : ℕ) (ps : List Parent) → GoesOn (in_na
 unfolding name_goes
 name_goes_on ms start ps at b q r e = ap (λ (n : QuotedNext). name_goes at ms start n ps) e
 
--- a name ends, or is reported to be a repeated one
+-- a name ends, or is reported as a repeated one
 name_ends : (Q : Type 0) → (at start : ℕ) (ms : Members) (r : Read) (ps : List Parent) (bs : List ℕ) → (is_named (settled r) ms ≡ true → Q)
     → Reaches Q at (at_stage (in_name ms start (quoted spot.Between r)) ps) (34 ∷ bs) (at_stage at_colon (in_object ms (settled r) ∷ ps)) bs
 unfolding name_goes named

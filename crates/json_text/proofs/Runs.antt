@@ -105,7 +105,7 @@ syntax_prefix bytes k =
     (λ y e. let g : ⊥ = cc in absurd g)
     (λ n e. run_relay_links bytes k (run 0 at_start bytes) (run_kept 0 at_start [] bytes refl tt) e)
 
--- A text is reported to be too long exactly where it is.
+-- A text is reported as too long exactly where it is.
 run_short : (bytes : List ℕ) (r : Result State JsonFault) → RunKept 0 [] bytes r → (r >>= λ s. ended (length bytes) s.stage) ≡ Err fault.TooLong → ⊥
 run_short bytes (Ok s) h e = stage_short (length bytes) s.stage e
   where

@@ -103,7 +103,7 @@ spelling (standing bytes) = bytes
 spelling (escape b) = 92 ∷ b ∷ []
 spelling (unicode a b c d) = 92 ∷ 117 ∷ a ∷ b ∷ c ∷ d ∷ []
 
--- What is read of a string when a character follows what was read before it: an escaped first half of a
+-- What is read of a string when a character follows what was read before it. An escaped first half of a
 -- pair right before an escaped second half is one character with it, and any other half reads as U+FFFD.
 abbrev pub Reads : Char → Read → Read → Type 0
 Reads (standing bytes) before after = (after ≡ record { text = settled before ++ bytes; high = None }) × IsStanding bytes
@@ -172,6 +172,6 @@ IsObject v = ⊥
 abbrev pub IsText : Tree → List ℕ → Type 0
 IsText v t = Ended IsBlank (IsValue v) t × IsObject v
 
--- The prefix of a JSON text: some further bytes make one of these.
+-- A prefix of a JSON text: some further bytes make one of these.
 abbrev pub CanEnd : List ℕ → Type 0
 CanEnd p = (more : List ℕ) × (v : Tree) × IsText v (p ++ more)

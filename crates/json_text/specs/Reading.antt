@@ -1,5 +1,5 @@
 -- The reader, byte by byte: what is known of a JSON text after each byte of it, and the first fault. It is the
--- code's own course, reported without its memory. What to believe of a text stands in Grammar, Readable and Faults.
+-- code's own course, said without its memory. What to believe of a text stands in Grammar, Readable and Faults.
 use Rattle.std.specs.Prelude.{◌≡◌, ℕ, ◌+◌, true, false, ◌==◌, nat_lt, if◌then◌else◌, List, [], ◌∷◌, ◌++◌, length, Result, Ok, Err}
 use Rattle.grpc_base.specs.declared.event.JsonFault.{JsonFault}
 use Rattle.grpc_base.specs.declared.event.JsonFault.TheVariants as fault

@@ -21,11 +21,6 @@ mutual
     no_members : Members
     member_after : Members → List ℕ → Tree → Members
 
--- the names of the members, the last one first
-abbrev pub names : Members → List (List ℕ)
-names no_members = []
-names (member_after ms k v) = k ∷ names ms
-
 -- whether one of the members has this name
 abbrev pub is_named : List ℕ → Members → Bool
 is_named name no_members = false

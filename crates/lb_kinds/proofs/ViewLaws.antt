@@ -124,7 +124,7 @@ pub note-view : (sub : ℕ) (state : Conn) (ms : List Marked) → IsWithoutRepea
 note-view sub state ms h =
     ap (λ (xs : List SubSeen). record { subs = xs; failed = failed_of (map (noted_mark sub state) ms) }) (plain-noted sub state ms) ∙ ap (λ (ns : List ℕ). record { subs = map (noted_sub sub state) (plain ms); failed = ns }) (shown-noted sub state ms ∙ failed-noted sub state ms h)
 
--- the marks report the same as the numbers
+-- the marks say the same as the numbers
 any-marks : (failed : List ℕ) (ms : List Marked) → Each (λ (m : Marked). is_among failed m.seen ≡ m.failed) ms → list_any (λ (m : Marked). not m.failed) ms ≡ list_any (λ (s : SubSeen). not (is_among failed s)) (plain ms)
 any-marks failed [] h = refl
 any-marks failed (m ∷ ms) h =

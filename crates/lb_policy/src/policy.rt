@@ -10,9 +10,9 @@ use grpc_base::{Conn, Kind, Pick};
 /// A load balancing policy ("Load Balancing in gRPC"): which subchannels it wants connected, in which state it is,
 /// and which subchannel each pick request gets.
 ///
-/// To contracts it is its kind, the width of its tiers (1 where it has none), its view (the subchannels that it was
-/// given, with their states), which of them have failed (they were in TRANSIENT_FAILURE, and have not been READY
-/// since) and the number of its turns (the pick requests that it answered since it was reset). No call takes memory.
+/// To contracts it is five things: its kind; the width of its tiers (1 where it has none); its view. The view is the subchannels that it was
+/// given, with their states. Fourth is which of them have failed: they were in TRANSIENT_FAILURE, and have not been READY
+/// since. Last is the number of its turns: the pick requests that it answered since it was reset. No call takes memory.
 pub trait Policy: Send + Drop {
     ghost seen: { Self → PolicySeen };
 

@@ -22,10 +22,6 @@ use Rattle.session_actions.specs.declared.link.Link.{Link}
 use Rattle.session_actions.specs.declared.link.OpenBlock.{OpenBlock}
 use Rattle.session_actions.specs.declared.seen.Seen.{Seen}
 
--- an acknowledgement has no settings
-abbrev kind_settings : ℕ → ℕ → List ℕ → Bool → List Setting
-kind_settings kind flags payload ack = if (kind == settings_type) && not ack then settings_in payload else []
-
 last_part : (a b c : Bool) → (a && (b && c)) ≡ true → c ≡ true
 last_part true true true e = refl
 last_part true true false e = absurd (cc)

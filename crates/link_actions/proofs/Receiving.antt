@@ -128,11 +128,6 @@ window_keeps : (w : Wire) (by seen : ℕ) (o : Option (ℕ × LiveStream)) → I
 window_keeps w by seen None = itself w
 window_keeps w by seen (Some x) = record { whole = refl; ready = refl; retiring = refl; limit = refl; initial = refl; window = refl; opened = refl; block = refl; table = refl }
 
--- SETTINGS
-of_ack : (b : Bool) (payload : List ℕ) → b ≡ true → (if true && not b then settings_in payload else []) ≡ []
-of_ack true payload e = refl
-of_ack false payload e = absurd (cc)
-
 is_settings_by : (kind flags : ℕ) (ack : Bool) → (kind == settings_type) ≡ true → has_flag flags ack_flag ≡ ack
     → ((kind == settings_type) && not (has_flag flags ack_flag)) ≡ not ack
 is_settings_by kind flags ack is e = ap (λ (b : Bool). b && not (has_flag flags ack_flag)) is ∙ ap not e

@@ -1,4 +1,4 @@
--- What a link reads is what a session reads: a new link is one on which nothing passed; a whole frame breaks the link by the same rule, with the same
+-- What a link reads is what a session reads: a new link is one on which nothing passed. A whole frame breaks the link by the same rule, with the same
 -- code; and what the next bytes show is the same. What else a frame does (an attempt gets a head, or ends) is other actions, which come after this
 -- one; they do not change what was read.
 -- Example: PING comes before SETTINGS. The link is broken with PROTOCOL_ERROR in both.
@@ -124,7 +124,7 @@ DrainsAreWritten =
     → Drains room_ w g octets w2 g2 → IsDrained l s room_ octets w2 g2
 
 -- a frame that is of no attempt's stream, and no GOAWAY: what it makes owed is the same, the acknowledgement of SETTINGS, the answer to PING, the window
--- of late DATA given back; and both agree after it, with no other action
+-- of late DATA given back. Both agree after it, with no other action
 abbrev pub IsApart : FrameSeen → Wire → Type 0
 IsApart f w = ((f.kind == goaway_type) ≡ false) × (list_any (λ x. x.number == f.stream) w.live ≡ false)
 

@@ -1,4 +1,4 @@
--- What a link of the channel keeps of a session. A session has the frames that were read and written, in their order; a link has what the next step
+-- What a link of the channel keeps of a session. A session has the frames that were read and written, in their order. A link has what the next step
 -- needs of them: how far it was read, what the peer's settings were last, the windows, the header block that is begun, and the decoder's table.
 -- Example: SETTINGS came with SETTINGS_INITIAL_WINDOW_SIZE of 10, and later with 20. The session has both frames; the link has 20.
 use Rattle.std.specs.List.{AllByRecursion}

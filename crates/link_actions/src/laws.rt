@@ -1,8 +1,8 @@
 // What a link reads and writes, as actions of a session; nothing runs.
 ghost use Rattle.link_actions.specs.Laws.{ControlsAreSame, DrainsAreWritten, EndsKeep, FramesAreJudged, NewOnesAgree, NoneIsOwed, PingsKeep, QuietFramesKeep, ReadsAreSame, ResetsKeep, WritesAreSame, WritesKeep};
 
-/// A new link is what a new link of a session is; a whole frame breaks the link by the same rule, with the same code (RFC 9113, section 5.4.1); and
-/// what the bytes show next is the same: nothing yet, a frame that both have read, or a link that is broken. A frame of no attempt's stream makes the same
+/// A new link is what a new link of a session is; a whole frame breaks the link by the same rule, with the same code (RFC 9113, section 5.4.1).
+/// What the bytes show next is the same: nothing yet, a frame that both have read, or a link that is broken. A frame of no attempt's stream makes the same
 /// control frames owed, and both agree after it.
 pub fn reading_is_actions()
     ensures new { NewOnesAgree }
@@ -18,7 +18,7 @@ pub fn control_frames_are_actions()
     ensures none { NoneIsOwed }
 {}
 
-/// What a link writes next is what the session does, the same bytes, or nothing in both: control frames, then HEADERS of the first attempt that waits,
+/// What a link writes next is what the session does, the same bytes, or nothing in both. First come control frames, then HEADERS of the first attempt that waits,
 /// while SETTINGS_MAX_CONCURRENT_STREAMS and GOAWAY allow it, then DATA of the lowest stream that may send (RFC 9113, sections 5.1.2 and 6.9). After it
 /// the link is what the session then is, so this goes on for as long as frames are written.
 pub fn writing_is_actions()

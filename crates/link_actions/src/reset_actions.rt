@@ -13,7 +13,7 @@ pub fn several_are_cut()
 {}
 
 /// After GOAWAY, and before any stream is reset, a link is as a session is in which all attempts have ended that it ends, but ahead by the resets that this session
-/// owes: one with CANCEL for each stream that GOAWAY leaves out, the lowest first (RFC 9113, section 6.8).
+/// owes. That is one with CANCEL for each stream that GOAWAY leaves out, the lowest first (RFC 9113, section 6.8).
 pub fn goaways_go_ahead()
     ensures ahead { GoawaysGoAhead }
     ensures owed { GoawaysOweResets }

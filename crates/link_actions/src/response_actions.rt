@@ -2,7 +2,7 @@
 ghost use Rattle.link_actions.specs.ResponseActions.Laws.{BlocksAreReported, CodesStay, CutsAreCancelled, CutsTakeReaders, DataIsReported, EndsKeepReaders, GoawaysAreReported, OthersAreReported, PartsAreReported, QuietIsReported, ReadersAreLeft, ReadsStayCounted, ResetsAreReported, UpdatesAreReported};
 
 /// What a link reports of a frame of an attempt's stream is what the frame adds to its response: the head, messages, a message that is too long, the end
-/// with its code and metadata; and link and readers agree with the session again (gRPC over HTTP/2, "Responses").
+/// with its code and metadata. Link and readers agree with the session again (gRPC over HTTP/2, "Responses").
 pub fn responses_are_reported()
     ensures content { DataIsReported }
     ensures block { BlocksAreReported }

@@ -171,9 +171,6 @@ ended_cause b k r r' w left left' e at_end same = (quiet_cause b k r r' w left e
 pub failed_cause : (b k r r' w : ℕ) (left : Option (List ℕ)) → r' ≡ one_more r → HasCause (Some done.ReadFailed) (record { breaks = b; last_code = k; read_faults = r; write_faults = w }) (record { breaks = b; last_code = k; read_faults = r'; write_faults = w }) left
 failed_cause b k r r' w left e = (cc)
 
-pub wanting_cause : (b b' k k' r w w' : ℕ) (left : Option (List ℕ)) → w' ≡ w → HasCause (Some done.NoMemory) (record { breaks = b; last_code = k; read_faults = r; write_faults = w }) (record { breaks = b'; last_code = k'; read_faults = r; write_faults = w' }) left
-wanting_cause b b' k k' r w w' left e = (refl, e)
-
 -- ---- what one turn answered, by its answer
 
 pub out_as : (link : ℕ) (a b : Report) (s t : Option (List ℕ)) (r r' : Option LinkDone) → r ≡ r' → GoesOut link a b s t r → GoesOut link a b s t r'

@@ -4,11 +4,11 @@ use Rattle.grpc_base.specs.Counts.{one_more}
 use Rattle.loop_server.specs.declared.fault.ServerFault.{ServerFault}
 use Rattle.loop_server.specs.declared.fault.ServerFault.TheVariants as fault
 
--- of each link the pieces in order, where they are reported
+-- of each link the pieces in order, where they are known
 abbrev pub Report : Type 0
 Report = ℕ → Option (List (List ℕ))
 
--- these pieces stand after those before, where they are reported
+-- these pieces stand after those before, where they are known
 abbrev pub AddsAll : Option (List (List ℕ)) → Option (List (List ℕ)) → List (List ℕ) → Type 0
 AddsAll (Some before) after pieces = after ≡ Some (before ++ pieces)
 AddsAll None after pieces = after ≡ None

@@ -7,10 +7,10 @@ use loop_server::ServerFault;
 
 /// A server that is given the bytes of its links and gives the bytes to send.
 pub trait Serving {
-    /// The pieces that it was given for a link, in order, where it reports them.
+    /// The pieces that it was given for a link, in order, where it shows them.
     ghost given: { Self → ℕ → Option (List (List ℕ)) };
 
-    /// The octets that it gave for a link, drain by drain, where it reports them.
+    /// The octets that it gave for a link, drain by drain, where it shows them.
     ghost drained: { Self → ℕ → Option (List (List ℕ)) };
 
     /// How often it answered that a link is broken.

@@ -91,7 +91,7 @@ fn message_row(
         alloc,
         0,
         0,
-        format!(in alloc; "00{length}{front}")?.as_str(),
+        format!(in alloc; "00{length}{prefix}")?.as_str(),
     )?;
     let more = frame(alloc, 0, 0, block.as_str())?;
     let last = frame(alloc, 0, 0, end)?;
@@ -100,7 +100,7 @@ fn message_row(
         bytes.push_str(more.as_str())?;
     }
     Ok(format!(in alloc;
-        "message up>1 in>{bytes}{last}{trailers} head 1 - 38 message 1 {front}{middle}{end} {read} ended 1 0 - - - seen {all} status within>16392 kept> 0"
+        "message up>1 in>{bytes}{last}{trailers} head 1 - 38 message 1 {prefix}{middle}{end} {read} ended 1 0 - - - seen {all} status within>16392 kept> 0"
     )?)
 }
 

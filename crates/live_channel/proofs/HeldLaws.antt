@@ -1,4 +1,4 @@
--- What came on the links of a run is as its dialers held it, and addresses come with one config: reported the whole journal, by the handle that took all others in.
+-- What came on the links of a run is as its dialers held it, and addresses come with one config: said of the whole journal, by the handle that took all others in.
 use Rattle.std.proofs.Common.{◌≡◌, ◌≤◌, ℕ, suc, ◌+◌, true≢false, Option, Some, slice_get, List, [], ◌∷◌, ap, arith, length, refl, sym, subst}
 use Rattle.std.specs.List.{AllByRecursion, AllZip}
 use Rattle.std.specs.Option.{option_to_list}

@@ -18,7 +18,7 @@ use Rattle.turn_lock.specs.History.{LockId, SeatSeen}
 use Rattle.live_channel.specs.Handles.{IsFresh, IsKept, IsOne, Keeper, handle_in, keeper_in}
 use Rattle.live_channel.proofs.EventLaws.{kind_own}
 
--- ---- the share of a handle names its lock, and reports its parts
+-- ---- the share of a handle names its lock, and says its parts
 
 abbrev lock_in : List ℕ → LockId
 lock_in (parts ∷ (words ∷ (slots ∷ (views_name ∷ (atom ∷ (block ∷ (offset ∷ (count ∷ numbers)))))))) =

@@ -26,10 +26,6 @@ pub each_weaker : {X : Type 0} (P Q : X → Type 0) → ((x : X) → P x → Q x
 each_weaker P Q leads [] all = tt
 each_weaker P Q leads (x ∷ xs) all = (leads x all.0, each_weaker P Q leads xs all.1)
 
-pub each_map : {X Y : Type 0} (P : Y → Type 0) (f : X → Y) (xs : List X) → AllByRecursion (λ x. P (f x)) xs → AllByRecursion P (map f xs)
-each_map P f [] all = tt
-each_map P f (x ∷ xs) all = (all.0, each_map P f xs all.1)
-
 pub each_unmap : {X Y : Type 0} (P : Y → Type 0) (f : X → Y) (xs : List X) → AllByRecursion P (map f xs) → AllByRecursion (λ x. P (f x)) xs
 each_unmap P f [] all = tt
 each_unmap P f (x ∷ xs) all = (all.0, each_unmap P f xs all.1)

@@ -26,7 +26,7 @@ use Rattle.live_channel.proofs.SeatLaws.{owns_between}
 pub new_fits : (alloc : Global) (authority : List ℕ) (policies : List PolicySeen) (core : CoreSeen) → IsNewBy alloc authority policies core → length core.journal.entries ≤ 1048576
 new_fits alloc authority policies core new = omega (arith, ap length new.journal)
 
--- the channel of a lock whose origin reports this authority and these policies: the events that it was given are a session
+-- the channel of a lock whose origin says this authority and these policies: the events that it was given are a session
 pub session_at : (authority : List ℕ) (policies : List PolicySeen) (core : CoreSeen) (origin : List ℕ) → origin ≡ origin_of authority policies → HasRun origin core
     → (events : List Stamped) × IsSession authority policies events core.journal (ledger_in core)
 session_at authority policies core origin is has =
@@ -34,40 +34,6 @@ session_at authority policies core origin is has =
     (given.0, session_of authority policies core given.0 core.journal (ledger_in core) given.1 refl refl)
 
 -- ---- the report
-
-run_still : (lock origin : List ℕ) (core : CoreSeen) → lock ≡ origin → IsRunning origin core → core.spent ≡ false → HasRun lock core
-run_still lock origin core same (inl run) unspent = subst (λ (o : List ℕ). HasRun o core) (sym same) run
-run_still lock origin core same (inr spent) unspent = absurd (cc)
-
--- what was reported of the channel under the lock
-pub reported_ok : (r : Ran) (t : List ℕ) (result : Result Unit ReportFault) (before after : SeatSeen Entry) (taken taken' : Option (List ℕ)) (faults faults' : ℕ) (core : CoreSeen) (lock : LockId) → before.lock ≡ lock → IsRunning lock.origin core → StartsWith core.journal.entries before.seen → after.seen ≡ core.journal.entries → after.own ≡ before.own → after.parts ≡ before.parts
-    → ReportsThat r t core result taken taken' faults faults' → OnOk result (WritesAll (ReportsAt r t before after) taken taken')
-reported_ok r t (Err fault) before after taken taken' faults faults' core lock at running sees seen own parts reports_that = tt
-reported_ok r t (Ok done) before after taken taken' faults faults' core lock at running sees seen own parts reports_that =
-    (run_text r t core.journal (ledger_in core), (core, run_still before.lock.origin lock.origin core (ap (λ (l : LockId). l.origin) at) running reports_that.0.unspent, sees, seen, own, parts, reports_that.0.full, refl), reports_that.1)
-
-reported_some : (r : Ran) (t : List ℕ) (core : CoreSeen) (fault : ReportFault) (before after : SeatSeen Entry) (taken taken' : Option (List ℕ)) (faults faults' : ℕ) (lock : LockId) → before.lock ≡ lock → IsRunning lock.origin core → StartsWith core.journal.entries before.seen → after.seen ≡ core.journal.entries → after.own ≡ before.own → after.parts ≡ before.parts
-    → ReportsThat r t core (Err fault) taken taken' faults faults' → WritesSome (ReportsAt r t before after) taken taken'
-reported_some r t core fault before after taken taken' faults faults' lock at running sees seen own parts (inl none) = inl none.1
-reported_some r t core fault before after taken taken' faults faults' lock at running sees seen own parts (inr prefix) =
-    inr (run_text r t core.journal (ledger_in core), (core, run_still before.lock.origin lock.origin core (ap (λ (l : LockId). l.origin) at) running prefix.0.unspent, sees, seen, own, parts, prefix.0.full, refl), prefix.1)
-
-pub reported_err : (r : Ran) (t : List ℕ) (result : Result Unit ReportFault) (before after : SeatSeen Entry) (taken taken' : Option (List ℕ)) (faults faults' : ℕ) (core : CoreSeen) (lock : LockId) → before.lock ≡ lock → IsRunning lock.origin core → StartsWith core.journal.entries before.seen → after.seen ≡ core.journal.entries → after.own ≡ before.own → after.parts ≡ before.parts
-    → ReportsThat r t core result taken taken' faults faults' → OnErr result (WritesSome (ReportsAt r t before after) taken taken')
-reported_err r t (Ok done) before after taken taken' faults faults' core lock at running sees seen own parts reports_that = tt
-reported_err r t (Err fault) before after taken taken' faults faults' core lock at running sees seen own parts reports_that = reported_some r t core fault before after taken taken' faults faults' lock at running sees seen own parts reports_that
-
-reported_failed : (r : Ran) (t : List ℕ) (core : CoreSeen) (before after : SeatSeen Entry) (taken taken' : Option (List ℕ)) (faults faults' : ℕ) (lock : LockId) → before.lock ≡ lock → IsRunning lock.origin core → StartsWith core.journal.entries before.seen → after.seen ≡ core.journal.entries → after.own ≡ before.own → after.parts ≡ before.parts
-    → ReportsThat r t core (Err unwritten.Write) taken taken' faults faults' → Rises faults faults' × WritesPrefix (ReportsAt r t before after) taken taken'
-reported_failed r t core before after taken taken' faults faults' lock at running sees seen own parts (inl none) = absurd (let bad : unwritten.Write ≡ unwritten.NoMemory = none.0 in (cc))
-reported_failed r t core before after taken taken' faults faults' lock at running sees seen own parts (inr prefix) =
-    (prefix.2 refl, (run_text r t core.journal (ledger_in core), (core, run_still before.lock.origin lock.origin core (ap (λ (l : LockId). l.origin) at) running prefix.0.unspent, sees, seen, own, parts, prefix.0.full, refl), prefix.1))
-
-pub reported_write : (r : Ran) (t : List ℕ) (result : Result Unit ReportFault) (before after : SeatSeen Entry) (taken taken' : Option (List ℕ)) (faults faults' : ℕ) (core : CoreSeen) (lock : LockId) → before.lock ≡ lock → IsRunning lock.origin core → StartsWith core.journal.entries before.seen → after.seen ≡ core.journal.entries → after.own ≡ before.own → after.parts ≡ before.parts
-    → ReportsThat r t core result taken taken' faults faults' → result ≡ Err unwritten.Write → Rises faults faults' × WritesPrefix (ReportsAt r t before after) taken taken'
-reported_write r t result before after taken taken' faults faults' core lock at running sees seen own parts reports_that is =
-    reported_failed r t core before after taken taken' faults faults' lock at running sees seen own parts
-    (subst (λ (x : Result Unit ReportFault). ReportsThat r t core x taken taken' faults faults') is reports_that)
 
 -- the handle looked before and after
 pub reports_on : (r : Ran) (t : List ℕ) (first before after last : SeatSeen Entry) (text : List ℕ) → Sees first before → before ≡ record first { seen = before.seen } → Sees after last → last ≡ record after { seen = last.seen } → ReportsAt r t before after text → ReportsOn r t first text

@@ -1,4 +1,4 @@
--- What a handle knows that reported the channel its first event, or shut it down, and of which others were split off.
+-- What a handle knows that posted the channel's first event, or shut it down, and of which others were split off.
 use Rattle.std.proofs.Common.{◌≡◌, ◌∙◌, ◌<◌, ◌≤◌, ◌==◌, ℕ, suc, ◌+◌, ◌-◌, Bool, true, false, if◌then◌else◌, nat_lt, Option, Some, None, List, [], ◌∷◌, ◌++◌, ap, append-nil, arith, length, length-append, map, refl, sym, subst}
 use Rattle.std.specs.List.{AllByRecursion}
 use Rattle.std.proofs.lemmas.Bool.Decides.{nat_tests}
@@ -185,22 +185,6 @@ splits_empty {X} seat_of none seat is = subst (λ (l : List X). Splits seat (map
 pub fresh_at : (lock other : LockId) (seats : List (SeatSeen Entry)) → lock ≡ other → AllByRecursion (IsFresh other) seats → AllByRecursion (IsFresh lock) seats
 fresh_at lock other seats same all = subst (λ (l : LockId). AllByRecursion (IsFresh l) seats) (sym same) all
 
--- one more
-pub splits_more : {X : Type 0} (seat_of : X → SeatSeen Entry) (start before after : SeatSeen Entry) (olds news : List X) (x : X) → news ≡ olds ++ x ∷ [] → 2 ≤ before.parts → after ≡ record before { parts = before.parts - 1 } → IsFresh before.lock (seat_of x)
-    → Splits start (map seat_of olds) before → Splits start (map seat_of news) after
-splits_more {X} seat_of start before after olds news x is some same fresh splits =
-    let all : map seat_of news ≡ map seat_of olds ++ seat_of x ∷ [] = ap (map seat_of) is ∙ map-append seat_of olds (x ∷ []) in
-    let parts : after.parts ≡ before.parts - 1 = ap (λ (s : SeatSeen Entry). s.parts) same in
-    let long : length (map seat_of olds ++ seat_of x ∷ []) ≡ length (map seat_of olds) + 1 = length-append (map seat_of olds) (seat_of x ∷ []) in
-    let before_parts = splits.parts in
-    subst (λ (seats : List (SeatSeen Entry)). Splits start seats after) (sym all) (record {
-      lock = ap (λ (s : SeatSeen Entry). s.lock) same ∙ splits.lock;
-      seen = ap (λ (s : SeatSeen Entry). s.seen) same ∙ splits.seen;
-      own = ap (λ (s : SeatSeen Entry). s.own) same ∙ splits.own;
-      parts = omega (arith, parts, long, before_parts, some);
-      fresh = each_snoc (IsFresh start.lock) (map seat_of olds) (seat_of x) splits.fresh (subst (λ (l : LockId). IsFresh l (seat_of x)) splits.lock fresh);
-    })
-
 pub map_length : {X : Type 0} (seat_of : X → SeatSeen Entry) (jobs : List X) → length (map seat_of jobs) ≡ length jobs
 map_length seat_of [] = refl
 map_length seat_of (job ∷ jobs) = ap suc (map_length seat_of jobs)
@@ -213,13 +197,13 @@ pub reported_beside : (e : Event) (addresses : List Address) (config : Option (L
 reported_beside e addresses config own is each =
     each_weaker (λ (p : ℕ × Entry). p.1.event ≡ e) (λ (p : ℕ × Entry). IsBeside p.1.event) (λ p same. subst IsBeside (sym (same ∙ is)) (resolved_beside addresses config)) own each
 
--- a handle that reported nothing
+-- a handle that posted nothing
 pub first_clear : (lock : LockId) (seat : SeatSeen Entry) → IsFirstSeat lock seat → Stands seat.seen seat.own × EntriesAreBesideCalls seat.own
 first_clear lock seat first =
     let none : [] ≡ seat.own = sym first.own in
     (subst (λ (l : List (ℕ × Entry)). Stands seat.seen l) none tt, subst EntriesAreBesideCalls none tt)
 
--- the handle of a channel that was notified of something, or nothing, and of which others were split off
+-- the handle by which something was posted, or nothing, and of which others were split off
 pub started_by : (lock : LockId) (seat mid : SeatSeen Entry) (seats : List (SeatSeen Entry)) → seat.lock ≡ lock → seat.parts ≡ 4294967296 → Stands seat.seen seat.own → EntriesAreBesideCalls seat.own → length seats ≤ 5 → Splits seat seats mid → IsStarted lock seats mid
 started_by lock seat mid seats here full stands beside few splits = record {
   lock_is = splits.lock ∙ here;
@@ -234,11 +218,11 @@ started_by lock seat mid seats here full stands beside few splits = record {
 pub few_split : (n : ℕ) (before after : SeatSeen Entry) (seats : List (SeatSeen Entry)) → Splits before seats after → before.parts ≤ after.parts + n → n ≤ 5 → length seats ≤ 5
 few_split n before after seats splits most few = let parts = splits.parts in omega (arith, parts, most, few)
 
--- what it reported is what it has seen
+-- what it posted is what it has seen
 pub reported_split : (e : Event) (before after : SeatSeen Entry) → after.seen ≡ before.seen → IsReportedFirst e before.seen → IsReportedFirst e after.seen
 reported_split e before after same reported = subst (IsReportedFirst e) (sym same) reported
 
--- and of the first handle, which reported the channel its first event or nothing
+-- and of the first handle, which posted the channel's first event or nothing
 pub left_by : (lock : LockId) (held : List (Option (List (List ℕ)))) (config : Option (List ℕ)) (o : Outcome) (keepers : List Keeper) (owns : List (List (ℕ × Entry))) (seats others : List (SeatSeen Entry)) (seat mid closer out : SeatSeen Entry)
     → DialersAreGiven held config keepers seat → IsStarted lock seats seat → Splits seat others mid → closer ≡ mid
     → out.lock ≡ closer.lock → out.parts ≡ closer.parts + length others + length seats → Leaves o keepers owns closer.seen closer.own out → IsLeft lock held config o owns out
@@ -257,7 +241,7 @@ left_by lock held config o keepers owns seats others seat mid closer out given s
       (subst (λ (l : List (ℕ × Entry)). Leaves o keepers owns closer.seen l out) (ap (λ (s : SeatSeen Entry). s.own) same ∙ splits.own) leaves);
 }
 
--- and what was reported stays so of a handle that has seen all that
+-- and what was said stays so of a handle that has seen all that
 pub reported_left : {X E : Type 0} (t : Target) (config : Option (List ℕ)) (seat : SeatSeen Entry) (result : Result (SeatSeen Entry × X) E) → ReportsTarget t config seat.seen → IfOk result (λ r. StartsWith r.0.seen seat.seen) → IfOk result (λ r. ReportsTarget t config r.0.seen)
 reported_left t config seat (Ok r) reported sees = reported_stays t config r.0.seen seat.seen sees reported
 reported_left t config seat (Err e) reported sees = tt

@@ -54,7 +54,7 @@ pub record IsBeside (e : Event) : Type 0 where
 abbrev pub EntriesAreBesideCalls : List (ℕ × Entry) → Type 0
 EntriesAreBesideCalls own = AllByRecursion (λ p. IsBeside p.1.event) own
 
--- what a worker beside the calls is there for: it keeps links open of a dialer that held this for them, where the dialer reports, or it looks a name up and reports its
+-- what a worker beside the calls is there for: it keeps links open of a dialer that held this for them, where the dialer says them, or it looks a name up and posts its
 -- addresses with this config
 pub data Keeper : Type 0 where
   OfLinks : Option (List (List ℕ)) → Keeper
@@ -84,7 +84,7 @@ IsWithConfig reported (OfLinks held) = Unit {0}
 IsWithConfig reported (OfNames config) = config ≡ reported
 
 -- of the first dialers each has a worker that keeps links open, and what these held is so; addresses come with this config, from the workers and from the first handle,
--- which reported nothing else
+-- which posted nothing else
 pub record DialersAreGiven (held : List (Option (List (List ℕ)))) (config : Option (List ℕ)) (keepers : List Keeper) (seat : SeatSeen Entry) : Type 0 where
   pub workers : ℕ
   pub links : helds_of keepers ≡ take workers held
@@ -177,7 +177,7 @@ pub record Leaves (o : Outcome) (keepers : List Keeper) (owns : List (List (ℕ 
   pub takes : TakesIn shut others after
 
 -- the handle that a run leaves has every part. Before it took the others in, none of its entries was of an application or a Shutdown. Beside the calls were workers of
--- the first of these dialers, and addresses were reported with this config
+-- the first of these dialers, and addresses came with this config
 pub record IsLeft (lock : LockId) (held : List (Option (List (List ℕ)))) (config : Option (List ℕ)) (o : Outcome) (owns : List (List (ℕ × Entry))) (seat : SeatSeen Entry) : Type 0 where
   pub lock_is : seat.lock ≡ lock
   pub parts : seat.parts ≡ 4294967296

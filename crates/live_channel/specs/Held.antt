@@ -1,4 +1,4 @@
--- What came on the links of a run, by what each dialer held; and the config with which addresses are reported.
+-- What came on the links of a run, by what each dialer held; and the config with which addresses come.
 -- Example: a run with one dialer, which held the bytes 1 2 3 for the one link that it opens. The pieces that came on this link are, one after another, a prefix of
 -- these bytes: 1 and 2 3, or 1 2 alone.
 use Rattle.std.specs.Prelude.{◌≡◌, ℕ, Option, Some, List, slice_get, take}
@@ -13,13 +13,13 @@ use Rattle.turn_lock.specs.History.{Ascends, Stands}
 use Rattle.live_channel.specs.Sharing.{times_in}
 
 -- entries with their places, which stand there in this order: those of a worker with a dialer that held this. Of each number that one link of it had, what came is a
--- prefix of what the dialer held for that link, where the dialer reports
+-- prefix of what the dialer held for that link, where the dialer says it
 pub record ComesAsHeld (entries : List Entry) (held : Option (List (List ℕ))) (own : List (ℕ × Entry)) : Type 0 where
   pub stands : Stands entries own
   pub ascends : Ascends 0 own
   pub prefixes : (coming : List (List ℕ)) → held ≡ Some coming → (link : ℕ) → IsPrefix (fold (reported_by link) (record { link_history = Unopened; coming = coming }) (entries_of own)).link_history
 
--- addresses are reported with this config
+-- addresses come with this config
 abbrev pub ResolvesWith : Option (List ℕ) → Event → Type 0
 ResolvesWith reported (event.Resolved addresses config) = config ≡ reported
 ResolvesWith reported _ = Unit {0}

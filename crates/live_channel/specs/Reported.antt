@@ -12,7 +12,7 @@ use Rattle.shared_channel.specs.Histories.{IsNearlyFull}
 use Rattle.shared_channel.specs.Running.{HasRun}
 use Rattle.turn_lock.specs.History.{Owns, SeatSeen, StartsWith}
 
--- a channel that is not spent, and whose journal is nearly full where the session is reported to be full
+-- a channel that is not spent, and whose journal is nearly full where the session is reported as full
 pub record IsReportable (r : Ran) (core : CoreSeen) : Type 0 where
   pub unspent : core.spent ≡ false
   pub full : r ≡ ran.Full → IsNearlyFull core.journal.entries

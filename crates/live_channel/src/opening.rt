@@ -43,7 +43,7 @@ pub fn open_channel<P: Balancer>(
     Ok((channel, seat))
 }
 
-/// The event that reports the addresses of a target and the config of a script.
+/// The event with the addresses of a target and the config of a script.
 pub fn resolved(
     alloc: Global,
     addresses: AddressList,

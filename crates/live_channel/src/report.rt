@@ -16,7 +16,7 @@ use std::alloc::Global;
 use std::sync::Wait;
 
 /// Whether the channel can be reported of a session that was run so far. Where a worker was notified that there was no room for its event the
-/// journal is nearly full, since such an event has at most 4,194,368 bytes and a journal only grows; but no clause of a worker says so, so
+/// journal is nearly full, since such an event has at most 4,194,368 bytes and a journal only grows. But no clause of a worker says so, so
 /// it is tested again.
 fn is_reportable<P: Balancer>(core: &ChannelCore<P>, ran: Ran, nearly_full: bool) -> bool
     requires { nearly_full ≡ true → IsNearlyFull core.now.journal.entries }

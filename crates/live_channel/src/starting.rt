@@ -1,4 +1,4 @@
-// The beginning of a run: what is reported to the channel, and the workers beside the calls.
+// The beginning of a run: what the channel is given first, and the workers beside the calls.
 ghost use Rattle.std.specs.Prelude.{◌≡◌, IfOk, map};
 ghost use Rattle.live_channel.specs.Handles.{DialersAreGiven, IsFirstSeat, IsStarted, keepers_in, seats_in};
 ghost use Rattle.live_channel.specs.Report.{IsReportedFirst, ReportsTarget};

@@ -15,9 +15,9 @@ use Rattle.live_channel.specs.Held.{ComeAsHeld}
 use Rattle.live_channel.specs.Report.{ReportsTarget}
 use Rattle.live_mode.specs.Made.{CarriesCalls}
 
--- the text is the report of the one channel of a live run: a new channel, whose requests have the authority of the script's target, and
--- which has these policies, was given exactly the events of this journal, one after another. The journal begins with what the channel is
--- reported first, and has the calls of the script, as each worker made them, and the Shutdown after them; what came on its links is as the
+-- the text is the report of the one channel of a live run. It was a new channel, whose requests have the authority of the script's target, and
+-- which has these policies, and was given exactly the events of this journal, one after another. The journal begins with what the channel is
+-- given first, and has the calls of the script, as each worker made them, and the Shutdown after them. What came on its links is as the
 -- dialers held it. Where the session was stopped it is nearly full
 pub record IsLiveReport (policies : List PolicySeen) (held : List (Option (List (List ℕ)))) (r : Ran) (script : LiveScript) (text : List ℕ) : Type 0 where
   pub events : List Stamped

@@ -11,12 +11,3 @@ same_handle m m2 n n2 l l2 p q r =
     ap (λ (x : List Entry). let h : HandleSeen = record { made = x; errors = n2; last = l2 } in h) p
     ∙ ap (λ (x : ℕ). let h : HandleSeen = record { made = m; errors = x; last = l2 } in h) q
     ∙ ap (λ (x : Option PostError). let h : HandleSeen = record { made = m; errors = n; last = x } in h) r
-
--- a look before changes nothing of what is posted
-pub pumps_out_looked : (link : ℕ) (can : Bool) (o o_after : OutSeen) (m m2 : List Entry) (n n2 : ℕ) (l l2 : Option PostError) (after : HandleSeen) (result : Pumped) → m2 ≡ m → n2 ≡ n → l2 ≡ l
-    → PumpsOut link can o o_after (record { made = m2; errors = n2; last = l2 }) after result → PumpsOut link can o o_after (record { made = m; errors = n; last = l }) after result
-pumps_out_looked link can o o_after m m2 n n2 l l2 after result p q r pumps = subst (λ (h : HandleSeen). PumpsOut link can o o_after h after result) (same_handle m m2 n n2 l l2 p q r) pumps
-
-pub dials_looked : (wanted : Bool) (d d_after : DialerSeen) (m m2 : List Entry) (n n2 : ℕ) (l l2 : Option PostError) (after : HandleSeen) (answer : TurnSeen) → m2 ≡ m → n2 ≡ n → l2 ≡ l
-    → DialsIf wanted d d_after (record { made = m2; errors = n2; last = l2 }) after answer → DialsIf wanted d d_after (record { made = m; errors = n; last = l }) after answer
-dials_looked wanted d d_after m m2 n n2 l l2 after answer p q r dials = subst (λ (h : HandleSeen). DialsIf wanted d d_after h after answer) (same_handle m m2 n n2 l l2 p q r) dials

@@ -61,7 +61,7 @@ one_as A B e before after r leads posted =
 one : (A B : ℕ → Report → Type 0) (e : Event) (before after : HandleSeen) (r : Reply) → Leads A B e → PostsOne e before after (Ok r) → Comes A B before after
 one A B e before after r leads posted = one_as A B e before after r (λ n t a. leads n t r a) posted
 
--- an event that reports nothing of links
+-- an event that says nothing of links
 still : (A : ℕ → Report → Type 0) (e : Event) (before after : HandleSeen) (came : Result Reply PostError) → Leads A A e → PostsOne e before after came → Comes A A before after
 still A e before after (Ok r) leads posted = one A A e before after r leads posted
 still A e before after (Err x) leads posted = none A before after posted.made.0
@@ -125,7 +125,7 @@ reads {P} {T} {I} {O} D eyes b k k2 a before after answer same pumped_in = by_re
         weaker (At D left (b ++ k ∷ a)) (At D left (b ++ k ∷ a)) (Turned D left (b ++ k2 ∷ a) answer) before after (goes over.left)
         (still (At D left (b ++ k ∷ a)) (event.LinkLost k.link) before after posts.0 (λ n t r x. x) posts.1)
 
--- the other parts of a link's turn report nothing of what came
+-- the other parts of a link's turn say nothing of what came
 writes : (A : ℕ → Report → Type 0) (link : ℕ) (d : Result (List ℕ) Pumped) (o o_after : OutSeen) (before after : HandleSeen) (answer : Pumped) → AfterDrain link d o o_after before after answer → Comes A A before after
 writes A link (Ok piece) o o_after before after answer (inl whole) = none A before after whole.1.made
 writes A link (Ok piece) o o_after before after answer (inr (cut, posts)) = still A (event.LinkLost link) before after posts.0 (λ n t r x. x) posts.1

@@ -9,7 +9,7 @@ use Rattle.live_pump.specs.Workers.{ReportsThat, is_quiet}
 use Rattle.live_pump.specs.declared.pumped.Pumped.{Pumped}
 use Rattle.live_pump.specs.declared.pumped.Pumped.TheVariants as pumped
 
--- where no post failed, an answer that is none of an error reports the truth
+-- where no post failed, an answer that is none of an error says the truth
 quiet_reports : (before after : HandleSeen) (done : Pumped) → is_quiet done ≡ true → after.errors ≡ before.errors → ReportsThat before after done
 quiet_reports before after pumped.Going quiet same = same
 quiet_reports before after pumped.Lost quiet same = same

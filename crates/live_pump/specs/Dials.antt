@@ -12,7 +12,7 @@ use Rattle.live_pump.specs.declared.dial.DialTurn.{DialTurn}
 use Rattle.live_pump.specs.declared.dial.DialTurn.TheVariants as turn
 use Rattle.live_pump.specs.Pumps.{HandleSeen, PostsNothing, PostsOne}
 
--- what a dialer shows: the bytes of the links that it is still to open, where they are reported, and how often a dial failed
+-- what a dialer shows: the bytes of the links that it is still to open, where they are known, and how often a dial failed
 pub record DialerSeen : Type 0 where
   pub coming : Option (List (List ℕ))
   pub faults : ℕ
@@ -32,7 +32,7 @@ pub record IsDialFault (before after : DialerSeen) : Type 0 where
   pub coming : after.coming ≡ before.coming
   pub faults : after.faults ≡ one_more before.faults
 
--- what a turn of dialling answers; of an open link, its number and the bytes that it has left where they are reported
+-- what a turn of dialling answers; of an open link, its number and the bytes that it has left where they are known
 pub data TurnSeen : Type 0 where
   Nothing : TurnSeen
   Opened : ℕ → Option (List ℕ) → TurnSeen

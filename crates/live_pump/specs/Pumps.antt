@@ -45,7 +45,7 @@ PostsTo e done before after result = (came : Result Reply PostError) × PostsOne
 abbrev pub WantsMemory : HandleSeen → HandleSeen → Pumped → Type 0
 WantsMemory before after result = PostsNothing before after × (result ≡ pumped.Failed (failed.NoMemory false))
 
--- what a link that is read shows: the bytes that are left where they are reported, how often a read failed, and how often one was quiet
+-- what a link that is read shows: the bytes that are left where they are known, how often a read failed, and how often one was quiet
 pub record InSeen : Type 0 where
   pub left : Option (List ℕ)
   pub faults : ℕ
@@ -83,7 +83,7 @@ PumpsIn link in_before in_after before after result =
     ⊎ ((piece : List ℕ) × Gives piece in_before in_after × Arrives link piece before after result)
     ⊎ (IsOver in_before in_after × PostsTo (event.LinkLost link) pumped.Lost before after result)
 
--- what a link that is written shows: the bytes that were taken where they are reported, and how often a write failed
+-- what a link that is written shows: the bytes that were taken where they are known, and how often a write failed
 pub record OutSeen : Type 0 where
   pub taken : Option (List ℕ)
   pub faults : ℕ

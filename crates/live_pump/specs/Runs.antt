@@ -116,7 +116,7 @@ is_given_up pumped.Going = false
 is_given_up (pumped.Failed error) = false
 is_given_up _ = true
 
--- the error that an answer reports
+-- the error that an answer has
 abbrev pub error_of : Pumped → Option PostError
 error_of (pumped.Failed error) = Some error
 error_of _ = None

@@ -33,7 +33,7 @@ TendsTo link tend.Nothing before after result = PostsNothing before after × (re
 TendsTo link (tend.Ping word) before after result = PostsTo (event.Ping link word) pumped.Going before after result
 TendsTo link tend.Lost before after result = PostsTo (event.LinkLost link) pumped.Lost before after result
 
--- an answer that reports no failed post
+-- an answer without a failed post
 abbrev pub is_quiet : Pumped → Bool
 is_quiet (pumped.Failed e) = false
 is_quiet _ = true

@@ -42,8 +42,8 @@ fn tend_link<P: Post, C: Clock, T: Tender>(
     }
 }
 
-/// reports to the tender of bytes that came on a link.
-fn report_tender<C: Clock, T: Tender>(clock: &C, tender: &mut T, link: u32, came: bool)
+/// Reports to the tender that bytes came on a link.
+fn notify_tender<C: Clock, T: Tender>(clock: &C, tender: &mut T, link: u32, came: bool)
     ensures { (T.turns tender.new ≡ T.turns tender.old) × (T.last_turn tender.new ≡ T.last_turn tender.old) }
 {
     if came {
@@ -71,7 +71,7 @@ fn pump_link<P: Post + Glance, I: LinkIn, O: LinkOut, C: Clock, T: Tender>(
         return wrote;
     }
     let (read, came) = read_link(alloc, post, poll_delay, &mut kept.input, link);
-    report_tender(clock, tender, link, came);
+    notify_tender(clock, tender, link, came);
     if !read.is_going() {
         return read;
     }

@@ -20,7 +20,7 @@ use std::sync::Wait;
 /// A worker found no memory itself.
 const NO_MEMORY: PostError = PostError::NoMemory { spent: false };
 
-/// Keeps a link that was opened, and reports to the tender of it. On out of memory it is closed, or left to be closed.
+/// Keeps a link that was opened, and notifies the tender of it. On out of memory it is closed, or left to be closed.
 fn keep_link<I: LinkIn, O: LinkOut, C: Clock, T: Tender>(
     clock: &C,
     tender: &mut T,

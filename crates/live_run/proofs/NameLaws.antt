@@ -1,4 +1,4 @@
--- What a turn of a name's job adds to the entries that were made, and what its answer reports of its posts.
+-- What a turn of a name's job adds to the entries that were made, and what its answer says of its posts.
 use Rattle.std.proofs.Common.{◌≡◌, ◌⊎◌, ℕ, Bool, true, false, Option, Some, Result, Ok, Err, List, inl, inr, refl, sym, subst, arith}
 use Rattle.grpc_base.specs.Counts.{Rises}
 use Rattle.grpc_base.specs.declared.event.Entry.{Entry}
@@ -76,7 +76,7 @@ reports_unless false may_give may_find config wanted before after result (moment
 pub turn_reports : (view : View) (may_give : ℕ → Type 0) (may_find : DnsName → List ℕ → Type 0) (config : Option (List ℕ)) (before after : JobSeen) (result : DnsOnce) → Turns view may_give may_find config before after result → ReportsErrors before.handle after.handle result
 turn_reports view may_give may_find config before after result turns = reports_unless (is_shut view.state) may_give may_find config view.wants_resolution before after result turns
 
--- the outcome of a worker by the error that it was reported
+-- the outcome of a worker by the error that it was given
 pub ends_failed : (start after : WorkerSeen) (errors : ℕ) (e : PostError) (o : Outcome) → errors ≡ start.errors → o ≡ outcome_of e → (Rises errors after.errors × (after.last ≡ Some e)) ⊎ (e ≡ failed.NoMemory false) → EndsLookups start after o
 ends_failed start after errors (failed.NoMemory spent) o same is cause =
     subst (λ (x : Outcome). EndsLookups start after x) (sym is)

@@ -16,7 +16,7 @@ use Rattle.live_run.specs.declared.link_job.LinkJob.{LinkJob}
 use Rattle.live_run.specs.declared.link_job.LinkJob.TheVariants as job
 use Rattle.live_run.specs.declared.outcome.Outcome.{Outcome}
 
--- a handle, by what it reports of its entries and its errors
+-- a handle, by what it shows of its entries and its errors
 abbrev pub seen_by : {H : Type 0} → (H → List Entry) → (H → ℕ) → (H → Option PostError) → H → HandleSeen
 seen_by made errors last post = record { made = made post; errors = errors post; last = last post }
 
@@ -33,7 +33,7 @@ pub record NetDone {H N : Type 0} (seen : H → HandleSeen) (share : H → List 
   pub posts : AddsOnly IsOfLinks (seen before.post).made (seen after.post).made
   pub same_share : share after.post ≡ share before.post
 
--- an event that reports a lookup; addresses come with this config
+-- an event of a lookup; addresses come with this config
 abbrev pub IsOfNames : Option (List ℕ) → Event → Type 0
 IsOfNames reported (event.Resolved addresses config) = config ≡ reported
 IsOfNames reported event.ResolveFailed = Unit {0}

@@ -1,4 +1,4 @@
--- What a tender that is a table of keepalives, or none, reports its turns.
+-- What a tender that is a table of keepalives, or none, shows of its turns.
 use Rattle.std.specs.Prelude.{ℕ, Option}
 use Rattle.grpc_base.specs.declared.tender.TendTurn.{TendTurn}
 use Rattle.live_run.specs.declared.tending.Tending.{Tending}

@@ -76,7 +76,7 @@ impl<H: Caller> CallJob<H> {
     }
 }
 
-/// The work of the one that looks a name up and reports to the channel.
+/// The work of the one that looks a name up and posts the answers to the channel.
 #[derive(Drop)]
 pub struct NameJob<H, L, D> {
     pub alloc: Global,

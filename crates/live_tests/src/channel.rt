@@ -1,4 +1,4 @@
-// A channel in memory: it makes an entry of each event, and replies by what it is reported.
+// A channel in memory: it makes an entry of each event, and replies as it is made to.
 ghost use Rattle.std.specs.Prelude.{◌≡◌, ◌++◌, ◌∷◌, [], IfOk, OnErr, Some, false};
 ghost use Rattle.grpc_base.specs.Counts.{one_more};
 ghost use Rattle.grpc_base.specs.Posts.{AddsEntry, CountsErrors, MayReply, Posts, is_not_yet};
@@ -66,6 +66,17 @@ impl Plan {
             messages: 0,
             glances: u64::MAX,
         }
+    }
+
+    /// Why each post fails.
+    fn failure(&self) -> Option<PostError> {
+        if self.fails {
+            return Some(PostError::NoMemory { spent: true });
+        }
+        if self.full {
+            return Some(FULL);
+        }
+        None
     }
 
     /// A reply that the event may get.
@@ -262,11 +273,8 @@ impl Post for Channel {
     ghost share = { λ c. [] };
 
     fn post(&mut self, event: Event) -> Result<Reply, PostError> {
-        if self.plan.fails {
-            return Err(self.fail(PostError::NoMemory { spent: true }));
-        }
-        if self.plan.full {
-            return Err(self.fail(FULL));
+        if let Some(error) = self.plan.failure() {
+            return Err(self.fail(error));
         }
         let reply = self.plan.reply_to(&event);
         self.give(event, &reply)
@@ -275,11 +283,17 @@ impl Post for Channel {
 
 impl Caller for Channel {
     fn await_take(&mut self, call: u32) -> Result<Reply, PostError> {
+        if let Some(error) = self.plan.failure() {
+            return Err(self.fail(error));
+        }
         let reply = self.next_of_call(call);
         self.give(Event::Take { call }, &reply)
     }
 
     fn await_send(&mut self, call: u32, message: Octets) -> Result<Reply, PostError> {
+        if let Some(error) = self.plan.failure() {
+            return Err(self.fail(error));
+        }
         self.give(Event::Send { call, message }, &Reply::Done)
     }
 }

@@ -130,7 +130,7 @@ fn many(alloc: Global) -> Result<MemLookup, Fail> {
 }
 
 #[test]
-fn of_seventy_addresses_the_first_64_are_reported(rt: HostRuntime) -> Result<(), Fail> {
+fn of_seventy_addresses_the_first_64_are_given(rt: HostRuntime) -> Result<(), Fail> {
     let alloc = rt.alloc();
     let mut channel = Channel::new(alloc, Plan::new()).expect(&rt, "0 is a moment");
     let came = dns_once(

@@ -3,6 +3,8 @@
 
 mod channel;
 #[cfg(test)]
+mod client_calls_tests;
+#[cfg(test)]
 mod dial_tests;
 #[cfg(test)]
 mod dns_watch_tests;
@@ -14,5 +16,7 @@ mod live_pump_tests;
 mod live_run_tests;
 #[cfg(test)]
 mod names;
+#[cfg(test)]
+mod tender_tests;
 
 pub use channel::{Channel, DIALED, DIALED_UNTIL, FULL, Plan};

@@ -347,7 +347,7 @@ fn a_peer_that_never_answers_is_pinged_and_lost(rt: HostRuntime) -> Result<(), F
     rounds.glances = 18;
     let mut channel = Channel::new(alloc, rounds).expect(&rt, "0 is a moment");
     let mut dialer = dialer(alloc, b"settings", &[])?;
-    // The link is opened at 0 and received at 1; then each round reads the clock for the tender and for the tick.
+    // The link is opened at 0 and its bytes come at 1; then each round reads the clock for the tender and for the tick.
     let clock = ListClock::new(vec![in alloc; 0, 1, 1, 1, 11, 11, 12, 12, 13]?);
     let rule = KeepRule {
         time: 10,

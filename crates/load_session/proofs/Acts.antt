@@ -83,19 +83,12 @@ pub record IsPlaying (all : List LoadAction) (a now : Sides) (left : List LoadAc
   pub parts : all ≡ prefix ++ left
   pub plays : Plays prefix a now
 
-pub IsPlaying-new : (all left : List LoadAction) (a : Sides) → left ≡ all → IsPlaying all a a left
-IsPlaying-new all left a same = record { prefix = []; parts = sym same; plays = refl }
-
 pub IsPlaying-more : (all left rest : List LoadAction) (x : LoadAction) (a now new : Sides) → IsPlaying all a now left → left ≡ x ∷ rest → Does x.moment x.step now new → IsPlaying all a new rest
 IsPlaying-more all left rest x a now new playing e done = record {
   prefix = playing.prefix ++ x ∷ [];
   parts = playing.parts ∙ ap (λ (xs : List LoadAction). playing.prefix ++ xs) e ∙ sym (append_assoc playing.prefix (x ∷ []) rest);
   plays = Plays-snoc playing.prefix x a now new playing.plays done;
 }
-
-pub IsPlaying-done : (all left : List LoadAction) (a now : Sides) → IsPlaying all a now left → left ≡ [] → Plays all a now
-IsPlaying-done all left a now playing none =
-    subst (λ (xs : List LoadAction). Plays xs a now) (sym (playing.parts ∙ ap (λ (xs : List LoadAction). playing.prefix ++ xs) none ∙ append-nil playing.prefix)) playing.plays
 
 -- ---- many batches
 

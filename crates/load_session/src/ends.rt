@@ -121,7 +121,7 @@ fn after_the_first(ends: &[Option<u32>]) -> &[Option<u32>]
     }
 }
 
-/// How many ends report an outcome.
+/// How many ends have an outcome.
 fn count(ends: &[Option<u32>], outcome: Outcome) -> u32
     requires { length ends.now ≤ 10000 }
     ensures { result ≡ count_by (has_outcome outcome) ends.now }
@@ -135,7 +135,7 @@ fn count(ends: &[Option<u32>], outcome: Outcome) -> u32
     count
 }
 
-/// Whether an end, or that there is none, reports an outcome.
+/// Whether an end, or that there is none, has an outcome.
 fn has_outcome(end: Option<u32>, outcome: Outcome) -> bool
     ensures { result ≡ has_outcome outcome end }
 {

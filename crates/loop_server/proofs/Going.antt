@@ -26,14 +26,6 @@ goes_on lines start g h n e w =
       lighter = next_weight lines g h one;
     }
 
-none_is : (lines : List AnswerLine) (g h : Giving) (o : Option Giving) → next lines g ≡ o → WentAs false o g h → (h ≡ g) × (next lines h ≡ None)
-none_is lines g h None e w = (w, ap (next lines) w ∙ e)
-none_is lines g h (Some more) e w = absurd w
-
--- nothing stands next
-pub stops : (lines : List AnswerLine) (g h : Giving) → WentAs false (next lines g) g h → (h ≡ g) × (next lines h ≡ None)
-stops lines g h w = none_is lines g h (next lines g) refl w
-
 -- one frame of a piece
 pub one_step : (start a b : Arriving) (n : ℕ) → after_steps n start ≡ a → is_done a ≡ false → b.state ≡ reported_of a.state (handled a.state.session.link a.rest) → b.rest ≡ drop (handled a.state.session.link a.rest).taken a.rest → after_steps (suc n) start ≡ b
 one_step start a b n e d s r =

@@ -1,5 +1,4 @@
 pub mod Weights
-pub mod Giving
 pub mod Pieces
 pub mod Turns
 pub mod Going

@@ -49,22 +49,3 @@ status_within before code small =
     let pushbacks = pushbacks_within pushback_room before in
     let digits : length (decimal code) ≤ 10 = length-decimal-le 10 code (omega arith) (omega (arith, small)) (omega (arith, small)) in
     omega (arith, size_append (first ++ middle) last, size_append first middle, begins, pushbacks, digits)
-
-pub head_within : list_size head_fields ≤ 16384
-head_within = omega arith
-
-few_by : (n room : ℕ) (b : Bool) → nat_le 54 room ≡ b → room < 54 + n → (b && nat_le n (room - 54)) ≡ false
-few_by n room true t small =
-    let low = leb-true 54 room t in lt-leb n (room - 54) (omega (arith, low, small))
-few_by n room false t small = refl
-
-few_fit : (n room : ℕ) → room < 54 + n → (nat_le 54 room && nat_le n (room - 54)) ≡ nat_le (22 + n + 32) room
-few_fit n room small = few_by n room (nat_le 54 room) refl small ∙ sym (lt-leb (22 + n + 32) room (omega (arith, small)))
-
--- a pushback of so many bytes fits
-pub fits_is : (n room : ℕ) → (nat_le 54 room && nat_le n (room - 54)) ≡ nat_le (22 + n + 32) room
-fits_is n room =
-    elim (cases_lt room (54 + n)) [
-      | inl small ↦ few_fit n room small
-      | inr enough ↦ rw (le-leb 54 room (omega (arith, enough))) (rw (le-leb n (room - 54) (omega (arith, enough))) (rw (le-leb (22 + n + 32) room (omega (arith, enough))) refl))
-    ]

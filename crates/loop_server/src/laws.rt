@@ -11,7 +11,7 @@ pub fn pieces_join()
 {}
 
 /// The requests of a path, in the order in which they end, get its answers in the order of the script, each once, and the
-/// last one again and again, whatever other requests come; and UNIMPLEMENTED where the script has none.
+/// last one again and again, whatever other requests come. They get UNIMPLEMENTED where the script has none.
 pub fn requests_get_their_answers()
     ensures { (script : ServerScript) (before : List (List ℕ)) (path : List ℕ) → path ≢ [] →
         next_parts (book_after (new_book script) before) path ≡ answer_of script path (count_of path before) }

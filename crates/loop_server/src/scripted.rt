@@ -81,8 +81,8 @@ impl ServerCore {
 
     /// Gives all that may be sent on a link now; a link that is not known is new. First come the link's own frames: its
     /// SETTINGS, the acknowledgements of SETTINGS and PING, the WINDOW_UPDATEs for DATA, and RST_STREAM for stream errors.
-    /// Then each time the next part of the first answer, in the order in which the requests ended, of which one may be
-    /// sent: messages as the windows allow, and what stands after a hold once so many requests were answered. A broken
+    /// Then comes each time the next part of the first answer, in the order in which the requests ended, of which one may be
+    /// sent. That is messages as the windows allow, and what stands after a hold once so many requests were answered. A broken
     /// link gives nothing.
     pub fn drain(&mut self, link: u32) -> Result<Octets, NoMemory>
         ensures { IfOk result (λ octets. CoreDrains self.old link self.new octets) }

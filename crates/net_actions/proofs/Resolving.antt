@@ -71,7 +71,7 @@ taken_is k addresses n b place current once first =
     ∙ ap (λ (l : List Address). taken_by b l (first_place k n.asker.rack.policies) n) once
     ∙ ap (λ (x : Option ℕ). taken_by b addresses x n) first
 
--- the kind of a policy in use reports its place
+-- the kind of a policy in use decides its place
 place_reports : (s : Seen) (k : Kind) (place : ℕ) (g : PolicyUse) (live : Live) (addresses : List Address) (ps : List PolicySeen) → kinds_differ ps ≡ true
     → first_place k ps ≡ Some place → IsUse (Some g) (Some (policy_of g s)) (Some live) addresses ps → is_of_kind k g ≡ (live.place == place)
 place_reports s k place g live addresses ps differ first u = place-is k ps place live.place (policy_of g s) differ first u.2

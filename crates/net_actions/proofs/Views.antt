@@ -63,10 +63,6 @@ found_in p q same n (c ∷ subs) (r ∷ board) links b h e =
     found_by p q n c subs r board links (p c) (q r) b (same c r n (link_of links n) h.0) refl h.0 e
     (λ further. found_in p q same (n + 1) subs board links b h.1 further)
 
--- a live subchannel of an address
-abbrev address_by : ℕ → ℕ → Address
-address_by i p = record { ip = i; port = p }
-
 turned : (x y z : Bool) → ((x && y) && not z) ≡ ((not z && x) && y)
 turned true true true = refl
 turned true true false = refl

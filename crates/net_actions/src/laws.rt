@@ -4,9 +4,9 @@ ghost use Rattle.net_actions.specs.Runs.{ClocksKeepOrder, NetsAreOrderly, ShutsA
 
 use channel_net::laws_of_generations;
 
-/// What happens to one subchannel ("gRPC Connectivity Semantics and API"; gRPC, "Connection Backoff Protocol"): a dial that is taken, fails or is a link, SETTINGS
+/// What happens to one subchannel is the same in the session and in the net ("gRPC Connectivity Semantics and API"; gRPC, "Connection Backoff Protocol"). It is a dial that is taken, fails or is a link, SETTINGS
 /// that come, a link that goes, what the clock changes,
-/// and a connection that a policy wishes, is the same in the session and in the net.
+/// and a connection that a policy wishes.
 pub fn subchannel_steps_are_actions()
     ensures taken { DialsAreTaken }
     ensures none { NoneToDial }

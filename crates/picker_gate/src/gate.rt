@@ -71,6 +71,10 @@ impl Gate {
         ensures none { IfNone result ((q : ℕ × ℕ) → IsLtBy pair_cmp (call, row) q → has self.now q ≡ false) }
         ensures ordered { IsStrictlySortedBy pair_cmp self.now }
     {
+        // Mostly none waits.
+        if self.pairs.is_empty() {
+            return None;
+        }
         match self
             .pairs
             .range((Bound::Excluded((call, row)), Bound::Unbounded))

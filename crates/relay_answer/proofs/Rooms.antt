@@ -13,23 +13,6 @@ use Rattle.relay_answer.specs.declared.parts.Part.{Part}
 use Rattle.relay_answer.specs.Answering.{Answering, block_room, room_by, room_of, taken, text_room}
 use Rattle.relay_answer.specs.Moves.{Move, block_moved, moved, moved_by, text_moved}
 
--- each frame is tested for 17 bytes at least
-low_text : (o : Option Share) (n : ℕ) → text_room o ≡ Some n → 17 ≤ n
-low_text None n e = absurd (cc)
-low_text (Some x) n e = let same : max (9 + x.len) 17 ≡ n = cc in omega (arith, same)
-
-low_part : (o : Option Share) (p : Part) (n : ℕ) (b : Bool) → (if b then Some (block_room p.block) else text_room o) ≡ Some n → 17 ≤ n
-low_part o p n true e = let same : max (10 + length p.block) 17 ≡ n = cc in omega (arith, same)
-low_part o p n false e = low_text o n e
-
-low_by : (w : Wire) (stream : ℕ) (text : List ℕ) (parts : List Part) (n : ℕ) → room_by w stream text parts ≡ Some n → 17 ≤ n
-low_by w stream text [] n e = low_text (share_of w stream (length text) false) n e
-low_by w stream text (p ∷ parts) n e =
-    low_part (share_of w stream (length p.text) false) p n (length p.text == 0) e
-
-pub low : (w : Wire) (stream : ℕ) (a : Answering) (n : ℕ) → room_of w stream a ≡ Some n → 17 ≤ n
-low w stream a n e = low_by w stream a.text a.parts n e
-
 -- how much an answer has left
 abbrev pub parts_weight : List Part → ℕ
 parts_weight [] = 0

@@ -4,7 +4,7 @@ ghost use Rattle.relay_asks.specs.Asking.{code_of, opened};
 ghost use Rattle.relay_asks.specs.Laws.{Moment, asked_of, asks_from, before_answer, messages_in, statuses_from};
 
 /// Whatever comes, and however it is cut: a stream whose request began a call asks a Send for each whole message of the
-/// request, in order, each once; then a Finish where the request ended without a fault; and a Cancel last, once, where it was given up
+/// request, in order, each once. Then comes a Finish where the request ended without a fault. A Cancel is last, once, where it was given up
 /// before its end was given: it broke off, or showed a message that is compressed or too long, whose status it gets. A stream whose
 /// request began none asks nothing.
 pub fn asks_are_the_request()

@@ -54,22 +54,6 @@ reports_begun request stream before after c after_calls (Ok (reply.Dial sub addr
 reports_begun request stream before after c after_calls (Ok (reply.Link link)) result h b = reports_ok before after c c after_calls result h.errors.0 b
 reports_begun request stream before after c after_calls (Ok (reply.Octets octets)) result h b = reports_ok before after c c after_calls result h.errors.0 b
 
-pub reports_sent : (call stream : ℕ) (message : List ℕ) (before after : HandleSeen) (c after_calls : Calls) (came : Result Reply PostError) (result : Result Unit CallsFault)
-    → PostsOne (event.Send call message) before after came → Becomes c (came_of c (ask.Send stream message) came) after_calls result → ReportsThat before after result
-reports_sent call stream message before after c after_calls (Err error) result h b = reports_failed (event.Send call message) before after c after_calls error result h b
-reports_sent call stream message before after c after_calls (Ok (reply.Full n)) result h b = reports_ok before after c (held c (ask.Send stream message)) after_calls result h.errors.0 b
-reports_sent call stream message before after c after_calls (Ok reply.Done) result h b = reports_ok before after c c after_calls result h.errors.0 b
-reports_sent call stream message before after c after_calls (Ok (reply.Head meta)) result h b = reports_ok before after c c after_calls result h.errors.0 b
-reports_sent call stream message before after c after_calls (Ok (reply.Message octets)) result h b = reports_ok before after c c after_calls result h.errors.0 b
-reports_sent call stream message before after c after_calls (Ok (reply.End code text meta cause)) result h b = reports_ok before after c c after_calls result h.errors.0 b
-reports_sent call stream message before after c after_calls (Ok reply.NotYet) result h b = reports_ok before after c c after_calls result h.errors.0 b
-reports_sent call stream message before after c after_calls (Ok (reply.BadConfig f)) result h b = reports_ok before after c c after_calls result h.errors.0 b
-reports_sent call stream message before after c after_calls (Ok (reply.Dial sub address until)) result h b = reports_ok before after c c after_calls result h.errors.0 b
-reports_sent call stream message before after c after_calls (Ok (reply.Link link)) result h b = reports_ok before after c c after_calls result h.errors.0 b
-reports_sent call stream message before after c after_calls (Ok (reply.Octets octets)) result h b = reports_ok before after c c after_calls result h.errors.0 b
-reports_sent call stream message before after c after_calls (Ok (reply.Call n)) result h b = reports_ok before after c c after_calls result h.errors.0 b
-reports_sent call stream message before after c after_calls (Ok (reply.Refused x)) result h b = reports_ok before after c c after_calls result h.errors.0 b
-
 pub reports_finished : (call stream : ℕ) (before after : HandleSeen) (c after_calls : Calls) (came : Result Reply PostError) (result : Result Unit CallsFault)
     → PostsOne (event.Finish call) before after came → Becomes c (came_of c (ask.Finish stream) came) after_calls result → ReportsThat before after result
 reports_finished call stream before after c after_calls (Err error) result h b = reports_failed (event.Finish call) before after c after_calls error result h b
@@ -87,15 +71,7 @@ reports_from start before after (Err (fault.Gone r)) same h = (h.0 ∙ same, h.1
 reports_from start before after (Err (fault.Failed error)) same h = (h.0 ∙ ap one_more same, h.1)
 reports_from start before after (Err fault.NoMemory) same h = h ∙ same
 
-pub error_from : {T : Type 0} (start before after : HandleSeen) (result : Result T PostError) → before.errors ≡ start.errors → ReportsError before after result → ReportsError start after result
-error_from start before after (Ok done) same h = h ∙ same
-error_from start before after (Err error) same h = (h.0 ∙ ap one_more same, h.1)
-
 -- what an answer of a Take says, and that of the Cancel of a call that is given up
 pub error_taken : (e : Event) (before after : HandleSeen) (k k' : RelayCall) (came : Result Reply PostError) (result : Result (Option Reply) PostError) → PostsOne e before after came → Gives k came k' result → ReportsError before after result
 error_taken e before after k k' (Ok r) result h b = subst (λ (x : Result (Option Reply) PostError). ReportsError before after x) (sym b.1) h.errors.0
 error_taken e before after k k' (Err error) result h b = subst (λ (x : Result (Option Reply) PostError). ReportsError before after x) (sym b.1) (h.errors.0, h.errors.1)
-
-pub error_given_up : (e : Event) (before after : HandleSeen) (k k' : RelayCall) (came : Result Reply PostError) (result : Result Unit PostError) → PostsOne e before after came → GaveUp k came k' result → ReportsError before after result
-error_given_up e before after k k' (Ok r) result h b = subst (λ (x : Result Unit PostError). ReportsError before after x) (sym b.1) h.errors.0
-error_given_up e before after k k' (Err error) result h b = subst (λ (x : Result Unit PostError). ReportsError before after x) (sym b.1) (h.errors.0, h.errors.1)

@@ -29,27 +29,3 @@ pub put_at : (xs zs : List RelayStream) (place : ℕ) (x y u : RelayStream) → 
 put_at xs zs place x y u e same h =
     some_is (λ (s : RelayStream). zs ≡ settled (slice_set xs place y) place s) (slice_set xs place y) place y (get_set xs place x y e) h
     ∙ ap (put xs place) same
-
--- news of a stream
-pub record IsReported (r : Relay) (number : ℕ) (n : StreamNews) (zs : List RelayStream) (old new : List RelayAsk) : Type 0 where
-  pub relay : ◌≡◌ {A = Relay} (record r { streams = zs }) (on_stream r number n).relay
-  pub asks : new ≡ old ++ (on_stream r number n).asks
-
-pub reported_there : (r : Relay) (number place : ℕ) (n : StreamNews) (zs : List RelayStream) (old new : List RelayAsk) → position (is_numbered number) r.streams ≡ Some place → place < length r.streams → IfSome (slice_get r.streams place) (λ s. zs ≡ put r.streams place (stream_reported s n).stream) → IfSome (slice_get r.streams place) (λ s. new ≡ old ++ (stream_reported s n).asks) → IsReported r number n zs old new
-reported_there r number place n zs old new p lt streams asks =
-    let t = there_is r.streams place lt in
-    let whole : on_stream r number n ≡ reported_at r place n (Some t.0) = ap (reported_by r n) p ∙ ap (reported_at r place n) t.1 in
-    let zs_is = some_is (λ (s : RelayStream). zs ≡ put r.streams place (stream_reported s n).stream) r.streams place t.0 t.1 streams in
-    let asks_are = some_is (λ (s : RelayStream). new ≡ old ++ (stream_reported s n).asks) r.streams place t.0 t.1 asks in
-    record {
-      relay = ap (λ (l : List RelayStream). record r { streams = l }) zs_is ∙ sym (ap (λ (v : Report). v.relay) whole);
-      asks = asks_are ∙ sym (ap (λ (v : Report). old ++ v.asks) whole);
-    }
-
--- an item of its call's response
-pub given_there : (r : Relay) (number place : ℕ) (item : Reply) (zs : List RelayStream) → position (is_numbered number) r.streams ≡ Some place → place < length r.streams → IfSome (slice_get r.streams place) (λ s. zs ≡ given_to r.streams place s item) → ◌≡◌ {A = Relay} (record r { streams = zs }) (given r number item)
-given_there r number place item zs p lt streams =
-    let t = there_is r.streams place lt in
-    let whole : given r number item ≡ given_at r place item (Some t.0) = ap (given_by r item) p ∙ ap (given_at r place item) t.1 in
-    let zs_is = some_is (λ (s : RelayStream). zs ≡ given_to r.streams place s item) r.streams place t.0 t.1 streams in
-    ap (λ (l : List RelayStream). record r { streams = l }) zs_is ∙ sym whole

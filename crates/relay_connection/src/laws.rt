@@ -15,7 +15,7 @@ pub fn pieces_join()
 {}
 
 /// Whatever happened before and happens then: from the header list on that begins a stream, the asks of that stream are those of
-/// its own history, whatever other streams do: what `relay_asks` says of its header list, and of the moments that the events are
+/// its own history, whatever other streams do. That is what `relay_asks` says of its header list, and of the moments that the events are
 /// for it.
 pub fn streams_are_apart()
     ensures { (before events : List Event) (h : Receiving) (number : ℕ) (fields : List Field) (end : Bool) → (after fresh_relay before).last < number → h.news ≡ Some (news.Fields number fields end) →

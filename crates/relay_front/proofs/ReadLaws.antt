@@ -31,11 +31,3 @@ none_taken (byte ∷ buffer) = refl
 pub reads_quiet : (before reported after : InSeen) (buffer : List ℕ) → Report before reported → after.left ≡ reported.left → after.faults ≡ reported.faults → after.quiet ≡ one_more reported.quiet → Reads before after (take 0 buffer)
 reads_quiet before reported after buffer since left faults quiet =
     inl (record { left = left ∙ since.left; faults = faults ∙ since.faults; quiet = subst (λ (n : ℕ). after.quiet ≡ one_more n) since.quiet quiet }, none_taken buffer)
-
-pub over_ended : (before reported after : InSeen) → Report before reported → IsAtEnd reported.left → after.left ≡ reported.left → after.faults ≡ reported.faults → after.quiet ≡ reported.quiet → IsOver before after
-over_ended before reported after since ends left faults quiet =
-    record { left = left ∙ since.left; quiet = quiet ∙ since.quiet; over = inl (subst (λ l. IsAtEnd l) since.left ends, faults ∙ since.faults) }
-
-pub over_failed : (before reported after : InSeen) → Report before reported → after.left ≡ reported.left → after.faults ≡ one_more reported.faults → after.quiet ≡ reported.quiet → IsOver before after
-over_failed before reported after since left faults quiet =
-    record { left = left ∙ since.left; quiet = quiet ∙ since.quiet; over = inr (subst (λ (n : ℕ). after.faults ≡ one_more n) since.faults faults) }

@@ -22,10 +22,6 @@ pub answer_reports : (before after : HandleSeen) (result : Result Unit CallsFaul
 answer_reports before after (Ok done) h = h
 answer_reports before after (Err f) h = turn_reports before after f h
 
-pub closed_reports : (before after : HandleSeen) (came : Result Unit PostError) → ReportsError before after came → ReportsTurn before after (closed_with came)
-closed_reports before after (Ok done) h = h
-closed_reports before after (Err error) h = h
-
 -- where no post failed before
 pub turn_from : (start before after : HandleSeen) (t : RelayTurn) → before.errors ≡ start.errors → ReportsTurn before after t → ReportsTurn start after t
 turn_from start before after turn.Going same h = h ∙ same

@@ -83,7 +83,7 @@ pub record IsRound {P I O : Type 0} (eyes : LinkEyes P I O) (before after : Stan
 abbrev pub RoundOf : {P I O : Type 0} → LinkEyes P I O → Stand P I O → Stand P I O → Option LinkEnd → Type 0
 RoundOf eyes before after e = IsRound eyes before after e ⊎ IsLost eyes before after e
 
--- without a turn that ended the rounds no post failed; else it is as the turn reports
+-- without a turn that ended the rounds no post failed; else it is as the turn says
 abbrev pub ReportsEnd : HandleSeen → HandleSeen → Option LinkEnd → Type 0
 ReportsEnd before after (Some (end.Turned answer)) = ReportsTurn before after answer
 ReportsEnd before after e = after.errors ≡ before.errors

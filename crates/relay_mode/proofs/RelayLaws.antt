@@ -72,7 +72,3 @@ relay_text policies held links left left' script text read (ran.Full, report) = 
 pub listened_all : (listened : Bool) (faults faults' : ℕ) → listened ≡ true → IsListening listened faults faults' → faults' ≡ faults
 listened_all true faults faults' all is = is
 listened_all false faults faults' all is = absurd (cc)
-
-pub listened_not : (listened : Bool) (faults faults' : ℕ) → listened ≡ false → IsListening listened faults faults' → faults' ≡ one_more faults
-listened_not true faults faults' none is = absurd (cc)
-listened_not false faults faults' none is = is

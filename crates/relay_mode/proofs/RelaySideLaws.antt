@@ -123,13 +123,13 @@ left_links seat_of lock held config o count beside keepers before after links ot
       (let made = relay_side.parts in omega (arith, parts, made, jobs, mine, all)) (leaves relay_side.owns (seat_of before.closer).seen (seat_of before.closer).own relay_side.closes);
 }
 
--- the same of a run over a world, which reports what its dialers hold
+-- the same of a run over a world, which says what its dialers hold
 pub left_world : {X E : Type 0} (lock : LockId) (held reported : List (Option (List (List ℕ)))) (config : Option (List ℕ)) (links : ℕ) (keepers : List Keeper) (seat : SeatSeen Entry) (result : Result (SeatSeen Entry × Outcome × X) E) → held ≡ reported → DialersAreGiven held config keepers seat
     → IfOk result (λ r. (h : List (Option (List (List ℕ)))) (g : Option (List ℕ)) → DialersAreGiven h g keepers seat → LeavesLinks lock h g r.1 links r.0) → IfOk result (λ r. LeavesLinks lock reported config r.1 links r.0)
 left_world lock held reported config links keepers seat (Ok r) same given left = subst (λ (h : List (Option (List (List ℕ)))). LeavesLinks lock h config r.1 links r.0) same (left held config given)
 left_world lock held reported config links keepers seat (Err e) same given left = tt
 
--- and what was reported stays so of a handle that has seen all that
+-- and what was said stays so of a handle that has seen all that
 pub relay_side_reported : {X Y E : Type 0} (t : Target) (config : Option (List ℕ)) (seat : SeatSeen Entry) (result : Result (SeatSeen Entry × X × Y) E) → ReportsTarget t config seat.seen → IfOk result (λ r. StartsWith r.0.seen seat.seen) → IfOk result (λ r. ReportsTarget t config r.0.seen)
 relay_side_reported t config seat (Ok r) reported sees = reported_stays t config r.0.seen seat.seen sees reported
 relay_side_reported t config seat (Err e) reported sees = tt

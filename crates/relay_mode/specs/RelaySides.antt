@@ -27,7 +27,7 @@ pub record RelaySideDone {H : Type 0} (seat_of : H → SeatSeen Entry) (before a
   pub calls : AllByRecursion EntriesAreOfCalls owns
   pub closes : Closes after.outcome owns (seat_of before.closer).seen (seat_of before.closer).own (seat_of after.closer)
 
--- the handle that a run leaves of so many links, beside workers of the first of these dialers, and where addresses were reported with this config
+-- the handle that a run leaves of so many links, beside workers of the first of these dialers, and where addresses came with this config
 pub record LeavesLinks (lock : LockId) (held : List (Option (List (List ℕ)))) (config : Option (List ℕ)) (o : Outcome) (links : ℕ) (seat : SeatSeen Entry) : Type 0 where
   pub owns : List (List (ℕ × Entry))
   pub count : length owns ≡ links

@@ -39,8 +39,8 @@ pub record CarriesLinks (r : Ran) (links : ℕ) (entries : List Entry) : Type 0 
   pub shares : SharesOut r owns prefix rest entries
 
 -- the text is the report of the one channel of a relay: a new channel, whose requests have the authority of the script's target, and which
--- has these policies, was given exactly the events of this journal, one after another. The journal begins with what is reported to the channel
--- first, and has the entries of the links, and the Shutdown after them; what came on the channel's links is as the dialers held it. Where
+-- has these policies, was given exactly the events of this journal, one after another. The journal begins with the event that the channel
+-- is given first, and has the entries of the links, and the Shutdown after them; what came on the channel's links is as the dialers held it. Where
 -- the session was stopped it is nearly full
 pub record IsRelayReport (policies : List PolicySeen) (held : List (Option (List (List ℕ)))) (r : Ran) (links : ℕ) (script : LiveScript) (text : List ℕ) : Type 0 where
   pub events : List Stamped

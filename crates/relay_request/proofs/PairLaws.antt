@@ -149,9 +149,6 @@ none_from meta pairs i f all lt is full e =
     ∙ (ap (λ (o : Option (List Field)). metadata_from o (drop (suc i) pairs)) (sym full)
     ∙ (ap (metadata_from (Some meta)) (sym prefix) ∙ e))
 
-pub none_kept : IsRequestMetadata []
-none_kept = record { pairs_are = All-from_recursion IsPair [] tt; within = omega arith }
-
 pub is_pair : (f : Field) → may_pair f ≡ true → IsMetaName f.name × IsMetaValue f.name f.value
 is_pair f so =
     let parts = and_parts (may_name f.name) (is_binary_name f.name || may_text f.value) so in

@@ -19,23 +19,6 @@ pub fitting_within : (fields : List Field) (room : ℕ) → list_size (fitting r
 fitting_within [] room = omega arith
 fitting_within (f ∷ fields) room = within_by room f fields (nat_le (field_size f) room) refl (λ left. fitting_within fields left)
 
--- a field of such a name and value fits, tested part by part
-parts_by : (n v room : ℕ) (b : Bool) → nat_le 32 room ≡ b → room < n + v + 32 → (b && nat_le n (room - 32) && nat_le v (room - 32 - n)) ≡ false
-parts_by n v room false t small = refl
-parts_by n v room true t small =
-    let enough = leb-true 32 room t in
-    elim (cases_lt (room - 32) n) [
-      | inl few ↦ rw (lt-leb n (room - 32) few) refl
-      | inr some ↦ rw (le-leb n (room - 32) some) (lt-leb v (room - 32 - n) (omega (arith, enough, some, small)))
-    ]
-
-pub parts_fit : (n v room : ℕ) → (nat_le 32 room && nat_le n (room - 32) && nat_le v (room - 32 - n)) ≡ nat_le (n + v + 32) room
-parts_fit n v room =
-    elim (cases_lt room (n + v + 32)) [
-      | inl small ↦ parts_by n v room (nat_le 32 room) refl small ∙ sym (lt-leb (n + v + 32) room small)
-      | inr enough ↦ rw (le-leb 32 room (omega (arith, enough))) (rw (le-leb n (room - 32) (omega (arith, enough))) (rw (le-leb v (room - 32 - n) (omega (arith, enough))) (sym (le-leb (n + v + 32) room enough))))
-    ]
-
 -- so their block fits a frame
 pub fitting_short : (fields : List Field) → length (block_bytes (fitting 16384 fields)) < 16384
 fitting_short fields =

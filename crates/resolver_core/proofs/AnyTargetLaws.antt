@@ -46,10 +46,3 @@ pub name_of-three : (text afterwards one two a b : List ℕ) → afterwards ≡ 
 name_of-three text afterwards one two a b is e f =
     let all : pieces 58 (after_slashes text) ≡ a ∷ b ∷ pieces 58 two = (cc) in
     ap name_from all ∙ name_from-three a b (pieces 58 two) (pieces-some 58 two)
-
--- a target of the scheme `dns`, and one of another
-pub of_dns : (text : List ℕ) (name : Option DnsName) → is_dns text ≡ true → dns_name_of (drop 4 text) ≡ name → any_target_of text ≡ dns_target name
-of_dns text name e f = rw (e, f) refl
-
-pub of_other : (text : List ℕ) (r : Result (List Address) TargetFault) → is_dns text ≡ false → r ≡ target_of text → any_target_of text ≡ ipv4_target r
-of_other text r e f = rw (e, f) refl

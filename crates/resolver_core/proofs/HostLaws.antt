@@ -1,4 +1,4 @@
--- The test of a host reports what a host is.
+-- The test of a host says what a host is.
 use Rattle.std.proofs.Common.{◌≡◌, ◌≤◌, ◌↔◌, ℕ, Bool, true, false, not, ◌&&◌, nat_le, nat_eq, List, length, codes, IsTrue, arith, refl, sym}
 use Rattle.std.proofs.lemmas.Bool.Decides.{nat_tests}
 use Rattle.std.proofs.lemmas.Bool.{false_from_ne_true}
@@ -72,7 +72,7 @@ reported_is_host host h =
 false_is_true : IsTrue false → ⊥
 false_is_true h = grind arith
 
--- a test that reports hosts is this test
+-- a test that says what hosts are is this test
 pub same_test : (host : List ℕ) (b : Bool) → IsTrue b ↔ IsHost host → b ≡ is_host host
 same_test host true reports_that = sym (host_is_reported host (reports_that.0 refl))
 same_test host false reports_that = sym (false_from_ne_true (is_host host) (λ t. false_is_true (reports_that.1 (reported_is_host host t))))

@@ -16,25 +16,8 @@ listed_from addresses left over None = Err fault.BadTarget
 listed_from addresses left over (Some items) =
     if over || nat_lt left (length items) then Err fault.TooMany else Ok (with_addresses addresses items)
 
-within_or_over : (n m : ℕ) (X : Type 0) (x y : X) → (if nat_le n m then x else y) ≡ (if nat_lt m n then y else x)
-within_or_over n m X x y = elim (cases_lt m n) [ inl over ↦ (let t : nat_le n m ≡ false = grind (arith, nat_tests) in let u : nat_lt m n ≡ true = grind (arith, nat_tests) in rw (t, u) refl) | inr within ↦ (let t : nat_le n m ≡ true = grind (arith, nat_tests) in let u : nat_lt m n ≡ false = grind (arith, nat_tests) in rw (t, u) refl) ]
-
-pub listed_from-start : (items : Option (List Address)) → listed_of items ≡ listed_from [] 64 false items
-listed_from-start None = refl
-listed_from-start (Some items) =
-    within_or_over (length items) 64 (Result (List Address) TargetFault) (Ok (with_addresses [] items)) (Err fault.TooMany)
-
 lt_both : (n left : ℕ) → 0 < left → nat_lt (left - 1) n ≡ nat_lt left (suc n)
 lt_both n left some_left = elim (cases_lt (left - 1) n) [ inl over ↦ (let t : nat_lt (left - 1) n ≡ true = grind (arith, nat_tests) in let u : nat_lt left (suc n) ≡ true = grind (arith, nat_tests) in t ∙ sym u) | inr within ↦ (let t : nat_lt (left - 1) n ≡ false = grind (arith, nat_tests) in let u : nat_lt left (suc n) ≡ false = grind (arith, nat_tests) in t ∙ sym u) ]
-
-none_left : (n : ℕ) → true ≡ nat_lt 0 (suc n)
-none_left n = grind (arith, nat_tests)
-
--- one item that is over the most
-pub listed_from-over : (addresses : List Address) (over : Bool) (a : Address) (items : Option (List Address)) → listed_from addresses 0 true items ≡ listed_from addresses 0 over (address_before (Some a) items)
-listed_from-over addresses over a None = refl
-listed_from-over addresses true a (Some items) = refl
-listed_from-over addresses false a (Some items) = let t : true ≡ nat_lt 0 (suc (length items)) = none_left (length items) in rw (← t) refl
 
 -- one item within the most
 pub listed_from-one : (addresses : List Address) (left : ℕ) (over : Bool) (a : Address) (items : Option (List Address)) → 0 < left → listed_from (with_address addresses a) (left - 1) over items ≡ listed_from addresses left over (address_before (Some a) items)

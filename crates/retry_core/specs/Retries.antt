@@ -15,7 +15,7 @@ abbrev pub is_licensed : RetryPolicy → ℕ → RowEnd → Bool → Bool
 is_licensed policy number end above =
     has_code policy.codes end.code && not (is_stop end.pushback) && above && nat_lt number policy.max
 
--- the wait before it where the server asks for no delay: it grows with the attempts since the server last asked for one, up to
+-- the wait before it where the server asks for no delay. It grows with the attempts since the server last asked for one, up to
 -- the policy's limit, and is spread by a fifth to both sides by a random word
 abbrev pub drawn_wait : RetryPolicy → ℕ → ℕ → ℕ
 drawn_wait policy since word = spread_wait (capped_wait policy.initial policy.multiplier policy.limit since) word

@@ -42,7 +42,7 @@ dot = inl (omega arith)
 pub colon : IsNoDigit 58
 colon = inr (omega arith)
 
--- what stands after a small number is reported
+-- what stands after a small number is known
 pub tail_of : (b n k : ℕ) (text r s : List ℕ) → IsNoDigit b → n ≤ 255 → k ≤ 255 → text ≡ decimal n ++ b ∷ r → text ≡ decimal k ++ b ∷ s → r ≡ s
 tail_of b n k text r s nd small small_k e f = (same_number b n k text r s nd (omega (arith, small)) (omega (arith, small_k)) e f).1
 

@@ -91,9 +91,6 @@ counted_next items a count made list new is few many =
 
 -- ---- the loop
 
-pub list_none : (text : List ℕ) → IsReadList text [] 0 (Some text)
-list_none text = record { items = []; good = All-from_recursion IsAddress [] tt; parts = refl; counted = inl (omega arith, refl, refl) }
-
 pub list_refused : (text : List ℕ) (list : List Address) (count : ℕ) (items item : List ℕ) (afterwards : Option (List ℕ)) (xs : List Address) → text ≢ 45 ∷ [] → IsReadList text list count (Some items) → pieces 44 items ≡ item ∷ pieces_of_rest 44 afterwards → ((a : Address) → IsAddress a → item ≡ address_text a → ⊥) → SpellsAddresses text xs → ⊥
 list_refused text list count items item afterwards xs other is first none spelled =
     let parts : map address_text xs ≡ map address_text is.items ++ item ∷ pieces_of_rest 44 afterwards =

@@ -120,9 +120,6 @@ room_for done tail f within =
 
 -- ---- the loop
 
-pub read_none : (text : List ℕ) → IsReadMeta text [] (Some text)
-read_none text = record { kept = record { pairs_are = All-from_recursion IsPair [] tt; within = omega arith }; bytes = All-from_recursion (λ f. IsBytes f.value) [] tt; parts = refl }
-
 -- an item that is refused is that of no metadata
 pub read_refused : (text : List ℕ) (meta : List Field) (items item : List ℕ) (afterwards : Option (List ℕ)) (pairs : List Field) → text ≢ 45 ∷ [] → IsReadMeta text meta (Some items) → pieces 44 items ≡ item ∷ pieces_of_rest 44 afterwards → ((f : Field) → IsPair f → IsBytes f.value → item ≡ pair_text f → meta_size meta + pair_size f ≤ meta_limit → ⊥) → SpellsMeta text pairs → ⊥
 read_refused text meta items item afterwards pairs other is first none spelled =

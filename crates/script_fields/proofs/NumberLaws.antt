@@ -47,11 +47,6 @@ large_number text spelled large n small e =
     let above : 2 ^ 64 ≤ number_of text = large spelled.digits in
     omega (arith, small, same, above)
 
--- the same of what may be none
-pub number_or_dash_spelled : (t : Option ℕ) → IfSome t (λ n. n < 2 ^ 64) → SpellsNumberOrDash (number_or_dash t) t
-number_or_dash_spelled None small = refl
-number_or_dash_spelled (Some n) small = number_spelled n small
-
 -- a number that is none up to a limit is above it
 pub number_above : (text : List ℕ) (most : ℕ) → most < 2 ^ 64 → SpellsNumber text (number_of text) → ((n : ℕ) → n ≤ most → text ≡ decimal n → ⊥) → most < number_of text
 number_above text most small spelled none =

@@ -35,7 +35,7 @@ config_one text None (Some w) p q = absurd (dash_no_piece w (subst (λ t. Spells
 config_one text (Some v) None p q = absurd (dash_no_piece v (subst (λ t. SpellsPiece t v) q p))
 config_one text (Some v) (Some w) p q = ap Some (piece_one text v w p q)
 
--- the eight bytes of a word are bytes, and report it
+-- the eight bytes of a word are bytes, and decide it
 word_fits : (w : ℕ) → AllByRecursion (λ b. b < 256) (word_bytes w)
 word_fits w = (omega arith, (omega arith, (omega arith, (omega arith, (omega arith, (omega arith, (omega arith, (omega arith, tt))))))))
 
@@ -72,7 +72,7 @@ wait_one (Some false) (Some false) e = refl
 dash_free : (b : ℕ) (s rest : List ℕ) → b ≢ 45 → dash ≡ s ++ b ∷ rest → ⊥
 dash_free b s rest other e = no_cut b dash s rest (All-from_recursion (λ d. d ≢ b) dash ((λ f. other (sym f)), tt)) e
 
--- values with one spelling each are reported by the list of their spellings
+-- values with one spelling each are known by the list of their spellings
 each_one : {X : Type 0} (f : X → List ℕ) (P : X → Type 0) → ((x y : X) → P x → P y → f x ≡ f y → x ≡ y) → (v w : List X) → AllByRecursion P v → AllByRecursion P w → map f v ≡ map f w → v ≡ w
 each_one f P one [] [] p q e = refl
 each_one f P one [] (y ∷ w) p q e = absurd ((cc))

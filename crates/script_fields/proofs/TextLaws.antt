@@ -123,11 +123,7 @@ prefix_not_taken now None text head h = λ rest e.
     let prefix : take (length head) text ≡ head = ap (take (length head)) e ∙ take-append-le2 head rest in
     true≢false (sym ((bytes_eq-Decides (take (length head) text) head).1 prefix) ∙ h)
 
-pub same_after : (head x y : List ℕ) → head ++ x ≡ head ++ y → x ≡ y
-same_after [] x y e = e
-same_after (h ∷ head) x y e = (let tail : head ++ x ≡ head ++ y = (cc) in same_after head x y tail)
-
--- bytes that are reported by their spelling
+-- bytes that are known by their spelling
 pub bytes_from : (v : List ℕ) → IsBytes v → AllByRecursion (λ b. b < 256) v
 bytes_from v all = recursion_from_All (λ b. b < 256) v all
 
@@ -158,10 +154,6 @@ dash_one [] (y ∷ w) p q e = (let rest : [] ≡ lower_digit (y % 16) ∷ hex_di
 dash_one (x ∷ v) [] p q e = (let rest : lower_digit (x % 16) ∷ hex_digits v ≡ [] = (cc) in absurd ((cc)))
 dash_one (x ∷ v) (y ∷ w) p q e = hex_one (x ∷ v) (y ∷ w) (bytes_from (x ∷ v) p) (bytes_from (y ∷ w) q) e
 
-pub dash_some : (v text : List ℕ) → text ≢ [] → text ≡ hex_digits v → text ≡ hex_or_dash v
-dash_some [] text filled e = absurd (filled e)
-dash_some (x ∷ v) text filled e = e
-
 pub dash_none : (v text : List ℕ) → text ≢ 45 ∷ [] → text ≡ hex_or_dash v → text ≡ hex_digits v
 dash_none [] text other e = absurd (other e)
 dash_none (x ∷ v) text other e = e
@@ -171,10 +163,3 @@ pub map_none : {X E : Type 0} (r : Result (Option X) E) (P Q : Type 0) → (P �
 map_none (Ok (Some x)) P Q f h = tt
 map_none (Ok None) P Q f h = f h
 map_none (Err e) P Q f h = tt
-
-pub push_bytes : (xs : List ℕ) (x : ℕ) → IsBytes xs → x < 256 → IsBytes (xs ++ x ∷ [])
-push_bytes xs x all small = All-from_recursion (λ b. b < 256) (xs ++ x ∷ []) (push_all (λ b. b < 256) xs x (bytes_from xs all) small)
-
--- what a slice keeps of its bytes
-pub bytes_of_slice : (xs : List ℕ) → ((i : ℕ) → get_or xs i 0 < 256) → IsBytes xs
-bytes_of_slice xs fits = All-from_get_or (λ b. b < 256) xs 0 (λ i within. fits i)

@@ -125,20 +125,7 @@ decided_prefix taken refuses old lines text (fault.BadLine n cause) free reporte
 decided_prefix taken refuses old lines text fault.NoMemory free reported input h more = tt
 decided_prefix taken refuses old lines text e free reported input h more = absurd reported
 
--- an open line that is too long
-pub too_long : (count : ℕ) (text whole : List ℕ) (e : InputFault) → whole ≡ text → line_limit < length whole → IsReportedFor count whole false e → IsTooLong count text e
-too_long count text whole (fault.BadLine n cause) same long reported = (
-  reported.0,
-  (subst (λ (t : List ℕ). line_limit < length t) same long),
-  (subst (λ (t : List ℕ). IsRawFault n t false cause) same reported.1),
-)
-too_long count text whole fault.NoMemory same long reported = tt
-too_long count text whole e same long reported = absurd reported
-
 -- ---- pieces after one another
-
-pub leads_none : {T : Type 0} (taken : T → List (List ℕ) → Type 0) (s : Feed) (lines : T) → LeadsBy taken s lines s lines []
-leads_none taken s lines input h = record { read = subst (λ (t : List ℕ). HasFed taken t s lines) (sym (append-nil input)) h; room = omega arith }
 
 pub leads_on : {T : Type 0} (taken : T → List (List ℕ) → Type 0) (a b c : Feed) (k l m : T) (p q : List ℕ) → LeadsBy taken a k b l p → LeadsBy taken b l c m q → LeadsBy taken a k c m (p ++ q)
 leads_on taken a b c k l m p q first second input h =
@@ -156,15 +143,6 @@ decided_on taken refuses a b k l p q rest e first decided input h more =
     subst (λ (t : List ℕ). IsBadBy taken refuses t e) same (decided (input ++ p) one.read (rest ++ more))
 
 -- ---- a source
-
-pub fed_none : {T : Type 0} (taken : T → List (List ℕ) → Type 0) (feed : Feed) (lines : T) → taken lines [] → feed.count ≡ 0 → feed.line.items ≡ [] → HasFed taken [] feed lines
-fed_none taken feed lines first count blank = record {
-  texts = [];
-  parts = ap (λ (w : List ℕ). w ∷ []) (sym blank);
-  taken_are = first;
-  count = count;
-  short = omega (arith, ap length blank);
-}
 
 -- a bad line in the newest piece
 pub stops_in : {T : Type 0} (taken : T → List (List ℕ) → Type 0) (refuses : T → List ℕ → BadLine → Type 0) (a b c : Option (List ℕ)) (n m : ℕ) (feed : Feed) (lines : T) (input piece : List ℕ) (e : InputFault) → Takes a b input → Takes b c piece → HasFed taken input feed lines → IsDecidedBy taken refuses feed lines piece e → StopsBy taken refuses a c n m e
@@ -207,14 +185,3 @@ bad_end taken refuses a b c n m feed lines input (Ok x) took h ended same report
 bad_end taken refuses a b c n m feed lines input (Err e) took h ended same reported =
     subst (λ (o : Option (List ℕ)). StopsBy taken refuses a o n m e) (sym same)
     (ends_open taken refuses a b n m feed lines input e took ended h reported.0 reported.1)
-
-pub good_end : {T X : Type 0} (taken : T → List (List ℕ) → Type 0) (a b c : Option (List ℕ)) (feed : Feed) (lines : T) (input : List ℕ) (r : Result X InputFault) → Takes a b input → HasFed taken input feed lines → IsAtEnd b → c ≡ b → OnOk r (feed.line.items ≡ []) → OnOk r (ReadsLines taken a c lines)
-good_end taken a b c feed lines input (Err e) took h ended same blank = tt
-good_end taken a b c feed lines input (Ok x) took h ended same blank = record {
-  input = input;
-  texts = h.texts;
-  read = subst (λ (o : Option (List ℕ)). Takes a o input) (sym same) took;
-  at_end = subst IsAtEnd (sym same) ended;
-  parts = h.parts ∙ ap (λ (w : List ℕ). h.texts ++ w ∷ []) blank;
-  taken_are = h.taken_are;
-}

@@ -126,14 +126,6 @@ says_line f r n text part read kind number raw other is t =
     subst (λ (p : List ℕ). IsReplayLine n (fields p) read) is (subst (λ (k : ℕ). IsReplayLine k (fields part) read) number said) in
     subst (λ (k : ℕ). SaysAt f k text read) (sym number) (raw, other, there)
 
-replay_read : (n : ℕ) (texts : List (List ℕ)) (read : ScriptLine) → IsReplayLine n texts read → IsReplayRead read
-replay_read n texts (line.Channel target value) is = tt
-replay_read n texts (line.Event s) is = tt
-replay_read n texts read is = absurd is
-
-pub says_replay : (f : Form) (n : ℕ) (text : List ℕ) (read : ScriptLine) → SaysAt f n text read → IsReplayRead read
-says_replay f n text read says = replay_read n (fields (read_part f n text)) read says.2
-
 pub fault_at : (f : Form) (r : ReaderSeen) (records n : ℕ) (text part : List ℕ) (c : ℕ) → r.kind ≡ script.Replay → r.lines + 1 ≡ n → records ≡ 0 → IsRawLine n text true → (IsRecord f n text → ⊥) → part ≡ read_part f n text → IsLineFault r part true c → IsFaultAt f records n text true c
 fault_at f r records n text part c kind number none raw other is (inl fault) =
     absurd (read_raw (r.lines + 1) part true c (part_raw f n (r.lines + 1) text part is number raw) fault)

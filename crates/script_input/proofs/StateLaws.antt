@@ -195,9 +195,6 @@ decided_prefix old text whole e free joined long reported input h more = absurd 
 
 -- ---- pieces after one another
 
-pub leads_none : (s : Collected) → Leads s s []
-leads_none s input h = record { read = subst (λ (t : List ℕ). HasRead t s) (sym (append-nil input)) h; room = omega arith; form = refl }
-
 pub leads_on : (a b c : Collected) (p q : List ℕ) → Leads a b p → Leads b c q → Leads a c (p ++ q)
 leads_on a b c p q first second input h =
     let one : HasTaken input p a b = first input h in
@@ -217,39 +214,12 @@ decided_on a b p q rest e first decided input h more =
 
 -- ---- the end
 
-pub unscript_open : (s : Collected) (text : List ℕ) (e : InputFault) → text ≡ s.line.items → (text ≡ [] → ⊥) → IsReportedOpen s.reader s.records text e → (input : List ℕ) → HasRead input s → IsUnscript s.form input e
-unscript_open s text (fault.BadLine n cause) same filled reported input h =
-    record {
-      before = h.texts;
-      records = h.recorded;
-      reads = reads_of s.channel s.events.items;
-      text = text;
-      afterwards = [];
-      parts = h.parts ∙ ap (λ (w : List ℕ). (h.texts ++ h.recorded) ++ w ∷ []) (sym same);
-      lines = h.lines;
-      recorded = h.afterwards;
-      number = reported.0 ∙ number input s h;
-      there = λ none. filled;
-      fault = inl reported.1;
-    }
-unscript_open s text fault.NoMemory same filled reported input h = tt
-unscript_open s text e same filled reported input h = absurd reported
-
 pub unscript_empty : (s : Collected) → s.line.items ≡ [] → s.channel ≡ None → (input : List ℕ) → HasRead input s → input ≡ []
 unscript_empty s blank none input h =
     let lines : AreLines s.form 1 h.texts (reads_of None s.events.items) = subst (λ (o : Option Channel). AreLines s.form 1 h.texts (reads_of o s.events.items)) none h.lines in
     let texts : h.texts ≡ [] = (no_events s.form h.texts s.events.items lines).0 in
     let recorded : h.recorded ≡ [] = no_records s.form h.recorded (subst (λ (ts : List (List ℕ)). AreRecords s.form (length ts + 1) h.recorded) texts h.afterwards) in
     pieces-blank 10 input (h.parts ∙ ap (λ (ts : List (List ℕ)). (ts ++ h.recorded) ++ s.line.items ∷ []) texts ∙ ap (λ (rs : List (List ℕ)). rs ++ s.line.items ∷ []) recorded ∙ ap (λ (w : List ℕ). w ∷ []) blank)
-
-pub finished : (s : Collected) (channel : Channel) → s.line.items ≡ [] → s.channel ≡ Some channel → (input : List ℕ) → HasRead input s → IsScript s.form input channel.target channel.value s.events.items
-finished s channel blank some input h = record {
-  texts = h.texts;
-  records = h.recorded;
-  parts = h.parts ∙ ap (λ (w : List ℕ). (h.texts ++ h.recorded) ++ w ∷ []) blank;
-  lines = subst (λ (o : Option Channel). AreLines s.form 1 h.texts (reads_of o s.events.items)) some h.lines;
-  afterwards = h.afterwards;
-}
 
 -- what a test for emptiness says
 pub blank_of : (xs : List ℕ) (n : ℕ) (r : Bool) → length xs ≡ n → r ≡ (n == 0) → r ≡ true → xs ≡ []

@@ -85,7 +85,7 @@ abbrev pub IsKept : Option Channel → List Stamped → ℕ → Option ScriptLin
 IsKept channel events records None channel' events' records' = (channel' ≡ channel) × (events' ≡ events) × (records' ≡ records + 1)
 IsKept channel events records (Some read) channel' events' records' = IsKeptLine channel events read channel' events' × (records' ≡ records)
 
--- the fault that reports a bad line
+-- the fault for a bad line
 abbrev pub input_fault : BadLine → InputFault
 input_fault (bad.At n cause) = fault.BadLine n cause
 input_fault bad.NoMemory = fault.NoMemory

@@ -32,7 +32,7 @@ abbrev pub LeadsBy : {T : Type 0} → (T → List (List ℕ) → Type 0) → Fee
 LeadsBy taken old lines new lines' piece = (input : List ℕ) → HasFed taken input old lines → FeedsAfter taken input piece old new lines'
 
 -- the first bad line of a text, by its number, and its cause: lines before it were taken, and it fails a test that each line of each
--- script passes first, or is refused; what stands after the last line feed is a line where it has a byte
+-- script passes first, or is refused. What stands after the last line feed is a line where it has a byte
 pub record RefusesLine {T : Type 0} (taken : T → List (List ℕ) → Type 0) (refuses : T → List ℕ → BadLine → Type 0) (input : List ℕ) (n cause : ℕ) : Type 0 where
   pub lines : T
   pub texts : List (List ℕ)

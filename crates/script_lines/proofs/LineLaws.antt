@@ -50,10 +50,3 @@ word_fault moment word text texts e is good reported =
     let some : (a : List ℕ) × (others : List (List ℕ)) × (fields text ≡ a ∷ others) = some_field text in
     let all : texts ≡ moment ∷ word ∷ some.0 ∷ some.1 = is ∙ ap (λ t. moment ∷ word ∷ t) some.2 in
     rw all (reported_by (IsFieldFault word_field word) (IsStampedFault (moment ∷ word ∷ some.0 ∷ some.1)) e (λ c h. inr (good, inl h)) reported)
-
-pub event_fault : (moment word text : List ℕ) (texts : List (List ℕ)) (e : LineFault) → texts ≡ moment ∷ word ∷ fields text → IsGood moment_field moment → IsGood word_field word → IsReportedBy (IsEventFault (fields text)) e → IsReportedBy (IsStampedFault texts) e
-event_fault moment word text texts e is good word_good reported =
-    let some : (a : List ℕ) × (others : List (List ℕ)) × (fields text ≡ a ∷ others) = some_field text in
-    let all : texts ≡ moment ∷ word ∷ some.0 ∷ some.1 = is ∙ ap (λ t. moment ∷ word ∷ t) some.2 in
-    let there : IsReportedBy (IsEventFault (some.0 ∷ some.1)) e = subst (λ t. IsReportedBy (IsEventFault t) e) some.2 reported in
-    rw all (reported_by (IsEventFault (some.0 ∷ some.1)) (IsStampedFault (moment ∷ word ∷ some.0 ∷ some.1)) e (λ c h. inr (good, inr (word_good, h))) there)

@@ -37,7 +37,3 @@ read_kind script.Server n answered texts read c t f = t
 pub read_line : (r : ReaderSeen) (text : List ℕ) (closed : Bool) (read : ScriptLine) (c : ℕ) → IsLine r text closed read → IsLineFault r text closed c → ⊥
 read_line r text closed read c t (inl f) = read_raw (r.lines + 1) text closed c t.0 f
 read_line r text closed read c t (inr f) = read_kind r.kind (r.lines + 1) r.answered (fields text) read c t.1 f.1
-
-pub no_line : (r : ReaderSeen) (text : List ℕ) (closed : Bool) (e : BadLine) → IsBadLine r text closed e → IsNoLine r text closed e
-no_line r text closed (bad.At number cause) reported = λ read t. read_line r text closed read cause t reported.1
-no_line r text closed bad.NoMemory reported = tt

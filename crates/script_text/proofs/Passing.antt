@@ -30,10 +30,6 @@ AppendsPrefix-more a b xs ys h =
     let size : length (xs ++ ys) ≡ length xs + length ys = length-append xs ys in
     (h.0, omega (arith, size, within), subst (λ (t : List ℕ). Appends a b t) (sym (take-append-le h.0 xs ys within)) h.2)
 
--- nothing new, and nothing was written
-pub Passes-none : (a : Option (List ℕ)) (xs : List ℕ) → Passes a xs a xs []
-Passes-none a xs = record { prefix = []; joined = append-nil xs; taken = Appends-none a }
-
 -- all that waited was written
 pub Passes-all : (a b : Option (List ℕ)) (xs : List ℕ) → Appends a b xs → Passes a xs b [] []
 Passes-all a b xs h = record { prefix = xs; joined = refl; taken = h }

@@ -2,6 +2,8 @@
 #![tactic(auto)]
 
 #[cfg(test)]
+mod drain_tests;
+#[cfg(test)]
 mod exchange;
 #[cfg(test)]
 mod link_server_tests;

@@ -72,10 +72,6 @@ or_twice true true c e = refl
 or_twice false b c e = refl
 or_twice true false c e = absurd (cc)
 
-or_false : (a : Bool) → (a || false) ≡ a
-or_false true = refl
-or_false false = refl
-
 -- a key more in a set
 any_inserted : (p : Key → Bool) (key : Key) → ((x : Key) → key_cmp key x ≡ Equal → p key ≡ p x) → (xs : List Key)
     → list_any p (insert_key key_cmp xs key) ≡ (p key || list_any p xs)

@@ -23,14 +23,6 @@ json_reports kinds (json.Number at) r h = ap (config_at kinds) h
 json_reports kinds json.TooLong r h = ap (config_at kinds) h
 json_reports kinds json.NoMemory r h = tt
 
-pub json_never : (f : JsonFault) → json_reported f ≡ reported.Json json.NoMemory → ⊥
-json_never (json.Syntax at) h = cc
-json_never (json.RepeatedKey at) h = cc
-json_never (json.TooDeep at) h = cc
-json_never (json.Number at) h = cc
-json_never json.TooLong h = cc
-json_never json.NoMemory h = cc
-
 -- any other fault
 exactly : (f : Fault) (r : Result Config Fault) → Fails f r → FailsBy (reported_of f) (reported_by r)
 exactly (fault.Wrong p) r h = ap reported_by h
@@ -42,11 +34,3 @@ exactly fault.NoMemory r h = tt
 pub fault_reports : (f : Fault) (e : ConfigFault) (r : Result Config Fault) → ((e ≡ reported_of f) ⊎ (e ≡ reported.NoMemory)) → Fails f r → FailsBy e (reported_by r)
 fault_reports f e r (inl is) h = subst (λ (x : ConfigFault). FailsBy x (reported_by r)) (sym is) (exactly f r h)
 fault_reports f e r (inr is) h = subst (λ (x : ConfigFault). FailsBy x (reported_by r)) (sym is) tt
-
-pub fault_never : (f : Fault) (e : ConfigFault) → ((e ≡ reported_of f) ⊎ (e ≡ reported.NoMemory)) → e ≡ reported.Json json.NoMemory → ⊥
-fault_never f e (inr is) h = cc
-fault_never (fault.Wrong p) e (inl is) h = cc
-fault_never (fault.BothPolicies i) e (inl is) h = cc
-fault_never (fault.RepeatedName i j) e (inl is) h = cc
-fault_never fault.NoSupportedPolicy e (inl is) h = cc
-fault_never fault.NoMemory e (inl is) h = cc

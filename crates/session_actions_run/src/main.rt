@@ -20,10 +20,10 @@ use std::alloc::Global;
 use std::io;
 use std::process::ExitCode;
 
-/// What is reported of words that are not known.
+/// What is said of words that are not known.
 const WORDS_FAULT: &[u8] = b"fault words\n";
 
-/// Reports that a word is not known, and gives the status of the program.
+/// Says that a word is not known, and gives the status of the program.
 fn report_words<K: Sink>(sink: &mut K) -> u8 {
     match write_text(sink, WORDS_FAULT) {
         Ok(()) => 2,

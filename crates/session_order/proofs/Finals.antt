@@ -1,4 +1,4 @@
--- Where calls are notified of something that leaves alone which ends count and which attempts are over, it is as final as before which end is so.
+-- Where something is posted to calls that leaves alone which ends count and which attempts are over, it is as final as before which end is so.
 use Rattle.std.proofs.Common.{◌≡◌, ◌-◌, ◌∷◌, ◌||◌, ◌&&◌, not, nat_le, ap, refl, ◌∙◌, Bool, List, [], Option, None, Some, ℕ, cond, filter, if◌then◌else◌, is_none, is_some, max, slice_get, suc, zero}
 use Rattle.std.specs.Option.{option_map_or}
 use Rattle.std.specs.Prelude.{filter_map, fold}
@@ -50,7 +50,7 @@ rows_same : (g h : Mark → Option ℕ) → ((m : Mark) → g m ≡ h m) → (ma
 rows_same g h same [] = refl
 rows_same g h same (m ∷ marks) = rows_by m g h marks (h m) (same m) refl (rows_same g h same marks)
 
--- another session with the same attempts, configs and runs, where calls were notified of something
+-- another session with the same attempts, configs and runs, where something was posted to calls
 module _ (s u : Seen) (cs : List Call) (messages : Call → List (List ℕ)) (finished : Call → Bool) (taken : Call → ℕ) (end_taken : Call → Bool)
     (counts : (k : ℕ) (a : Attempt) → numbered s.attempts k ≡ Some a → (e : RowEnd) → counts_by a (record u { calls = cs; attempts = s.attempts; configs = s.configs; runs = s.runs }) e ≡ counts_by a s e) where
   abbrev t : Seen
@@ -116,14 +116,6 @@ module _ (s u : Seen) (cs : List Call) (messages : Call → List (List ℕ)) (fi
 
   last_same : (c : Call) → last_counted (d c) t ≡ last_counted c s
   last_same c = ap last_of (rows_same (λ (m : Mark). counted_row t m.what) (λ (m : Mark). counted_row s m.what) (λ m. row_same m.what) c.marks)
-
-  going_one : ((a : Attempt) → is_over a t ≡ is_over a s) → (c : Call) (a : Attempt) → (is_of c a && (is_outstanding a || is_queued a t)) ≡ (is_of c a && (is_outstanding a || is_queued a s))
-  going_one overs c a = ap (λ (x : Bool). is_of c a && (is_outstanding a || ((is_none a.row.placed && is_none a.row.ended) && not x))) (overs a)
-
-  pub going_same : ((a : Attempt) → is_over a t ≡ is_over a s) → (c : Call) → has_going (d c) t ≡ has_going c s
-  going_same overs c =
-      any_same (λ (a : Attempt). is_of c a && (is_outstanding a || is_queued a t)) (λ (a : Attempt). is_of c a && (is_outstanding a || is_queued a s))
-      (going_one overs c) s.attempts
 
   final_by : (p : CallPlan) (c : Call) → has_going (d c) t ≡ has_going c s → (a : Attempt) (e : RowEnd) → is_final_by p (d c) a t e ≡ is_final_by p c a s e
   final_by plan.None c going a e = refl

@@ -14,10 +14,6 @@ pub some_or : {X : Type 0} (o p : Option X) → is_some (option_or o p) ≡ (is_
 some_or None p = refl
 some_or (Some x) p = refl
 
-pub some_if : {X : Type 0} (b : Bool) (o : Option X) → is_some (if b then o else None) ≡ (b && is_some o)
-some_if true o = refl
-some_if false o = refl
-
 pub some_one : {X : Type 0} (b : Bool) (x : X) → is_some (if b then Some x else None) ≡ b
 some_one true x = refl
 some_one false x = refl

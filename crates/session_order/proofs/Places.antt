@@ -221,9 +221,6 @@ reset_now s number (Some a) h =
     link_now (with_attempt with_reset_queued a.place s) (λ (l : Link). record l { owed = l.owed ++ rst_stream_frame (stream_number a) number ∷ [] }) (λ l. refl)
     (link_number a) (attempt_now s with_reset_queued (λ x. refl) a.place h)
 
-held_now : (config : Config) (t : Option Throttle) (run : Option ℕ) (s : Seen) → IsInPlace s → IsInPlace (with_config config run s)
-held_now config t run s h = beside s (with_config config run s) refl refl refl refl refl h
-
 throttled_now : (config : Config) (t : Throttle) (run : Option ℕ) (s : Seen) → IsInPlace s → IsInPlace (with_throttled config t run s)
 throttled_now config t (Some run) s h = beside s (with_config config (Some run) s) refl refl refl refl refl h
 throttled_now config t None s h = beside s (with_config config (Some (length s.runs + 1)) (with_run t s)) refl refl refl refl refl h

@@ -172,7 +172,7 @@ pub unresolved_leaves : StirsOnly action.ResolutionFailed
 unresolved_leaves o s e fits l p is not_stirred h =
     plain_answered reply.Done o (resolver_answered s) e (plain_as o.event event.ResolveFailed fits plain_unresolved) l (answered_still s l o h) p is
 
--- a call that is notified of something, but for its messages
+-- a call to which something is posted, but for its messages
 module _ (s : Seen) (n : ℕ) (finished : Call → Bool) (taken : Call → ℕ) (end_taken : Call → Bool) where
   abbrev messages : Call → List (List ℕ)
   messages c = c.messages

@@ -1,4 +1,4 @@
--- What an application reports to a call or takes of it, and what is marked of it, stirs no line but those that look at it.
+-- What an application posts to a call or takes of it, and what is marked of it, stirs no line but those that look at it.
 use Rattle.std.proofs.Common.{◌≡◌, ◌&&◌, not, ap, refl, ◌∙◌, Bool, List, Option, ℕ, is_none, is_some, None, Some, option_map, sym, ◌==◌, ◌||◌, true, false}
 use Rattle.std.proofs.lemmas.Bool.{eqb-false, eqb-true}
 use Rattle.std.specs.List.{list_any}
@@ -28,7 +28,7 @@ use Rattle.session_order.proofs.Limits.{headed_in, limits_reset, long_response, 
 use Rattle.session_order.proofs.Lists.{any_in, any_same, holds_same}
 use Rattle.session_order.specs.Quiescent.{is_overflowing, is_to_cut, is_to_end, is_to_reset}
 
--- a call of which this was reported
+-- a call after that
 abbrev pub retold : (Call → List (List ℕ)) → (Call → Bool) → (Call → ℕ) → (Call → Bool) → (Call → List Mark) → Call → Call
 retold messages finished taken end_taken marks c =
     record c { messages = messages c; finished = finished c; taken = taken c; end_taken = end_taken c; marks = marks c }

@@ -58,7 +58,7 @@ pub record EntriesStir : Type 0 where
   pub settles : StirsOnly action.SettlingBegins
   pub unresolved : StirsOnly action.ResolutionFailed
 
--- what an application reports to a call or takes of it
+-- what an application posts to a call or takes of it
 pub record ApplicationsStir : Type 0 where
   pub accepted : (call : ℕ) → StirsOnly (action.MessageAccepted call)
   pub finished : (call : ℕ) → StirsOnly (action.RequestFinished call)

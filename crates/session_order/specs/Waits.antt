@@ -1,4 +1,4 @@
--- An entry ends exactly where nothing is due that could be done. How a session is kept is the channel's own; that each thing is done at its moment, and
+-- An entry ends exactly where nothing is due that could be done. How a session is kept is the channel's own. That each thing is done at its moment, and
 -- not left for a later entry, is what gRFC A6, "Connection Backoff Protocol", "gRPC Connectivity Semantics and API", "Load Balancing in gRPC" and
 -- "gRPC Wait for Ready Semantics" say of it.
 -- Example: hedgingDelay is 1 s, and the first attempt of a call was placed at 0 s. An entry of moment 1 s does not end before the second attempt is

@@ -30,8 +30,8 @@ pub fn links_stir()
     ensures { LinksStir }
 {}
 
-/// An entry ends exactly where nothing is due that could be done by now: no attempt that is due is not made, none is queued that the current policy would
-/// serve, no call lacks a config that is there, no backoff is over and no dial overdue, no policy waits that may take over, no wished subchannel is IDLE
+/// An entry ends exactly where nothing is due that could be done by now. No attempt that is due is not made, none is queued that the current policy would
+/// serve, and no call lacks a config that is there. No backoff is over and no dial overdue, no policy waits that may take over, no wished subchannel is IDLE
 /// (gRFC A6, "Retry Policy" and "Hedging Policy"; "Connection Backoff Protocol"; "gRPC Connectivity Semantics and API"; "Load Balancing in gRPC").
 pub fn entries_end_where_nothing_waits()
     ensures { EndsWhereNothingWaits }
@@ -62,7 +62,7 @@ pub fn calls_stir()
     ensures { CallsStir }
 {}
 
-/// An attempt that is made with a number of its own, is placed, or has its stream reset stirs no line; one that gets its call stirs those by which the
+/// An attempt that is made with a number of its own, is placed, or has its stream reset stirs no line. One that gets its call stirs those by which the
 /// other attempts are cut and the call ends (of all these but for the line of final ends). An attempt that ends stirs the lines by which it is retried
 /// transparently, by which its call is committed or ends, and by which its stream is reset (gRFC A6, "When Retries are Valid", "Transparent Retries" and
 /// "Summary of Retry and Hedging Logic"; RFC 9113, section 5.4.2).

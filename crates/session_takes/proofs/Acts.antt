@@ -120,7 +120,7 @@ module _ (s : Seen) (reached : IsReached s) (c : Call) (own : numbered s.calls c
       other (action.FrameWritten link x) (ap (λ (p : Option Link). is_number c.number (option_and_then (call_opened x s) p)) got) (ap (holds (stream_of_sent c s x)) got)
   written_by link x next (Some l) got = into (action.FrameWritten link x) 0 (written_goes s reached c own o current link x next l got)
 
-  -- an action that only reports to a call something
+  -- an action that only posts something to a call
   reported : (a : Action) (f : Call → Call) (call : ℕ) → ((d : Call) → own_key (f d) ≡ own_key d) → is_quiet a ≡ true → (after_in o a s).calls ≡ changed f call s.calls
       → (after_in o a s).attempts ≡ s.attempts → (after_in o a s).links ≡ s.links → Continues s (after a s) c 0
   reported a f call same quiet calls rows lines =
@@ -150,16 +150,6 @@ module _ (s : Seen) (reached : IsReached s) (c : Call) (own : numbered s.calls c
 
 -- between two entries only an entry may begin
 module _ (s : Seen) (reached : IsReached s) (c : Call) (own : numbered s.calls c.number ≡ Some c) where
-  idle_goes : Continues s s c 0
-  idle_goes = record {
-    call = c;
-    there = own;
-    number = refl;
-    taken = no_more c.taken;
-    step = step_moves c c s s refl (same_moves (is_some c.end) s s (commitment c s) (commitment c s) refl (λ k e. refl));
-    settles = λ h. h;
-  }
-
   never_idle : (a : Action) → s.current ≡ None → following s ≡ Some a → ⊥
   never_idle a none next = let bad : ◌≡◌ {A = Option Action} None (Some a) = sym (ap (option_and_then (following_in s)) none) ∙ next in (cc)
 

@@ -1,4 +1,4 @@
--- Between two entries a call has ended that is committed to an attempt with an end that counts; and what journal and ledger report of Takes.
+-- Between two entries a call has ended that is committed to an attempt with an end that counts; and what journal and ledger show of Takes.
 use Rattle.attempt_ledger.specs.Journals.{taken as reported}
 use Rattle.attempt_ledger.specs.declared.ledger.CallEnd.{CallEnd}
 use Rattle.attempt_ledger.specs.declared.ledger.Ledger.{Ledger}

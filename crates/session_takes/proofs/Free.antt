@@ -1,4 +1,4 @@
--- No attempt but a transparent retry is made of a call that is committed; and a call has ended, where an entry ends, whose attempt has an end that counts.
+-- No attempt but a transparent retry is made of a call that is committed. A call has ended, where an entry ends, whose attempt has an end that counts.
 -- every call that is committed was so since it got its config
 use Rattle.attempt_ledger.specs.Numbering.{is_transparent}
 use Rattle.attempt_ledger.specs.declared.ledger.CallEnd.{CallEnd}

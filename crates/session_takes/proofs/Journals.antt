@@ -1,4 +1,4 @@
--- So along every list of actions the journal, and the entry that is being made, report just what was taken.
+-- So along every list of actions the journal, and the entry that is being made, show just what was taken.
 use Rattle.attempt_ledger.specs.Journals.{taken as reported, taken_by as reported_by}
 use Rattle.channel_actions.proofs.Calls.Few.Reached.{reached_on}
 use Rattle.channel_actions.specs.FewCalls.Reached.{IsReached}

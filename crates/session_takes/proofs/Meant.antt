@@ -1,6 +1,6 @@
 -- What the line of an action says of it, as far as what a call has leans on it.
 -- (an attempt that is made is a transparent retry, or the next one of its call: as `transparent_retries` of `channel_actions` says it)
--- an attempt that ends now, as the session says it; one that is placed, which was on no link
+-- an attempt that ends now, as the session says it. One that is placed, which was on no link
 use Rattle.attempt_ledger.specs.declared.row.RowEnd.{RowEnd}
 use Rattle.channel_actions.proofs.TransparentRetries.Fits.{IsNew, IsWanted}
 use Rattle.grpc_base.specs.declared.event.EndCause.{EndCause}

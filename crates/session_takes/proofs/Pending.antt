@@ -1,5 +1,5 @@
--- What the entry that is being made has to report a call, and what an action does to it.
--- what it reports so far; and before its event it was not answered
+-- What the entry that is being made shows of a call, and what an action does to it.
+-- what it shows so far; and before its event it was not answered
 use Rattle.attempt_ledger.specs.Journals.{taken_by as reported_by}
 use Rattle.attempt_ledger.specs.Ends.{is_cut}
 use Rattle.attempt_ledger.specs.Numbering.{is_transparent}

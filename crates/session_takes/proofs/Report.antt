@@ -1,5 +1,5 @@
--- The journal reports just what was taken.
--- of an event that is no Take nothing is reported
+-- The journal shows just what was taken.
+-- an event that is no Take shows nothing
 use Rattle.attempt_ledger.specs.Journals.{items_in, taken_by as reported_by}
 use Rattle.attempt_ledger.specs.declared.ledger.CallEnd.{CallEnd}
 use Rattle.attempt_ledger.specs.declared.row.RowEnd.{RowEnd}
@@ -82,7 +82,7 @@ if_none : (b : Bool) → ◌≡◌ {A = List Reply} (if b then [] else []) []
 if_none true = refl
 if_none false = refl
 
--- a reply that is no item reports nothing
+-- a reply that is no item shows nothing
 no_item : (k : ℕ) (e : Event) (r : Reply) → items_in r ≡ [] → reported_by k e r ≡ []
 no_item k (event.Take call) r none = ap (λ (l : List Reply). if call == k then l else []) none ∙ if_none (call == k)
 no_item k _ r none = refl
@@ -166,7 +166,7 @@ module _ (k : ℕ) (s : Seen) (reached : IsReached s) (o : OpenEntry) (current :
   fits : (a : Action) → following s ≡ Some a → FitsNow a o s
   fits a next = next_actions_fit o s a kept early current next
 
-  -- what is reported after it, beside what is reported before it
+  -- what is shown after it, beside what is shown before it
   pub record ReportsThat (a : Action) (t : Seen) : Type 0 where
     pub entries : t.entries ≡ s.entries
     pub pends : pending k t.current ≡ pending k s.current ++ taken_by k a

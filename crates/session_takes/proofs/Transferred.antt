@@ -1,4 +1,4 @@
--- To which attempts a call is committed, said of the list of attempts: all have one number; and one with a later one of its number never left the client, for one that
+-- To which attempts a call is committed, said of the list of attempts: all have one number. One with a later one of its number never left the client, for one that
 -- the server did not process is retried only while its call is not committed.
 use Rattle.attempt_ledger.specs.TransparentRows.{is_unsent}
 use Rattle.attempt_ledger.specs.declared.row.RowEnd.{RowEnd}

@@ -1,4 +1,4 @@
--- What the journal of a session reports of a call, for whoever knows the journal and the ledger alone: they are those of a list of actions (`IsConsistent`).
+-- What the journal of a session shows of a call, for whoever knows the journal and the ledger alone: they are those of a list of actions (`IsConsistent`).
 -- Example: the Takes of call 1 in the journal reported a head, the message `ab` and the end OK. In its list of actions call 1 is committed to an attempt whose
 -- response is this head and `ab`, and which ended with OK.
 use Rattle.std.specs.List.{list_any}

@@ -43,7 +43,7 @@ OnlyCallsAreTaken =
     (setup : Setup) (actions : List Action) (s : Seen) → Does actions (new_session setup) s
     → (k : ℕ) → numbered s.calls k ≡ None → taken_in k actions ≡ []
 
--- what a call has is the prefix of what it has later
+-- what a call has is a prefix of what it has later
 abbrev pub ItemsStay : Type 0
 ItemsStay =
     (setup : Setup) (actions more : List Action) (s t : Seen) → Does actions (new_session setup) s → Does more s t
@@ -77,7 +77,7 @@ EndsComeAtOnce =
     (setup : Setup) (actions : List Action) (s : Seen) → Does actions (new_session setup) s → s.current ≡ None
     → (k : ℕ) (c : Call) → numbered s.calls k ≡ Some c → (b : EndsByAttempt s c) → available c s ≡ whole_response b.attempt b.end s
 
--- between two entries the journal reports just these: its Takes of the call were answered with them, in this order
+-- between two entries the journal shows just these: its Takes of the call were answered with them, in this order
 abbrev pub JournalsReport : Type 0
 JournalsReport =
     (setup : Setup) (actions : List Action) (s : Seen) → Does actions (new_session setup) s → s.current ≡ None → (k : ℕ) → taken k s.entries ≡ taken_in k actions

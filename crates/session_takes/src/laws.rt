@@ -12,7 +12,7 @@ pub fn takes_are_first()
 {}
 
 /// Between two entries the journal reports just what was taken of each call: its Takes were answered with these items, in this order. So of a journal and a
-/// ledger that are those of a session, the Takes of a call reported the first items of what the call has; and where its attempt ended by itself, the head, each
+/// ledger that are those of a session, the Takes of a call reported the first items of what the call has. Where its attempt ended by itself, the head, each
 /// message and the end of the response, all of them once an end was reported (gRPC over HTTP/2, "Responses").
 pub fn journals_report()
     ensures taken { JournalsReport }

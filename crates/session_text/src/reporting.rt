@@ -65,7 +65,7 @@ fn report_line<K: Sink>(
     write_text(report, text.as_slice())
 }
 
-/// The line that reports a bad line.
+/// The line for a bad line.
 fn line_fault(alloc: Global, line: u64, cause: u8) -> Result<Text, NoMemory>
     ensures { IfOk result (λ t. t ≡ line_fault_text line cause) }
 {

@@ -1,4 +1,4 @@
--- A history that is nearly full: it stays so, and a step that finds no room reports it.
+-- A history that is nearly full: it stays so, and a step that finds no room says so.
 use Rattle.std.proofs.Common.{◌≡◌, ◌≤◌, ◌∙◌, ◌↔◌, ◌||◌, ℕ, ◌+◌, Bool, true, false, Result, Err, List, length, ap, arith, inl, inr, length-append, sym}
 use Rattle.std.proofs.Math.Nat.{min-le_left}
 use Rattle.std.proofs.lemmas.List.Sums.{sum_by-append}

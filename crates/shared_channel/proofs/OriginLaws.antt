@@ -1,4 +1,4 @@
--- An origin reports the authority of its channel, and how its policies look.
+-- An origin says the authority of its channel, and how its policies look.
 use Rattle.std.proofs.Common.{◌≡◌, ◌∙◌, ◌==◌, if◌then◌else◌, ℕ, List, [], ◌∷◌, ◌++◌, ap, drop, length, refl, subst, sym, take}
 use Rattle.std.proofs.Math.Seq.{drop-append_seam, take-append_seam}
 use Rattle.grpc_base.specs.Kinds.{kind_number}
@@ -26,7 +26,7 @@ kind_back kind.PickFirst = refl
 kind_back kind.RoundRobin = refl
 kind_back kind.Priority = refl
 
--- the numbers of looks report the looks
+-- the numbers of looks decide the looks
 abbrev looks_back : List ℕ → List (Kind × ℕ)
 looks_back (n ∷ (width ∷ numbers)) = (kind_of_number n, width) ∷ looks_back numbers
 looks_back _ = []
@@ -47,7 +47,7 @@ abbrev afterwards_of : List ℕ → List ℕ
 afterwards_of [] = []
 afterwards_of (n ∷ numbers) = numbers
 
--- what has run with an origin has run with the authority and the policies that the origin reports
+-- what has run with an origin has run with the authority and the policies that the origin says
 pub run_of : (authority : List ℕ) (policies : List PolicySeen) (origin : List ℕ) (core : CoreSeen) → origin ≡ origin_of authority policies → HasRun origin core
     → (events : List Stamped) × HasRunBy authority policies events core
 run_of authority policies origin core is run =

@@ -25,10 +25,6 @@ words_on next after words rest first others zero = first
 words_on next after words rest first others (suc k) =
     others k ∙ ap (λ (n : ℕ). words_of next words n) (ap (λ (n : ℕ). suc n) (add-one k) ∙ sym (add-one (suc k)))
 
-pub words_from : (next : ℕ) (words rest : ℕ → ℕ) → next ≡ words 0 → ((k : ℕ) → rest k ≡ words (k + 1)) → (k : ℕ) → words_of next rest k ≡ words k
-words_from next words rest first others zero = first
-words_from next words rest first others (suc k) = others k ∙ ap words (add-one k)
-
 -- the entries of a list of places
 entries_append : (xs ys : List (ℕ × Entry)) → entries_of (xs ++ ys) ≡ entries_of xs ++ entries_of ys
 entries_append [] ys = refl
@@ -37,11 +33,6 @@ entries_append (x ∷ xs) ys = ap (λ (es : List Entry). x.1 ∷ es) (entries_ap
 is_error : (e : Event) (old new : CoreSeen) (error : PostError) → Fails e old error new → IsErrorOf e error
 is_error e old new (failed.NoMemory spent) f = tt
 is_error e old new (failed.SessionFull entries octets) f = f.1.1
-
--- what one step appends
-pub step_appends : (s : Stamped) (old new : CoreSeen) (result : Result Reply PostError) → StepGives s old result new → StartsWith new.journal.entries old.journal.entries
-step_appends s old new (Ok r) did = (_, did.0.journal)
-step_appends s old new (Err error) did = ([], fails_same s.event old new error did ∙ sym (append-nil old.journal.entries))
 
 -- the handle's entries after a post
 posts_by : (may_give : ℕ → Type 0) (word : ℕ) (e : Event) (result : Result Reply PostError) (before after : SeatSeen Entry) (place : TakesPlace may_give word e result before after)

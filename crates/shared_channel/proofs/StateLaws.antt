@@ -1,4 +1,4 @@
--- The state that a history reports, and what one entry more does to it.
+-- The state that a history shows, and what one entry more does to it.
 use Rattle.std.proofs.Common.{◌≡◌, ◌≤◌, ◌<◌, ◌∙◌, ◌↔◌, ℕ, ◌+◌, Bool, true, false, ◌||◌, Result, Ok, Err, IfOk, List, [], ◌∷◌, ◌++◌, length, refl, sym, ap, subst, inl, length-append, arith}
 use Rattle.std.proofs.Math.Nat.{lt_of_not-le}
 use Rattle.grpc_base.specs.Conns.{conn_number}
@@ -19,20 +19,6 @@ use Rattle.shared_channel.specs.Errors.{error_of}
 use Rattle.shared_channel.specs.Turns.{Fails}
 use Rattle.shared_channel.specs.Histories.{conn_of, has_shutdown, is_shutdown}
 
-pub conn_small : (c : Conn) → conn_number c < 8
-conn_small conn.Idle = omega arith
-conn_small conn.Connecting = omega arith
-conn_small conn.Ready = omega arith
-conn_small conn.Failure = omega arith
-conn_small conn.Shutdown = omega arith
-
-pub conn_back : (c : Conn) → conn_of (conn_number c) ≡ c
-conn_back conn.Idle = refl
-conn_back conn.Connecting = refl
-conn_back conn.Ready = refl
-conn_back conn.Failure = refl
-conn_back conn.Shutdown = refl
-
 or_assoc : (a b c : Bool) → ((a || b) || c) ≡ (a || (b || c))
 or_assoc true b c = refl
 or_assoc false b c = refl
@@ -40,12 +26,6 @@ or_assoc false b c = refl
 or_false : (a : Bool) → (a || false) ≡ a
 or_false true = refl
 or_false false = refl
-
-or_flip : (a b : Bool) → (a || b) ≡ (b || a)
-or_flip true true = refl
-or_flip true false = refl
-or_flip false true = refl
-or_flip false false = refl
 
 -- a Shutdown among the entries and one more
 pub shut_more : (es : List Entry) (e : Entry) → has_shutdown (es ++ e ∷ []) ≡ (has_shutdown es || is_shutdown e.event)
@@ -97,7 +77,7 @@ watched_more shut shuts es new e more is kept fits =
       omega (arith, length-append es (e ∷ []), fits),
     )
 
--- what an answer reports
+-- what an answer says
 pub ok_of : {A E : Type 0} (P : A → Type 0) (r : Result A E) (x : A) → r ≡ Ok x → IfOk r P → P x
 ok_of {A = A} {E = E} P r x is reported = let Q : Result A E → Type 0 = λ s. IfOk s P in subst Q is reported
 

@@ -1,4 +1,4 @@
--- What the history of a channel reports: its state, and whether it is nearly full.
+-- What the history of a channel shows: its state, and whether it is nearly full.
 use Rattle.std.specs.Prelude.{◌⊎◌, ℕ, ◌+◌, ◌<◌, ◌≤◌, ◌==◌, Bool, true, false, ◌||◌, if◌then◌else◌, List, [], ◌∷◌, length}
 use Rattle.grpc_base.specs.Conns.{conn_number}
 use Rattle.grpc_base.specs.declared.event.Conn.{Conn}

@@ -9,7 +9,7 @@ use Rattle.channel_core.specs.Core.{CoreSeen}
 use Rattle.journal_room.specs.Runs.{HasRunBy, looks_of}
 use Rattle.lb_policy.specs.Table.{PolicySeen}
 
--- what is under the lock: a channel, and the numbers that report with what it was new
+-- what is under the lock: a channel, and the numbers that say with what it was new
 pub record WatchedSeen : Type 0 where
   pub core : CoreSeen
   pub origin : List ℕ
@@ -19,7 +19,7 @@ abbrev pub look_numbers : List (Kind × ℕ) → List ℕ
 look_numbers [] = []
 look_numbers (look ∷ looks) = kind_number look.0 ∷ look.1 ∷ look_numbers looks
 
--- the numbers that report an authority and how policies look
+-- the numbers that say an authority and how policies look
 abbrev pub origin_of : List ℕ → List PolicySeen → List ℕ
 origin_of authority policies = length authority ∷ (authority ++ look_numbers (looks_of policies))
 

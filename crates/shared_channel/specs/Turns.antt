@@ -65,7 +65,7 @@ pub record TakesPlace (may_give : ℕ → Type 0) (word : ℕ) (event : Event) (
   pub parts : after.parts ≡ before.parts
   pub found : StartsWith after.found before.found
 
--- A look: what it reports is so of the channel under the lock, whose history begins with all that the handle had seen, and is then seen
+-- A look: what it shows is so of the channel under the lock, whose history begins with all that the handle had seen, and is then seen
 pub record Looks (reports_that : CoreSeen → Type 0) (before after : SeatSeen Entry) : Type 0 where
   pub core : CoreSeen
   pub reported : reports_that core
@@ -91,7 +91,7 @@ abbrev pub words_of : ℕ → (ℕ → ℕ) → ℕ → ℕ
 words_of next words zero = next
 words_of next words (suc k) = words k
 
--- what a look at a call reports
+-- what a look at a call shows
 abbrev pub CanTake : ℕ → Bool → CoreSeen → Type 0
 CanTake call answer core = (answer ≡ false) ↔ WouldReply core (event.Take call) reply.NotYet
 

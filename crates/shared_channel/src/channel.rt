@@ -25,7 +25,7 @@ use std::marker::Model;
 use std::sync::Wait;
 use turn_lock::TurnLock;
 
-/// A channel that threads share: its core under a lock at which handles take turns. The origin of the lock reports with what the channel
+/// A channel that threads share: its core under a lock at which handles take turns. The origin of the lock says with what the channel
 /// was new.
 #[derive(Drop)]
 pub struct SharedChannel<P: Balancer> {
@@ -84,7 +84,7 @@ impl<P: Balancer> SharedChannel<P> {
         self.lock.split_seat(seat)
     }
 
-    /// Takes in another handle: its parts, its own entries, and what it had seen. Then it looks at the start.
+    /// Takes in another handle: its parts, its own entries, and what it had seen. Then it looks at the history's `front`.
     pub fn join_seat(&self, seat: &mut Seat<P>, other: Seat<P>)
         requires lock { (seat.old.lock ≡ self.now) × (other.lock ≡ self.now) }
         ensures joined { seat.new ≡ record seat.old { seen = seat.new.seen; own = merged seat.old.own other.own; parts = seat.old.parts + other.parts } }

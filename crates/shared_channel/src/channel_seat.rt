@@ -38,7 +38,7 @@ where
     pub(crate) tally: Tally,
     /// Where its looks note that a link is given up.
     pub(crate) given_up: Option<GivenUp>,
-    /// What those that keep links open are to be reported of its posts.
+    /// What those that keep links open are to be notified of, of its posts.
     pub(crate) owed: Owed,
     ghost own: { seat.lock ≡ lock.now },
 }
@@ -66,7 +66,7 @@ impl<'a, P: Balancer, W, C: Clock, D: Draws> ChannelSeat<'a, P, W, C, D> {
         ensures other { Stands self.new.seat.seen other.own × Ascends 0 other.own }
         ensures kept { (self.new.clock.now ≡ self.old.clock.now) × (self.new.next ≡ self.old.next) × (self.new.draws ≡ self.old.draws) × (self.new.tally ≡ self.old.tally) }
     {
-        // The look reports the order of the other's entries, which the joined lists don't.
+        // The look shows the order of the other's entries, which the joined lists don't.
         self.lock.front(&mut other);
         self.lock.join_seat(&mut self.seat, other);
     }

@@ -1,8 +1,8 @@
-// What those that keep links open are still to be reported of a handle's posts.
+// What those that keep links open are still to be notified of.
 use gate_io::Woken;
 use grpc_base::Event;
 
-/// What a handle posted that may give them something to send, and of which they were not reported. A call that is sent whole at once goes out in
+/// What a handle posted that may give them something to send, and of which they were not notified. A call that is sent whole at once goes out in
 /// one piece, so its Begin and its first message wait for what comes after them: its Finish, a further message, or a wait of the handle.
 #[derive(Clone, Copy, Debug, PartialEq, Eq)]
 pub(crate) enum Owed {
@@ -49,7 +49,7 @@ impl Owed {
         }
     }
 
-    /// What is owed still once these were reported.
+    /// What is owed still once these were notified.
     pub(crate) fn left(self) -> Owed {
         match self {
             Owed::Call | Owed::Message => self,

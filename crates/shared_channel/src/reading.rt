@@ -13,7 +13,7 @@ pub trait Reading<P: Balancer> {
 
     ghost reads: { Self → CoreSeen → Self.Answer → Self → Type 0 };
 
-    /// Reads the channel, which stays as it is. It is reported where a step found the journal nearly full.
+    /// Reads the channel, which stays as it is. It says where a step found the journal nearly full.
     fn read(&mut self, core: &ChannelCore<P>, nearly_full: bool) -> Self::Answer
         requires { nearly_full ≡ true → IsNearlyFull core.now.journal.entries }
         ensures { reads self.old core.now result self.new };

@@ -211,7 +211,7 @@ impl<P: Balancer> Watched<P> {
         Some(PostError::NoMemory { spent })
     }
 
-    /// What a look reports: SHUTDOWN too where the channel can't go on.
+    /// What a look shows: SHUTDOWN too where the channel can't go on.
     pub fn view(&self) -> View
         ensures { ShowsView self.now.core result }
     {

@@ -91,6 +91,26 @@ fn a_take_polled_before_anything_has_come_is_pending(rt: HostRuntime) -> Result<
 }
 
 #[test]
+fn a_take_that_is_polled_is_of_the_call_that_was_named(rt: HostRuntime) -> Result<(), Fail> {
+    let alloc = rt.alloc();
+    let (channel, mut other) = make_channel(alloc)?;
+    let clock = ListClock::new(vec![in alloc; 0u64]?);
+    let seat = channel.split_seat(&mut other);
+    let mut handle = channel.seat(&rt, seat, &clock, PcgDraws::new(1));
+    begin(alloc, &mut handle)?;
+    begin(alloc, &mut handle)?;
+    report(&mut handle, Event::Cancel { call: 2 })?;
+    let task = MockTask::new(&rt)?;
+    assert!(rt;
+        is_pending(&task, &mut channel.take(&mut handle, 1)),
+        "nothing has come for call 1"
+    );
+    let taken = block_on(&rt, channel.take(&mut handle, 2))?;
+    assert!(rt; is_cancelled(&taken), "call 2 was given up");
+    Ok(())
+}
+
+#[test]
 fn an_awaited_take_ends_where_a_worker_lacked_memory_and_gives_what_has_come(
     rt: HostRuntime,
 ) -> Result<(), Fail> {

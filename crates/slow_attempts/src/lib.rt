@@ -1,5 +1,5 @@
 // Plain slow programs of what the history says of calls and their attempts, each of which computes one definition of
-// `session_actions`: the entry and the clock, what a call gets of the configs, attempts, tokens, and when the next attempt
+// `session_actions`. They are the entry and the clock, what a call gets of the configs, attempts, tokens, and when the next attempt
 // is due.
 #![tactic(auto)]
 

@@ -31,7 +31,7 @@ fn time_left(call: &Call, seen: &Seen) -> Option<u64>
     Some(deadline(call, seen)?.saturating_sub(now(seen).nanos()))
 }
 
-/// Whether so much time can be distinguished to the server.
+/// Whether so much time can be written to the server.
 fn can_distinguish(left: Option<u64>) -> bool
     ensures { IsTrue result ↔ IfSome left (λ t. (1 ≤ t) × (t ≤ duration_limit)) }
 {

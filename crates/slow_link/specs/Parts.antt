@@ -17,7 +17,7 @@ next_found (step.Whole len) = next.Whole len
 next_found step.Partial = next.Partial
 next_found (step.Fault fault) = next.Fault fault
 
--- a message before is there whole
+-- a message at the start is there whole
 abbrev pub WholeFits : MessageStep → List ℕ → Type 0
 WholeFits (step.Whole len) text = 5 + len ≤ length text
 WholeFits step.Partial text = Unit {0}

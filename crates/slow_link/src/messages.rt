@@ -87,7 +87,7 @@ pub(crate) fn next_message(limit: u32, text: &[u8]) -> MessageStep
     }
 }
 
-/// The length that a prefix reports, where all of it is there.
+/// The length that a prefix has, where all of it is there.
 fn length_reported(text: &[u8]) -> Option<u32>
     ensures { result ≡ length_reported text.now }
 {

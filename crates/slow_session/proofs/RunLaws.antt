@@ -37,13 +37,6 @@ one_more a s u t opening next made h = record {
 pub none_more : (s : Seen) → s.current ≡ None → Settles s s
 none_more s h = record { actions = []; does = refl; unposted = refl; between = h }
 
--- an event more before, and none
-pub one_event : (x : Stamped) (xs all : List Stamped) (s u t : Seen) → all ≡ x ∷ xs → Makes x s u → Plays xs u t → Plays all s t
-one_event x xs all s u t split made more = subst (λ (ys : List Stamped). Plays ys s t) (sym split) (u, made, more)
-
-pub no_event : (all : List Stamped) (s : Seen) → all ≡ [] → Plays all s s
-no_event all s none = subst (λ (ys : List Stamped). Plays ys s s) (sym none) refl
-
 -- actions after others
 does_more : (first more : List Action) (s t u : Seen) → Does first s t → Does more t u → Does (first ++ more) s u
 does_more [] more s t u h k = subst (λ (v : Seen). Does more v u) h k

@@ -122,17 +122,6 @@ next-afterwards prefix (s ∷ rest) n e =
 pub next-live : (subs : List SubRecord) (live : List ℕ) → live ≡ live_numbers 1 subs → next_of_numbers subs live ≡ next_of_all subs
 next-live subs live e = ap (next_of_numbers subs) e ∙ next-afterwards [] subs 1 refl
 
--- the sooner of three
-pub sooner_none : (a : Option ℕ) → sooner a None ≡ a
-sooner_none None = refl
-sooner_none (Some t) = refl
-
-pub sooner_assoc : (a b c : Option ℕ) → sooner (sooner a b) c ≡ sooner a (sooner b c)
-sooner_assoc None b c = refl
-sooner_assoc (Some t) None c = refl
-sooner_assoc (Some t) (Some u) None = refl
-sooner_assoc (Some t) (Some u) (Some v) = ap (λ (k : ℕ). Some k) (omega arith)
-
 -- a place of a list changed
 pub set-changed : (f : SubRecord → SubRecord) (xs : List SubRecord) (i : ℕ) (x y : SubRecord) → i < length xs → x ≡ get_or xs i x → y ≡ f x → slice_set xs i y ≡ changed f xs i
 set-changed f [] i x y h is new = absurd (omega arith)

@@ -1,4 +1,14 @@
-// Where a subchannel stands.
+// Where a subchannel stands ("gRPC Connectivity Semantics and API"; "Connection Backoff Protocol").
+//
+//   Idle ---> Waiting ---> Dialing ---> AwaitingPreface ---> Ready
+//     ^  wished     TakeDial  |  LinkUp        |  SETTINGS      |
+//     |                       |                |                | its link is lost, broken or retiring
+//     |       `until` came, or DialFailed      | or its link is |
+//     |                       v                v lost or broken |
+//     +---- `again` came --- Failure <---------+                |
+//     +---------------------------------------------------------+
+//
+// Shutdown comes from any of these, for good, once its address is in no list.
 
 /// A connectivity state with the moments that go with it, in nanoseconds.
 #[derive(Clone, Copy, Debug, PartialEq, Eq)]

@@ -83,9 +83,6 @@ module _ {E : Type 0} where
   pub starts_longer : (xs ys zs : List E) → StartsWith ys xs → StartsWith zs ys → StartsWith zs xs
   starts_longer xs ys zs v w = (v.0 ++ w.0, w.1 ∙ (ap (λ (l : List E). l ++ w.0) v.1 ∙ append_assoc xs v.0 w.0))
 
-  pub starts_at : (xs ys zs : List E) → ys ≡ xs → StartsWith ys zs → StartsWith xs zs
-  starts_at xs ys zs e w = subst (λ (l : List E). StartsWith l zs) e w
-
   -- what a history has more than its beginning
   pub rest_is : (history later : List E) → (w : StartsWith later history) → drop (length history) later ≡ w.0
   rest_is history later w = ap (drop (length history)) w.1 ∙ drop_at history w.0 (length history) refl

@@ -68,27 +68,6 @@ module _ {S E : Type 0} where
       (ap origin (sym same) ∙ y.kept ∙ y.from ∙ sym (third ∙ ap (λ (v : View E). v.origin) first), ap (λ (h : Hand S E). h.0.parts) p.2 ∙ ap (λ (v : View E). v.parts) first)
 
   module _ {A J : Type 0} (entries : S → List E) (origin : S → List ℕ) (runs : J → S → A → J → S → Type 0) (job : J) (answer : A) (job' : J) where
-    pub runs_turn : (m m2 m3 m4 : Hand S E) (start end : S) → Ready entries origin m m2 start end → runs job start answer job' end → StartsWith (entries end) (entries start)
-        → ((state : S) × (m2.1 ≡ (0, Some state) ∷ []) × (m3 ≡ (record m2.0 { seen = entries state; own = m2.0.own ++ places (length m2.0.seen) (drop (length m2.0.seen) (entries state)) }, m2.1)))
-        → m4 ≡ (record m3.0 { turn = false }, []) → RunsTurn entries origin runs job m answer job' m4
-    runs_turn m m2 m3 m4 start end y ran later p back =
-        let same : end ≡ p.0 = same_state m2.1 end p.0 (Some p.0) (ap (λ (h : Hand S E). h.1) y.hand) (in_hand m2.1 (0, Some p.0) [] p.1) refl in
-        let first : m2.0 ≡ m.0 = ap (λ (h : Hand S E). h.0) y.hand in
-        let third : m3.0 ≡ record m.0 { seen = entries end; own = m.0.own ++ places (length m.0.seen) (drop (length m.0.seen) (entries end)) } =
-        ap (λ (h : Hand S E). h.0) p.2
-        ∙ (λ i. record (first i) { seen = entries (sym same i); own = (first i).own ++ places (length (first i).seen) (drop (length (first i).seen) (entries (sym same i))) }) in
-        record {
-          start = start;
-          end = end;
-          held = y.held;
-          sees = y.sees;
-          from = y.from;
-          ran = ran;
-          kept = y.kept;
-          appends = later;
-          hand = back ∙ ap (λ (v : View E). (record v { turn = false }, [])) third;
-        }
-
     pub takes_turn : (lock lock' : TableId) (m m' m2 : Hand S E) (before : SeatSeen E) → seat_seen lock m.0 ≡ before → lock' ≡ lock → Won entries origin m m' → RunsTurn entries origin runs job m' answer job' m2
         → TakesTurn entries origin runs job before answer job' (seat_seen lock' m2.0)
     takes_turn lock lock' m m' m2 before is one w r =

@@ -1,5 +1,5 @@
--- The rule over the table of a lock, which holds between any two steps, and what each kind of step reports.
--- Word 0 is the prefix, eight times the length of the published history and its mark. Word 1 is the number of the handle
+-- The rule over the table of a lock, which holds between any two steps, and what each kind of step says.
+-- Word 0 is the `front`, eight times the length of the published history and its mark. Word 1 is the number of the handle
 -- that has the turn, or 0. Word 2 is the next number. The one slot has the state.
 use Rattle.std.specs.Prelude.{◌≡◌, ◌≢◌, ◌⊎◌, ℕ, ◌+◌, ◌-◌, ◌*◌, ◌<◌, ◌==◌, true, false, if◌then◌else◌, MatchBool, List, [], ◌∷◌, ◌++◌, length, drop, slice_index, Option, Some}
 use mathlib.Core.Option.{Option as Place, some}
@@ -83,7 +83,7 @@ module _ {S E : Type 0} where
   abbrev pub numbered : Step (Option S) → Hand S E → ℕ → Hand S E → Type 0
   numbered st m found m' = m' ≡ (record m.0 { number = if found == 0 then 1 else found }, m.1)
 
-  -- the prefix is read: the handle has then seen all of the published history
+  -- the `front` is read: the handle has then seen all of the published history
   abbrev pub looked : (List E → ℕ) → Step (Option S) → Hand S E → ℕ → Hand S E → Type 0
   looked mark st m found m' =
       (history : List E) × StartsWith history m.0.seen × StartsWith history m.0.reported × (found ≡ 8 * length history + mark history) × (mark history < 8)

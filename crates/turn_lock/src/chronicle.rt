@@ -8,7 +8,7 @@ pub trait Chronicle: Drop {
 
     ghost entries: { Self → List Self.Entry };
 
-    /// What a reader of the prefix learns of the history besides its length.
+    /// What a reader of the `front` learns of the history besides its length.
     ghost mark_of: { List Self.Entry → ℕ };
 
     /// What of the state no turn changes.

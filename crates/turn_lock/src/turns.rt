@@ -30,7 +30,7 @@ const NOBODY: u64 = 0;
 // The slot that has the state.
 const STATE: usize = 0;
 
-// A mark is below this, and the prefix is the count times it and the mark.
+// A mark is below this, and the `front` is the count times it and the mark.
 const MARKS: u64 = 8;
 
 // So many tries for a turn in a row come at once one after another, some ten microseconds in all: most turns are shorter.
@@ -49,8 +49,8 @@ fn wait_a_while<W: Wait>(rt: &W, tries: u64) {
     }
 }
 
-// The prefix of a state's history.
-fn prefix_of<S: Chronicle>(state: &S) -> u64
+// The `front` of a state's history.
+fn front_of<S: Chronicle>(state: &S) -> u64
     ensures front { result ≡ 8 * length (S.entries state.now) + S.mark_of (S.entries state.now) }
     ensures small { S.mark_of (S.entries state.now) < 8 }
 {
@@ -70,7 +70,7 @@ fn lay<S: Chronicle>(
 >
     ensures { IfOk result (λ r. (r.0.shared.table_id.words ≡ 3) × (r.0.shared.table_id.slots ≡ 1) × (r.1.table_id ≡ r.0.shared.table_id) × (S.origin r.0.shared.key.value ≡ S.origin state) × (r.1.me ≡ (first_view (S.origin state) (S.entries state), []))) }
 {
-    let opening = prefix_of(&state);
+    let opening = front_of(&state);
     let about = Snapshot::of(&state);
     let mut slots = Vec::new(alloc);
     slots.push(Some(state))?;
@@ -108,7 +108,7 @@ fn run_turn<S: Chronicle, J: Job<S>>(
 {
     let mut state = shared.exchange(inner, STATE, None).unwrap();
     let answer = job.run(&mut state);
-    let front = prefix_of(&state);
+    let front = front_of(&state);
     let _ = shared.exchange(inner, STATE, Some(state));
     shared.store::<Publish>(inner, FRONT, front);
     shared.store::<Release>(inner, HOLDER, NOBODY);
@@ -139,7 +139,7 @@ impl<S: Chronicle> TurnLock<S> {
         Seat { inner, number }
     }
 
-    /// Takes in another handle: its parts, its own entries, and what it had seen. Then it looks at the start.
+    /// Takes in another handle: its parts, its own entries, and what it had seen. Then it looks at the `front`.
     pub fn join_seat(&self, seat: &mut Seat<S>, other: Seat<S>)
         requires lock { (seat.old.lock ≡ self.now) × (other.lock ≡ self.now) }
         ensures joined { seat.new ≡ record seat.old { seen = seat.new.seen; own = merged seat.old.own other.own; parts = seat.old.parts + other.parts } }
@@ -151,7 +151,7 @@ impl<S: Chronicle> TurnLock<S> {
         self.table.shared.load::<Look>(&mut seat.inner, FRONT);
     }
 
-    /// The prefix of the history, which is then seen. Waits for nobody.
+    /// The `front` of the history, which is then seen. Waits for nobody.
     pub fn front(&self, seat: &mut Seat<S>) -> Front
         requires lock { seat.old.lock ≡ self.now }
         ensures front { (result.count ≡ length seat.new.seen) × (result.mark ≡ S.mark_of seat.new.seen) }

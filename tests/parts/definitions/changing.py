@@ -76,7 +76,7 @@ def doubled(actions, place, rng):
 
 
 def exchanged(actions, place, rng):
-    """An action and the first behind it that is another one change places."""
+    """An action and the first after it that is another one change places."""
     other = next((at for at in range(place + 1, len(actions)) if plain(actions[at]) != plain(actions[place])), None)
     if other is None:
         return exchanged(actions, 0, rng)
@@ -165,7 +165,7 @@ class ChangedRows:
         return [line.split(" ")[-1] for line in self.lines(name) if line.lstrip().startswith("EntryCloses")]
 
     def tried_state(self, name, rng):
-        """A journal in which one entry tells another state."""
+        """A journal in which one entry has another state."""
         journal = [STATES[entry.state.tag] for entry in self.session(name).seen.entries]
         place = rng.randrange(len(journal))
         changed = [*journal[:place], rng.choice([state for state in STATES.values() if state != journal[place]]), *journal[place + 1 :]]

@@ -1,4 +1,4 @@
-"""Definitions with one thing planted wrong, to show that the stored sessions tell them from the right ones.
+"""Definitions with one thing planted wrong, to show that the stored sessions distinguish them from the right ones.
 
 Of each: what is wrong, the file, its right text, the wrong one in its place, and a session that is no longer theirs.
 """
@@ -50,7 +50,7 @@ PLANTED = (
         WORKED + "channels/a-new-policy-takes-the-waiting-calls.report",
     ),
     (
-        "deadlines are looked at behind the event",
+        "deadlines are looked at after the event",
         ACTIONS,
         "first_action (next_deadline s ∷ event_action o.event s ∷ [])",
         "first_action (event_action o.event s ∷ next_deadline s ∷ [])",

@@ -97,7 +97,7 @@ class Tokens:
 
     def take(self, value):
         if not self.skip(value):
-            raise Unread(f"wanted {value!r} behind {self.tokens[max(0, self.at - 8) : self.at]}, got {self.peek()}")
+            raise Unread(f"wanted {value!r} after {self.tokens[max(0, self.at - 8) : self.at]}, got {self.peek()}")
 
 
 class Expressions(Tokens):
@@ -137,7 +137,7 @@ class Expressions(Tokens):
         return self.call()
 
     def bound_name(self):
-        """A name behind λ: alone, or in brackets with its type."""
+        """A name after λ: alone, or in brackets with its type."""
         if not self.skip("("):
             return self.next()[1]
         name, depth = self.next()[1], 1
@@ -185,7 +185,7 @@ class Expressions(Tokens):
         elif kind == "name":
             node = Name(value)
         else:
-            raise Unread(f"{value!r} begins no value, behind {self.tokens[max(0, self.at - 8) : self.at]}")
+            raise Unread(f"{value!r} begins no value, after {self.tokens[max(0, self.at - 8) : self.at]}")
         while self.peek()[0] == "member":
             node = Member(node, self.next()[1])
         return node

@@ -7,7 +7,7 @@ from .words import CONSTANTS, Record, Value, content, option
 
 PLAIN_TARGET, NAMED_TARGET = "ipv4:", "dns:"
 DEFAULT_PORT = 443
-BEHIND = ("row ", "end ", "fault ")
+AFTER_ENTRIES = ("row ", "end ", "fault ")
 MOST = {"moment": 4 * 10**18, "word": 2**64 - 1, "number": 2**32 - 1, "timeout": 10**18}
 MOST_MESSAGE, MOST_CONFIG, MOST_ADDRESSES, MOST_METADATA = 4194304, 65536, 64, 14336
 FORBIDDEN_NAMES = ("te", "content-type", "host", "connection", "keep-alive", "proxy-connection", "transfer-encoding", "upgrade")
@@ -171,9 +171,9 @@ def authority_of(target):
 
 
 def is_report(text):
-    """Whether a text is a report, and no script: its second line has a reply, or is a row or what stands behind the rows."""
+    """Whether a text is a report, and no script: its second line has a reply, or is a row or what stands after the rows."""
     line = text.split("\n", 2)[1] if "\n" in text else ""
-    return " = " in line or line.startswith(BEHIND)
+    return " = " in line or line.startswith(AFTER_ENTRIES)
 
 
 def posts_of(text):
@@ -181,12 +181,12 @@ def posts_of(text):
     if not is_report(text):
         return text
     lines = text.split("\n")
-    end = next((at for at, line in enumerate(lines) if line.startswith(BEHIND)), len(lines))
+    end = next((at for at, line in enumerate(lines) if line.startswith(AFTER_ENTRIES)), len(lines))
     return "\n".join(line.partition(" = ")[0] for line in lines[:end])
 
 
 def script_of(text):
-    """The script that a script or report holds; a fault names the line. Behind the entries of a report stand its rows."""
+    """The script that a script or report holds; a fault names the line. After the entries of a report stand its rows."""
     lines, has_rows, place = text.split("\n"), is_report(text), 1
     try:
         words = lines[0].split(" ")
@@ -195,7 +195,7 @@ def script_of(text):
         authority = authority_of(words[2])
         posts = []
         for place, line in enumerate(lines[1:], 2):
-            if (has_rows and line.startswith(BEHIND)) or (not line and place == len(lines)):
+            if (has_rows and line.startswith(AFTER_ENTRIES)) or (not line and place == len(lines)):
                 break
             if place == len(lines):
                 raise Fault("no line feed ends it")

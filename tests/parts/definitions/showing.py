@@ -68,7 +68,7 @@ class Shown:
         return f"    {action.tag:<18} {', '.join(held)}".rstrip()
 
     def lines_of(self, actions, journal):
-        """The lines of actions, one behind another; each that closes an entry has the state of the next of the journal."""
+        """The lines of actions, one after another; each that closes an entry has the state of the next of the journal."""
         lines, closed = [], 0
         for action in actions:
             lines.append(self.action_line(action, journal[min(closed, len(journal) - 1)]))

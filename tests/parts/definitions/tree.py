@@ -70,7 +70,7 @@ class Group(NamedTuple):
 
 
 class Cases(NamedTuple):
-    """A value that is told apart by patterns."""
+    """A value that patterns distinguish."""
 
     subject: object
     branches: tuple
@@ -95,7 +95,7 @@ class Nothing(NamedTuple):
 
 
 class First(NamedTuple):
-    """The pattern of a list with a first thing and those behind it."""
+    """The pattern of a list with a first thing and those after it."""
 
     head: object
     tail: object

@@ -159,9 +159,9 @@ def slice_set(things, index, thing):
     return (*things[:index], thing, *things[index + 1 :]) if index < len(things) else things
 
 
-def starts_with(is_equal, things, front):
-    part = things[: len(front)]
-    return len(part) == len(front) and all(map(is_equal, part, front))
+def starts_with(is_equal, things, prefix):
+    part = things[: len(prefix)]
+    return len(part) == len(prefix) and all(map(is_equal, part, prefix))
 
 
 def ends_with(is_equal, things, end):

@@ -10,13 +10,13 @@ use Rattle.call_cases.proofs.EndsFollow.Steps.{call_number}
 use Rattle.channel_actions.proofs.KeptSessions.Along.{kept_along, kept_stays}
 use Rattle.call_cases.proofs.LinkEnds.Ends.{cuts_are_reset}
 use Rattle.channel_actions.proofs.Links.Frames.Frame.{links_stay}
-use Rattle.channel_actions.proofs.Links.Frames.Untold.{actions_are_untold}
+use Rattle.channel_actions.proofs.Links.Frames.NoDifference.{actions_make_no_difference}
 use Rattle.channel_actions.specs.Calls.{HasSlot, lent_to}
 use Rattle.call_cases.specs.EndsFollow.Cuts.{StreamsAreReset, NoStreamIsToReset, is_unreset}
 use Rattle.call_cases.specs.EndsFollow.Laws.{IsSameRest, is_late}
 use Rattle.channel_actions.specs.KeptSessions.Kept.{IsKept}
 use Rattle.call_cases.specs.LinkEnds.Laws.{StreamsAreResetToo, with_cuts}
-use Rattle.channel_actions.specs.LinkFrames.Alike.{CannotDistinguish}
+use Rattle.channel_actions.specs.LinkFrames.Alike.{SeesNoDifference}
 use Rattle.channel_actions.specs.Links.{SeesLinks}
 use Rattle.attempt_cases.proofs.CallCommits.InOrder.{CommitsInOrder, commits_in_order}
 use Rattle.call_cases.proofs.CallEnds.On.{cuts_unposted, resets_unposted}
@@ -117,8 +117,8 @@ module _ (waits : Line → Bool) (n : ℕ) (why : CommitCause) (inbox : Inbox) (
   kept_b = subst IsKept after_commit (kept_stays s (action.CallCommitted k.place why) kept is.next)
 
   -- a commitment bears on no link
-  untold : CannotDistinguish (λ link. false) s b
-  untold = subst (CannotDistinguish (λ link. false) s) after_commit (actions_are_untold (action.CallCommitted k.place why) s kept tt)
+  no_difference : SeesNoDifference (λ link. false) s b
+  no_difference = subst (SeesNoDifference (λ link. false) s) after_commit (actions_make_no_difference (action.CallCommitted k.place why) s kept tt)
 
   abbrev b2 : Seen
   b2 = committed_seen waits n why o s next
@@ -128,7 +128,7 @@ module _ (waits : Line → Bool) (n : ℕ) (why : CommitCause) (inbox : Inbox) (
 
   links_b : SeesLinks x b
   links_b =
-      links_stay (λ link. false) x x s b is.agrees.links kept kept_b (λ link off. refl) untold
+      links_stay (λ link. false) x x s b is.agrees.links kept kept_b (λ link off. refl) no_difference
       (ap (λ (z : Seen). length z.links) b_is ∙ is.agrees.links.count) (λ link l on at. absurd (let bad : false ≡ true = on in (cc)))
 
   unreset_b : NoStreamIsToReset b

@@ -45,10 +45,6 @@ and_no : (p : Bool) → (p && false) ≡ false
 and_no true = refl
 and_no false = refl
 
-off_by : (a b : Bool) → a ≡ true → (a && b) ≡ false → b ≡ false
-off_by true b e f = f
-off_by false b e f = absurd (cc)
-
 none_of : {X : Type 0} (o : Option X) → is_some o ≡ false → o ≡ None
 none_of None e = refl
 none_of (Some x) e = absurd (cc)

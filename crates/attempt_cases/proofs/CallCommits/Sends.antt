@@ -119,9 +119,6 @@ module _ (n : ℕ) (why : CommitCause) (x y : StateSeen) (r : Reply) (o : OpenEn
   abbrev has : HasSlot z t c n
   has = led.agrees.calls.each n c led.there
 
-  own : c.number ≡ n
-  own = call_number n t.calls c led.agrees.kept.book.calls led.there
-
   abbrev to_commit : IsToCommit n p t
   to_commit = record {
     current = led.current;

@@ -28,7 +28,7 @@ use Rattle.grpc_base.specs.declared.event.Reply.TheVariants as reply
 use Rattle.channel_actions.specs.KeptSessions.Laws.{KeptAlong}
 use Rattle.channel_actions.specs.LinkFrames.Laws.{LinksStay}
 use Rattle.net_actions.specs.Laws.{DialsFail}
-use Rattle.attempt_cases.proofs.NetSteps.Alike.{untold_links_agree}
+use Rattle.attempt_cases.proofs.NetSteps.Alike.{links_without_difference_agree}
 use Rattle.channel_actions.proofs.BoardActions.Boards.{one_boarded}
 use Rattle.attempt_cases.proofs.NetSteps.Clocks.{clock_goes_on, entry_goes_on}
 use Rattle.attempt_cases.proofs.NetSteps.Stepped.{net_steps_keep}
@@ -135,7 +135,7 @@ module _ (exact : QuiescenceIsExact) (stir : BoardsStir) (fail : DialsFail) (cal
     generations = generations ∙ h.columns.generations;
     noted = noted ∙ h.columns.links;
     policy = λ held unshut. current_stays s t generations ∙ h.configs.policy held unshut;
-    links = untold_links_agree links_stay x y s t h.kept (kept_along (action.DialFails sub ∷ []) s t h.kept (event_next o s at timely (action.DialFails sub) (ap (λ (e : Event). event_action e s) brings ∙ next), sym does))
+    links = links_without_difference_agree links_stay x y s t h.kept (kept_along (action.DialFails sub ∷ []) s t h.kept (event_next o s at timely (action.DialFails sub) (ap (λ (e : Event). event_action e s) brings ∙ next), sym does))
         boarded (subbed_links (without_link conn.Failure) sub (wants_resolution s)) refl h.links;
     net = fail sub s x.net way.one h.net way.there way.dials;
     orderly = of_calls_is (net.net_dial_failed sub x.net) _ (unrefused x.net (net.net_dial_failed sub x.net) sub dial) (one_call_more (DialFailed sub) x.net h.orderly);

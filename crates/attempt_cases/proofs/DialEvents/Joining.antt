@@ -40,10 +40,10 @@ use Rattle.channel_actions.specs.KeptSessions.Laws.{KeptAlong}
 use Rattle.lb_policy.specs.Table.{is_ready}
 use Rattle.ledger_stamps.specs.Steps as stamps
 use Rattle.link_actions.specs.Sees.{AttemptsStandInPlace}
-use Rattle.channel_actions.specs.LinkFrames.Alike.{CannotDistinguish}
+use Rattle.channel_actions.specs.LinkFrames.Alike.{SeesNoDifference}
 use Rattle.channel_actions.specs.LinkFrames.Laws.{LinksStay}
 use Rattle.net_actions.specs.Laws.{DialsAreLinks}
-use Rattle.attempt_cases.proofs.NetSteps.Alike.{links_cannot_distinguish, still}
+use Rattle.attempt_cases.proofs.NetSteps.Alike.{links_see_no_difference, still}
 use Rattle.channel_actions.proofs.BoardActions.Boards.{one_boarded}
 use Rattle.channel_actions.proofs.BoardActions.Quiescent.{to_order}
 use Rattle.attempt_cases.proofs.NetSteps.Clocks.{clock_goes_on, entry_goes_on}
@@ -236,9 +236,9 @@ module _ (exact : QuiescenceIsExact) (stir : BoardsStir) (links_are : DialsAreLi
   abbrev touched : ℕ → Bool
   touched n = k == n
 
-  cannot_distinguish : CannotDistinguish touched s t
-  cannot_distinguish =
-      links_cannot_distinguish touched s t boarded
+  sees_no_difference : SeesNoDifference touched s t
+  sees_no_difference =
+      links_see_no_difference touched s t boarded
       (λ n m off there. (m, sym (but_last s.links l n (off_of n (length s.links) (length s.links) refl off)) ∙ sym (ap (λ (ls : List Link). numbered ls n) all_links) ∙ there, still m))
 
   rows : t.attempts ≡ s.attempts
@@ -285,7 +285,7 @@ module _ (exact : QuiescenceIsExact) (stir : BoardsStir) (links_are : DialsAreLi
   sees_links : SeesLinks y t
   sees_links =
       links_stay touched x y s t h.links h.kept later
-      (λ n off. but_last x.links (new_slot fresh_link) n (off_of n (length s.links) (length x.links) (sym h.links.count) off)) cannot_distinguish long has_by
+      (λ n off. but_last x.links (new_slot fresh_link) n (off_of n (length s.links) (length x.links) (sym h.links.count) off)) sees_no_difference long has_by
 
   agrees : Agrees y t
   agrees = net_steps_keep calls_stay sets_stay kept_along x y s t h (record {

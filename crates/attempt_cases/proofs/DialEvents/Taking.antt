@@ -41,7 +41,7 @@ use Rattle.net_actions.proofs.Subs.{SaysSame, found_same}
 use Rattle.net_actions.proofs.Views.{Found, found_in}
 use Rattle.net_actions.specs.Laws.{DialCountsFit, DialsAreTaken, IsTaken}
 use Rattle.net_actions.specs.Sees.{IsSub, Sees}
-use Rattle.attempt_cases.proofs.NetSteps.Alike.{untold_links_agree}
+use Rattle.attempt_cases.proofs.NetSteps.Alike.{links_without_difference_agree}
 use Rattle.channel_actions.proofs.BoardActions.Boards.{one_boarded}
 use Rattle.channel_actions.proofs.BoardActions.Quiescent.{to_order}
 use Rattle.attempt_cases.proofs.NetSteps.Clocks.{clock_goes_on, entry_goes_on}
@@ -261,7 +261,7 @@ module _ (exact : QuiescenceIsExact) (stir : BoardsStir) (take : DialsAreTaken) 
     generations = generations ∙ h.columns.generations;
     noted = noted ∙ h.columns.links;
     policy = λ held unshut. current_stays s t generations ∙ h.configs.policy held unshut;
-    links = untold_links_agree links_stay x y s t h.kept (kept_along (a ∷ []) s t h.kept (follows, sym does)) boarded
+    links = links_without_difference_agree links_stay x y s t h.kept (kept_along (a ∷ []) s t h.kept (follows, sym does)) boarded
         (subbed_links (with_dial taken.again taken.until) b.number s) refl h.links;
     net = sees_now;
     orderly = one_call_more (Dial x.book.moment w) x.net h.orderly;

@@ -52,9 +52,9 @@ use Rattle.channel_actions.proofs.KeptSessions.Along.{kept_along}
 use Rattle.channel_actions.specs.Calls.{SeesCalls}
 use Rattle.channel_actions.specs.KeptSessions.Kept.{IsKept}
 use Rattle.channel_actions.proofs.Links.Frames.Frame.{links_stay}
-use Rattle.channel_actions.proofs.Links.Frames.Distinguishing.{fewer_distinguish}
-use Rattle.channel_actions.proofs.Links.Frames.Untold.{lists_are_untold}
-use Rattle.channel_actions.specs.LinkFrames.Alike.{CannotDistinguish, Numbers}
+use Rattle.channel_actions.proofs.Links.Frames.Differences.{fewer_see_none}
+use Rattle.channel_actions.proofs.Links.Frames.NoDifference.{lists_make_no_difference}
+use Rattle.channel_actions.specs.LinkFrames.Alike.{SeesNoDifference, Numbers}
 use Rattle.channel_actions.specs.LinkFrames.Bears.{bear_on}
 use Rattle.net_actions.specs.Runs.{IsOfCalls}
 use Rattle.net_actions.specs.Sees.{Sees}
@@ -209,10 +209,10 @@ module _ (x y : StateSeen) (r : Reply) (o : OpenEntry) (s : Seen) (h : Agrees x 
     abbrev touched : Numbers
     touched k = l.number == k
 
-    cannot : CannotDistinguish touched s1 t
+    cannot : SeesNoDifference touched s1 t
     cannot =
-        fewer_distinguish (bear_on actions s1) touched s1 t (λ k e. none_borne l.number k run.sent s1 e)
-        (lists_are_untold actions s1 t (all_kept actions s1 t h1.kept run.does) (all_orderly l.number run.sent s1) run.does)
+        fewer_see_none (bear_on actions s1) touched s1 t (λ k e. none_borne l.number k run.sent s1 e)
+        (lists_make_no_difference actions s1 t (all_kept actions s1 t h1.kept run.does) (all_orderly l.number run.sent s1) run.does)
 
     slots : (k : ℕ) → touched k ≡ false → numbered y.links k ≡ numbered x.links k
     slots k e =

@@ -1,4 +1,4 @@
--- The links after a drain: the one that was drained agrees, with its readers and the lines of the session; and the others cannot distinguish.
+-- The links after a drain: the one that was drained agrees, with its readers and the lines of the session; and the others see no difference.
 use Rattle.std.proofs.Common.{◌≡◌, ◌-◌, ◌∷◌, ◌==◌, ◌||◌, ap, refl, sym, ◌∙◌, Bool, false, List, [], Option, None, Some, ℕ, drop, is_some, length, map, min, slice_get}
 use Rattle.std.proofs.Math.Nat.{zero-min}
 use Rattle.std.specs.Option.{option_map_or}
@@ -20,7 +20,7 @@ use Rattle.channel_actions.proofs.KeptSessions.Along.{kept_stays}
 use Rattle.channel_actions.specs.KeptSessions.Kept.{IsKept}
 use Rattle.link_actions.proofs.DataSent.{IsShare, share_found}
 use Rattle.channel_actions.proofs.Links.Frames.Streams.{streams_still}
-use Rattle.channel_actions.proofs.Links.Frames.Distinguishing.{untold}
+use Rattle.channel_actions.proofs.Links.Frames.Differences.{no_difference}
 use Rattle.channel_actions.specs.LinkFrames.Alike.{Numbers}
 use Rattle.channel_actions.specs.LinkFrames.Bears.{ActionsAreOrderly, bear_on}
 use Rattle.channel_actions.specs.LinkFrames.Laws.{SessionsAreKept}
@@ -101,7 +101,7 @@ read_then l s rs k = record { each = λ row. of_responses s (readers.attempt_on 
 pub own_lines : (m : Link) (t : Seen) (w : Wire) (g : ℕ → Line) → IsKept t → SeesStreams m t w g → SeesStreams m t w (lines_in m t)
 own_lines m t w g kept is =
     let none : Numbers = λ k. false in
-    streams_still m m t t none refl kept.owned (all_at_places t.attempts kept.attempts) (untold none t).attempts w g (record { number = refl; traffic_ = refl; owed = refl }) is is.sees.at
+    streams_still m m t t none refl kept.owned (all_at_places t.attempts kept.attempts) (no_difference none t).attempts w g (record { number = refl; traffic_ = refl; owed = refl }) is is.sees.at
     is.sees.places
 
 -- the slot of the link
@@ -123,7 +123,7 @@ drained_slot l s t before slot sent g kept goes sees is streams reads fresh =
       };
     }
 
--- what is written is reported by the other links neither
+-- and what is written makes no difference to the other links
 pub all_kept : (actions : List Action) (s t : Seen) → IsKept s → Does actions s t → SessionsAreKept actions s
 all_kept [] s t kept does = kept
 all_kept (a ∷ actions) s t kept does = (kept, all_kept actions (after a s) t (kept_stays s a kept does.0) does.1)

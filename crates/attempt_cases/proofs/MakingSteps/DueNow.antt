@@ -110,11 +110,6 @@ late_after s c m is_open next off =
 abbrev pub stripped : Bool → CallSlot → CallSlot
 stripped b slot = if b then without_due slot else slot
 
-not_none : (a b : Bool) → a ≡ true → (a && not b) ≡ false → b ≡ true
-not_none true true e f = refl
-not_none true false e f = absurd (let bad : true ≡ false = f in (cc))
-not_none false b e f = absurd (let bad : false ≡ true = e in (cc))
-
 pub not_of : (b : Bool) → not b ≡ true → b ≡ false
 not_of true e = absurd (let bad : false ≡ true = e in (cc))
 not_of false e = refl

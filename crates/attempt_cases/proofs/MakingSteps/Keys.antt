@@ -122,14 +122,6 @@ key_of moment (t ∷ ts) p h e past = by_past (nat_le t.0 moment) refl (is_same 
     by_past true now c is e rest = by_same c is e rest
     by_past false now c is e rest = absurd (let bad : false ≡ true = sym (not_past c is e now) ∙ past in (cc))
 
-later_all : (test : ℕ × ℕ → Bool) (moment : ℕ) (timers : List (ℕ × ℕ)) → list_all test timers ≡ true → list_all test (later moment timers) ≡ true
-later_all test moment [] e = refl
-later_all test moment (t ∷ ts) e = by_past (nat_le t.0 moment) (later_all test moment ts (and_parts (test t) (list_all test ts) e).1)
-  where
-    by_past : (b : Bool) → list_all test (later moment ts) ≡ true → list_all test (if b then later moment ts else t ∷ ts) ≡ true
-    by_past true rest = rest
-    by_past false rest = e
-
 pub later_rising : (moment : ℕ) (timers : List (ℕ × ℕ)) → PairsAreRising timers → PairsAreRising (later moment timers)
 later_rising moment [] h = tt
 later_rising moment (t ∷ ts) h = by_past (nat_le t.0 moment) (later_rising moment ts h.1)
@@ -141,10 +133,6 @@ later_rising moment (t ∷ ts) h = by_past (nat_le t.0 moment) (later_rising mom
 and_none : (a : Bool) → (a && false) ≡ false
 and_none true = refl
 and_none false = refl
-
-and_all : (a : Bool) → (a && true) ≡ a
-and_all true = refl
-and_all false = refl
 
 pub later_has : (moment : ℕ) (timers : List (ℕ × ℕ)) (p : ℕ × ℕ) → PairsAreRising timers → has (later moment timers) p ≡ (has timers p && not (nat_le p.0 moment))
 later_has moment [] p h = refl

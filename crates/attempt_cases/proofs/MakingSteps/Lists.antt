@@ -33,10 +33,6 @@ pub all_last : {X : Type 0} (P : X → Type 0) (xs : List X) (y : X) → AllByRe
 all_last P [] y all one = (one, tt)
 all_last P (x ∷ xs) y all one = (all.0, all_last P xs y all.1 one)
 
-pub all_turned : {X : Type 0} (P Q : X → Type 0) → ((x : X) → P x → Q x) → (xs : List X) → AllByRecursion P xs → AllByRecursion Q xs
-all_turned P Q turn [] all = tt
-all_turned P Q turn (x ∷ xs) all = (turn x all.0, all_turned P Q turn xs all.1)
-
 -- what is read of calls
 holds_mapped : {X : Type 0} (f : X → X) (G : X → Bool) → ((x : X) → G (f x) ≡ G x) → (o : Option X) → holds G (option_map f o) ≡ holds G o
 holds_mapped f G same None = refl

@@ -39,7 +39,7 @@ use Rattle.channel_actions.specs.Calls.{HasSlot, SeesCall, deadline_of, due_of, 
 use Rattle.channel_actions.specs.Columns.{SeesColumns}
 use Rattle.channel_actions.specs.Configs.{SeesBuckets, bucket_in, runs_in_turn}
 use Rattle.channel_actions.specs.KeptSessions.Kept.{IsKept}
-use Rattle.channel_actions.specs.LinkFrames.Alike.{CannotDistinguish}
+use Rattle.channel_actions.specs.LinkFrames.Alike.{SeesNoDifference}
 use Rattle.channel_actions.specs.LinkFrames.Bears.{bears_on}
 use Rattle.channel_actions.specs.Links.{SeesLinks}
 use Rattle.call_cases.specs.OtherCalls.Laws.{SetsApart}
@@ -404,8 +404,8 @@ module _ (frames : Frames) (tokens_stay : TokensStay) (fair : LinesAreFair) (tur
     count = changed_length noted c.number s.calls ∙ h.calls.count ∙ sym (set_length x.book.calls (c.number - 1) slot2)
 
     -- the links
-    cannot : CannotDistinguish (bears_on does_it s) s t
-    cannot = subst (CannotDistinguish (bears_on does_it s) s) made_is (frames.untold does_it s h.kept tt)
+    cannot : SeesNoDifference (bears_on does_it s) s t
+    cannot = subst (SeesNoDifference (bears_on does_it s) s) made_is (frames.no_difference does_it s h.kept tt)
 
     links : SeesLinks y t
     links = frames.links (bears_on does_it s) x y s t h.links h.kept kept (λ link e. refl) cannot h.links.count (λ link l e f. absurd (let bad : false ≡ true = e in (cc)))

@@ -317,7 +317,7 @@ module _ (frames : Frames) (tokens_stay : TokensStay) (fair : LinesAreFair) (wit
     -- the links
     links : SeesLinks y t
     links =
-        frames.links (bears_on does_it s) x y s t h.links h.kept kept (λ link e. refl) (frames.untold does_it s h.kept tt) h.links.count
+        frames.links (bears_on does_it s) x y s t h.links h.kept kept (λ link e. refl) (frames.no_difference does_it s h.kept tt) h.links.count
         (λ link l e f. absurd (let bad : false ≡ true = e in (cc)))
 
     -- the sets

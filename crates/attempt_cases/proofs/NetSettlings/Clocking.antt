@@ -25,7 +25,7 @@ use Rattle.channel_actions.specs.KeptSessions.Kept.{IsKept, came_up, is_sound_su
 use Rattle.channel_actions.specs.KeptSessions.Laws.{KeptAlong}
 use Rattle.lb_policy.specs.Table.{is_ready}
 use Rattle.ledger_stamps.specs.Steps.{changed_at, gone_link}
-use Rattle.channel_actions.specs.LinkFrames.Alike.{CannotDistinguish}
+use Rattle.channel_actions.specs.LinkFrames.Alike.{SeesNoDifference}
 use Rattle.channel_actions.specs.LinkFrames.Laws.{LinksStay}
 use Rattle.net_actions.proofs.Subs.{Both, both_at}
 use Rattle.net_actions.specs.Laws.{ClockChanges, EndsBackoff, TimesOut}
@@ -35,7 +35,7 @@ use Rattle.attempt_cases.proofs.NetSettlings.Overdue.{fails, gives_up, none_stil
 use Rattle.attempt_cases.proofs.NetSettlings.Unlinked.{joined_after, link_if, same_links, subs_after}
 use Rattle.attempt_cases.proofs.NetSettlings.Stamped.{map_stamped, stamp_over}
 use Rattle.channel_actions.specs.PrefacedLinks.Joined.{PrefacedLinksAreJoined}
-use Rattle.attempt_cases.proofs.NetSteps.Alike.{links_cannot_distinguish, still, untold_links_agree}
+use Rattle.attempt_cases.proofs.NetSteps.Alike.{links_see_no_difference, still, links_without_difference_agree}
 use Rattle.channel_actions.proofs.BoardActions.Boards.{boards_leave_rest, one_boarded, subbed}
 use Rattle.channel_actions.proofs.BoardActions.Quiescent.{of_order}
 use Rattle.attempt_cases.proofs.NetSteps.Clocks.{entry_goes_on, now_goes_on}
@@ -223,7 +223,7 @@ module _ (exact : QuiescenceIsExact) (stir : BoardsStir) (clocks : ClockChanges)
           → map (λ (g : PolicyUse). g.generation) u.policies ≡ map (λ (g : PolicyUse). g.generation) t.policies → PrefacedLinksAreJoined u → IsAmid x o s (left n l.gone) u
       unlinked n same quiescent sees generations joined =
           further (left n l.gone) quiescent sees generations joined
-          (untold_links_agree links_stay (z l) (z (left n l.gone)) t u kept kept_on one_on same refl m.links)
+          (links_without_difference_agree links_stay (z l) (z (left n l.gone)) t u kept kept_on one_on same refl m.links)
           (noted_same t u one_on entry_on shut same ∙ m.noted)
 
     -- the subchannel that the clock changes
@@ -382,9 +382,9 @@ module _ (exact : QuiescenceIsExact) (stir : BoardsStir) (clocks : ClockChanges)
               ap (λ (ls : List LinkSlot). numbered ls n) (slots_more l.gone k x.links)
               ∙ number_other marked_dead (slots_after l.gone x.links) k n (λ e. eqb-false k n off (sym e))
 
-          untold : CannotDistinguish touched t u
-          untold =
-              links_cannot_distinguish touched t u on
+          no_difference : SeesNoDifference touched t u
+          no_difference =
+              links_see_no_difference touched t u on
               (λ n w off is.
               (w, sym (ap (λ (ls : List Link). numbered ls n) u_links ∙ changed_away gives_up k n t.links (λ e. eqb-false k n off (sym e))) ∙ is, still w))
 
@@ -408,7 +408,7 @@ module _ (exact : QuiescenceIsExact) (stir : BoardsStir) (clocks : ClockChanges)
 
           sees_links : SeesLinks (z f) u
           sees_links =
-              links_stay touched (z l) (z f) t u m.links kept later slots untold long
+              links_stay touched (z l) (z f) t u m.links kept later slots no_difference long
               (λ n w is has. let number : k ≡ n = eqb-true k n is in
               subst (HasLink (z f) u w) number (has_it w (ap (numbered u.links) number ∙ has)))
 

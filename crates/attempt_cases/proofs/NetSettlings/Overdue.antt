@@ -58,13 +58,6 @@ beside_by L z n (Some b) = refl
 beside : (L : List Link) (z : Seen) (n : ℕ) → with_sub fails n (record z { links = L }) ≡ record (with_sub fails n z) { links = L }
 beside L z n = beside_by L z n (numbered (changed fails n z.subs) n)
 
-unchanged_if : (xs : List Link) (k : ℕ) (o : Option Link) → numbered xs k ≡ o → o ≡ None → changed_if gives_up k xs o ≡ xs
-unchanged_if xs k None e none = refl
-unchanged_if xs k (Some l) e none = absurd (cc)
-
-two_subs : (x : Option Link) (l m : Link) → x ≡ Some l → x ≡ Some m → l ≡ m
-two_subs x l m e f = (cc)
-
 and_no : (a b c : Bool) → a ≡ true → ((a && b) || c) ≡ false → b ≡ false
 and_no true true c e h = absurd (cc)
 and_no true false c e h = refl
@@ -93,9 +86,6 @@ module _ (t : Seen) (o : OpenEntry) (n : ℕ) (b : Subchannel) (at : numbered t.
   module _ (k : ℕ) (own : b.link ≡ Some k) (l : Link) (there : numbered t.links k ≡ Some l) where
     abbrev w : Seen
     w = link_over over.TimedOut k v
-
-    there_v : numbered v.links k ≡ Some l
-    there_v = ap (λ (ls : List Link). numbered ls k) v_links ∙ there
 
     away : (m : ℕ) → (m ≡ k → ⊥) → numbered w.links m ≡ numbered v.links m
     away m off = changed_away gives_up k m v.links off

@@ -28,7 +28,7 @@ use Rattle.attempt_cases.proofs.NetSettlings.Clocking.{board_on, first_true, no_
 use Rattle.attempt_cases.proofs.NetSettlings.Unlinked.{joined_after, same_links, subs_after}
 use Rattle.attempt_cases.proofs.NetSettlings.Starting.{AreIdleIn, IsIdleIn, starting_state}
 use Rattle.channel_actions.specs.PrefacedLinks.Joined.{PrefacedLinksAreJoined}
-use Rattle.attempt_cases.proofs.NetSteps.Alike.{untold_links_agree}
+use Rattle.attempt_cases.proofs.NetSteps.Alike.{links_without_difference_agree}
 use Rattle.channel_actions.proofs.BoardActions.Boards.{one_boarded, subbed}
 use Rattle.channel_actions.proofs.BoardActions.Quiescent.{of_order}
 use Rattle.attempt_cases.proofs.NetSteps.Clocks.{entry_goes_on, now_goes_on}
@@ -320,7 +320,7 @@ module _ (exact : QuiescenceIsExact) (stir : BoardsStir) (overs : TakeOversAreSa
           (λ j k c here has. subs_after (in_state conn.Connecting) (λ d i e. e) sub t b there j k c (ap (λ (bs : List Subchannel). numbered bs j) (sym (subbed_subs (in_state conn.Connecting) sub t)) ∙ here) has)
           (λ j w here. same_links t j w (ap (λ (ls : List Link). numbered ls j) (sym (subbed_links (in_state conn.Connecting) sub t)) ∙ here))
           (ap (λ (v : Seen). v.attempts) (subbed (in_state conn.Connecting) sub t));
-      links = untold_links_agree links_stay x x t u kept (kept_along (a ∷ []) t u kept (next, sym does)) boarded (subbed_links (in_state conn.Connecting) sub t) refl m.links;
+      links = links_without_difference_agree links_stay x x t u kept (kept_along (a ∷ []) t u kept (next, sym does)) boarded (subbed_links (in_state conn.Connecting) sub t) refl m.links;
       noted = noted_same t u boarded (entry_goes_on t u o o boarded m.current current) shut (subbed_links (in_state conn.Connecting) sub t) ∙ m.noted;
       clock = clock;
     }

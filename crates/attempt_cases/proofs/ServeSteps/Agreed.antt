@@ -9,9 +9,9 @@ use Rattle.channel_actions.specs.Calls.{SeesCalls}
 use Rattle.channel_actions.specs.Columns.{SeesColumns}
 use Rattle.channel_actions.specs.KeptSessions.Kept.{IsKept}
 use Rattle.channel_actions.specs.KeptSessions.Laws.{KeptAlong}
-use Rattle.channel_actions.specs.LinkFrames.Alike.{CannotDistinguish}
+use Rattle.channel_actions.specs.LinkFrames.Alike.{SeesNoDifference}
 use Rattle.channel_actions.specs.LinkFrames.Bears.{bears_on}
-use Rattle.channel_actions.specs.LinkFrames.Laws.{ActionsAreUntold, LinksStay}
+use Rattle.channel_actions.specs.LinkFrames.Laws.{ActionsMakeNoDifference, LinksStay}
 use Rattle.channel_actions.specs.Links.{SeesLinks}
 use Rattle.call_cases.specs.OtherCalls.Laws.{AllCallsStay, SetsApart, SetsStay}
 use Rattle.call_cases.specs.OtherCalls.Others.{BooksApart, GoesApart, IsBooked}
@@ -50,7 +50,7 @@ live_is g (Some k) None live addresses policies is u = absurd u
 live_is g (Some k) (Some p) None addresses policies is u = absurd u
 live_is g (Some k) (Some p) (Some c) addresses policies is u = (c, refl)
 
-module _ (calls_stay : AllCallsStay) (sets_stay : SetsStay) (links_stay : LinksStay) (untold : ActionsAreUntold) (kept_along : KeptAlong) (answered : AsksAreAnswered)
+module _ (calls_stay : AllCallsStay) (sets_stay : SetsStay) (links_stay : LinksStay) (no_difference : ActionsMakeNoDifference) (kept_along : KeptAlong) (answered : AsksAreAnswered)
     (p : ℕ × ℕ) (x : StateSeen) (o : OpenEntry) (s0 : Seen) where
   abbrev s : Seen
   s = with_open o s0
@@ -135,8 +135,8 @@ module _ (calls_stay : AllCallsStay) (sets_stay : SetsStay) (links_stay : LinksS
     calls : SeesCalls y t
     calls = calls_stay 0 x y s t goes books h.calls h.calls.count (λ c at. no_call _ c at)
 
-    cannot : CannotDistinguish (bears_on does_it s) s t
-    cannot = untold does_it s h.kept tt
+    cannot : SeesNoDifference (bears_on does_it s) s t
+    cannot = no_difference does_it s h.kept tt
 
     links : SeesLinks y t
     links = links_stay (bears_on does_it s) x y s t h.links h.kept kept (λ link e. refl) cannot h.links.count (λ link l e f. absurd (let bad : false ≡ true = e in (cc)))
@@ -158,8 +158,8 @@ module _ (calls_stay : AllCallsStay) (sets_stay : SetsStay) (links_stay : LinksS
       };
     }
 
-pub asks_agree : AllCallsStay → SetsStay → LinksStay → ActionsAreUntold → KeptAlong → AsksAreAnswered → AsksAgree
-asks_agree calls_stay sets_stay links_stay untold kept_along answered p x o s h current may k =
+pub asks_agree : AllCallsStay → SetsStay → LinksStay → ActionsMakeNoDifference → KeptAlong → AsksAreAnswered → AsksAgree
+asks_agree calls_stay sets_stay links_stay no_difference kept_along answered p x o s h current may k =
     let P : Seen → Type 0 = λ u. Agrees x u → (k : AskNext p u) → HasAsked p k.policy x u in
-    let whole : P (with_open o s) = λ agrees next. has_asked calls_stay sets_stay links_stay untold kept_along answered p x o s agrees may next in
+    let whole : P (with_open o s) = λ agrees next. has_asked calls_stay sets_stay links_stay no_difference kept_along answered p x o s agrees may next in
     subst P (sym (is_with_open o s current)) whole h k

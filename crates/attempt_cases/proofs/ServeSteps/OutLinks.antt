@@ -5,7 +5,7 @@ use Rattle.call_actions.proofs.Places.{place_is}
 use Rattle.call_actions.proofs.Ranks.{numbered_map}
 use Rattle.call_actions.proofs.TakeActions.Retold.{read_same}
 use Rattle.channel_actions.proofs.Stamps.{counted_at}
-use Rattle.channel_actions.specs.LinkFrames.Alike.{CannotDistinguish}
+use Rattle.channel_actions.specs.LinkFrames.Alike.{SeesNoDifference}
 use Rattle.channel_actions.specs.LinkFrames.Bears.{bears_on}
 use Rattle.channel_actions.specs.Links.{HasLink, IsGoing, SeesLinks, line_of, lines_in, no_line}
 use Rattle.channel_actions.specs.Readers.{SeesReaders}
@@ -168,10 +168,10 @@ module _ (x : StateSeen) (s : Seen) (is : OutNext x s) where
         let one : l ≡ m = same_some l m (numbered s.links is.at.link) is.link_there (ap (numbered s.links) here_is ∙ got) in
         subst (λ (n : ℕ). HasLink y t m n) here_is (subst (λ (q : Link). HasLink y t q is.at.link) one here_link)
 
-    cannot : CannotDistinguish (bears_on (base.does_it x s is) s) s t
+    cannot : SeesNoDifference (bears_on (base.does_it x s is) s) s t
     cannot =
-        subst (λ (u : Seen). CannotDistinguish (bears_on (base.does_it x s is) s) s u) (base.after_is x s is)
-        (laws.frames.untold (base.does_it x s is) s is.agrees.kept
+        subst (λ (u : Seen). SeesNoDifference (bears_on (base.does_it x s is) s) s u) (base.after_is x s is)
+        (laws.frames.no_difference (base.does_it x s is) s is.agrees.kept
         (λ z got. ap (λ (q : Attempt). q.row.placed) (same_some z a (numbered s.attempts row) got is.here) ∙ base.unplaced x s is))
 
     others_stay : (link : ℕ) → (is.at.link == link) ≡ false → numbered y.links link ≡ numbered x.links link

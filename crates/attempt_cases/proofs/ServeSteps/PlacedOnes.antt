@@ -215,9 +215,6 @@ module _ (p : ℕ × ℕ) (g : PolicyUse) (sub : ℕ) (a : Attempt) (x : StateSe
     abbrev z : StateSeen
     z = base.y x s goes
 
-    abbrev u : Seen
-    u = base.t x s goes
-
     is_z : settled_in p.0 p.1 at (offered at.link p.1 (limit_at (slot_at x.book p.0)) x) ≡ z
     is_z = ap (λ (n : ℕ). settled_in n p.1 at (offered at.link p.1 (limit_at (slot_at x.book n)) x)) (sym number_is) ∙ base.channel_is x s goes k.takes
 

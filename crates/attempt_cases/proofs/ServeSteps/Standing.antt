@@ -26,9 +26,6 @@ module _ (exact : QuiescenceIsExact) (stir : QueuesStir) (last p : ℕ × ℕ) (
   s = with_open o s0
 
   module _ (at : IsAt stage.Settling o s) (passing : IsPassing last o s) (k : AskNext p s) where
-    abbrev does_it : Action
-    does_it = action.PickRequested p.1 k.policy.number (answer_for k.policy s)
-
     abbrev t : Seen
     t = request_made p k.policy s
 

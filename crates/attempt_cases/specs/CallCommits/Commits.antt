@@ -41,7 +41,7 @@ use Rattle.session_order.specs.declared.line.Line.TheVariants as line
 abbrev pub commits_with : ℕ → Inbox → ℕ → Stepped → Stepped
 commits_with row inbox moment s = steps.committed row moment (record s { call = record s.call { buffer = committed_buffer row s.call.buffer; inbox = inbox } })
 
--- the commitment of the call of a number to an attempt is next, and what came of the response to this attempt is known; and once the call is committed, nothing
+-- the commitment of the call of a number to an attempt is next, and what came of the response to this attempt is known. Once the call is committed, nothing
 -- follows at once but that its other attempts are cut off, and what these lines give
 pub record CommitsNext (waits : Line → Bool) (number : ℕ) (why : CommitCause) (inbox : Inbox) (x : StateSeen) (o : OpenEntry) (s : Seen) : Type 0 where
   pub late : (l : Line) → waits l ≡ true → is_late l ≡ true

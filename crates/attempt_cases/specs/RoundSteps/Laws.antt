@@ -1,4 +1,4 @@
--- The rounds of a settling come to an end: each but the last makes an attempt or withholds a hedge, or places an attempt that waits or ends it; and what calls may
+-- The rounds of a settling come to an end: each but the last makes an attempt or withholds a hedge, or places an attempt that waits or ends it. What calls may
 -- still make, and the attempts that wait, are only so many.
 -- Example: one call, whose plan allows 3 hedges without a delay, on a channel that is READY. The first round makes attempt 1 and places it, the second attempt 2,
 -- and the third attempt 3; the fourth does nothing.

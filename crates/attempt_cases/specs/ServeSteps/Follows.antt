@@ -126,7 +126,7 @@ pub record GoesOut (p : ℕ × ℕ) (at : Placed) (y : StateSeen) (o : OpenEntry
   pub final : IsStill line.Final o (attempt_placed p.1 at s)
 
 -- what is asked of its call: all its messages are held for it from their first byte on; while the call is not committed, no more bytes are accepted than are kept for
--- attempts to come; and what is held for one row that goes on is held for no other, to which the call is committed
+-- attempts to come. What is held for one row that goes on is held for no other, to which the call is committed
 pub record IsHeldWhole (s : Seen) (c : Call) (b : Buffered) : Type 0 where
   pub whole : b.is_whole ≡ true
   pub text : text_of b ≡ framed_all c.messages

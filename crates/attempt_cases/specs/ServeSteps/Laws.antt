@@ -1,5 +1,5 @@
 -- One attempt of a pass asks for a pick (gRPC, "Load Balancing in gRPC"; "gRPC Wait for Ready Semantics"). The channel serves the first attempt after the last one that
--- waits and can be served; that is the one of the session that asks next, of the same policy, and gets the same answer; and channel and session agree after it.
+-- waits and can be served. That is the one of the session that asks next, of the same policy, and gets the same answer; and channel and session agree after it.
 -- Example: the attempts 1 of call 1 and 2 of call 2 wait, the policy is READY, and 1 was served. PickRequested 2, which is answered Place 1.
 use Rattle.std.specs.Prelude.{Some, nat_lt, true, ℕ, ◌≡◌}
 use Rattle.channel_actions.specs.Agrees.{Agrees}

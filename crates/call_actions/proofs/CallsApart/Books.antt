@@ -121,9 +121,6 @@ module _ (s : Seen) (book : IsBook s) where
   held config (Some t) = throttled config t (run_to_join t s) refl
 
 module _ (s : Seen) (book : IsBook s) where
-  abbrev same_moves : (t : Seen) → IsSame s t → Moves s t None
-  same_moves t e = moves_same s t book e
-
   read : (x : Result Config ConfigFault) → Moves s (config_read x s) None
   read (Ok config) =
       let z : Seen = replied reply.Done (resolver_answered s) in
@@ -226,10 +223,6 @@ module _ (s : Seen) (book : IsBook s) where
       let one : Moves s z None
       = attempt_moves (with_end e) a.place s book (λ q. refl) (λ q. refl) (λ q here has. absurd (not_both q a (some_one (numbered s.attempts a.place) q a here got) has unended)) in
       moves_on s z (marked (mark.Ended a.place) a.row.call z) None one (marks z one.book (mark.Ended a.place) a.row.call)
-
-  config_some : (o : Option ℕ) (k : ℕ) → o ≡ Some k → is_some o ≡ true
-  config_some None k e = absurd (cc)
-  config_some (Some j) k e = refl
 
   abbrev run_of_option : Option ℕ → Option ℕ
   run_of_option o = option_and_then (λ (h : HeldConfig). h.run) (option_and_then (numbered s.configs) o)

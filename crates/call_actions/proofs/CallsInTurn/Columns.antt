@@ -43,11 +43,6 @@ follow_so_by false false n m r wide e = refl
 follow_so_by false true n false r wide e = refl
 follow_so_by false true n true r wide e = sym (ap (λ (b : Bool). b && not r) (wide refl)) ∙ e
 
-not_so : (x y : Bool) → (y ≡ true → x ≡ true) → not x ≡ true → not y ≡ true
-not_so true y wide e = absurd (cc)
-not_so false true wide e = let both : false ≡ true = wide refl in absurd (cc)
-not_so false false wide e = refl
-
 pub and_so : (x y z : Bool) → (x ≡ true → y ≡ false → z ≡ false) → (x && y) ≡ false → (x && z) ≡ false
 and_so true y z so e = so refl e
 and_so false y z so e = refl

@@ -104,9 +104,6 @@ committing_keeps s c place a book k steady =
 
 -- an end: the run of the call's config may change with it
 module _ (s : Seen) (c : Call) (place : ℕ) (a : Attempt) (e : RowEnd) (k : IsOwn s c place a) (book : IsBook s) where
-  abbrev r : Seen
-  r = option_map_or (with_end_in_run a e s) (call_of a s) s
-
   runs_if : (b : Bool) (o : Option ℕ)
       → (if b then option_map_or (λ (run : ℕ). record s { runs = changed (more_ends a.place) run s.runs }) o s else s)
       ≡ record s { runs = if b then option_map_or (λ (run : ℕ). changed (more_ends a.place) run s.runs) o s.runs else s.runs }

@@ -26,7 +26,7 @@ use Rattle.std.proofs.Common.{Bool, List, None, Option, Some, [], ap, false, fol
 use Rattle.std.proofs.lemmas.Bool.{and_parts}
 use Rattle.std.specs.List.{list_all, list_any}
 
--- none of a stronger test
+-- none passes a stronger test
 none_own : (p : Attempt → Bool) (c : Call) → ((q : Attempt) → is_of c q ≡ false → p q ≡ false) → (xs : List Attempt) → list_any (is_of c) xs ≡ false → list_any p xs ≡ false
 none_own p c restricted xs none = any_none p (is_of c) restricted xs none
 

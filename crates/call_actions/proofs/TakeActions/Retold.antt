@@ -1,4 +1,4 @@
--- What an application reports to a call or takes of it leaves the rest of the call as it is: its attempts, and what came of its response. So does what the
+-- What an application posts to a call or takes of it leaves the rest of the call as it is: its attempts, and what came of its response. So does what the
 -- event of the entry is answered.
 use Rattle.std.proofs.Common.{◌≡◌, ◌+◌, ◌∷◌, ◌==◌, ap, refl, subst, sym, ◌∙◌, Bool, true, false, List, [], Option, None, Some, ℕ, if◌then◌else◌, is_some, length, slice_get, slice_set, suc, zero}
 use Rattle.std.proofs.lemmas.Bool.{eqb-false, eqb-true}
@@ -54,7 +54,7 @@ module _ {Y : Type 0} (f : Call → Call) (n : ℕ) (calls : List Call) (g : Cal
   pub read_same : (j : ℕ) → option_map_or g (numbered (changed f n calls) j) d ≡ option_map_or g (numbered calls j) d
   read_same j = or_by j (j == n) refl
 
--- the call of the channel, of which this was reported
+-- the call of the channel after that
 abbrev pub resumed : Bool → ℕ → Buffered → Inbox → Stepped → Stepped
 resumed finished longest_is buffer inbox x =
     record x { call = record x.call { is_finished = finished; longest = longest_is; buffer = buffer; inbox = inbox } }

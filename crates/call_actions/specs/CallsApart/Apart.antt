@@ -60,7 +60,7 @@ pub record IsApart (s t : Seen) (c : Call) : Type 0 where
   pub rows : (place : ℕ) → holds (is_of c) (numbered s.attempts place) ≡ true → numbered t.attempts place ≡ numbered s.attempts place
   pub throttle : option_map (λ run. run.throttle) (run_of c t) ≡ option_map (λ run. run.throttle) (run_of c s)
 
--- What a session keeps in order of all its calls: calls and attempts are numbered by their places; a call's config is there, and a config's run; and what
+-- What a session keeps in order of all its calls: calls and attempts are numbered by their places. A call's config is there, and a config's run; and what
 -- a bucket counted are ends of attempts of calls that have a config
 abbrev pub CallsAreNumbered : ℕ → List Call → Type 0
 CallsAreNumbered n [] = Unit {0}

@@ -1,5 +1,5 @@
 -- Ends of attempts after which a call goes on, or by which it ends. An end with a code of a hedged call's policy after which a further attempt is due lets the
--- call go on; a hedge that the tokens then forbid ends the call by the last end that counted; an end that no further attempt follows ends it at once, and cuts
+-- call go on; a hedge that the tokens then forbid ends the call by the last end that counted. An end that no further attempt follows ends it at once, and cuts
 -- off the attempts that go on; and the attempt to which a call is committed may be retried transparently (gRFC A6, "Hedging Policy", "Throttling Retry
 -- Attempts and Hedged RPCs" and "Transparent Retries").
 -- Example: hedgingDelay is 1 s, and attempt 1 ends at once with UNAVAILABLE, a code of the policy. Attempt 2 is due now. Where the tokens are not above half,

@@ -21,7 +21,7 @@ AttemptsAreCut number [] s t = (next_cut_of number s ≡ None) × (t ≡ s)
 AttemptsAreCut number (a ∷ actions) s t = (next_cut_of number s ≡ Some a) × AttemptsAreCut number actions (after a s) t
 
 -- an attempt to which its call can be committed: it is outstanding, the call is open and not committed, and no other attempt of the call that goes on has
--- its number (an attempt that follows another one transparently has the same number, and that one has ended)
+-- its number. (An attempt that follows another one transparently has the same number, and that one has ended)
 abbrev pub is_twin : Seen → Call → Attempt → Attempt → Bool
 is_twin s c k a = is_live s c a && (k.row.number == a.row.number) && not (k.place == a.place)
 

@@ -1,4 +1,4 @@
--- Once a call was notified of something, channel and session agree: where the channel changed the slot of that call alone, and the call's own agreement holds.
+-- Once an application posted something to a call, channel and session agree: where the channel changed the slot of that call alone, and the call's own agreement holds.
 use Rattle.call_actions.proofs.Lists.{changed_here}
 use Rattle.call_core.specs.declared.state.CallState.{CallState}
 use Rattle.call_cases.proofs.CallPosts.Fed.{link_reported}

@@ -1,4 +1,4 @@
--- An event by which a call is notified of something is answered so: one action, which leaves channel and session in agreement, and nothing follows at once.
+-- An event by which an application posts something to a call is answered so: one action, which leaves channel and session in agreement, and nothing follows at once.
 use Rattle.call_core.specs.declared.state.CallState.{CallState}
 use Rattle.call_cases.proofs.CallPosts.Agreeing.{IsPut, reported_agrees}
 use Rattle.call_cases.proofs.CallPosts.Report.{f, p, s, t}

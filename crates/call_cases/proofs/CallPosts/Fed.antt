@@ -1,4 +1,4 @@
--- What links are fed with, once a call was notified of something: each attempt on a link has the line that its call has then; and the responses are the same.
+-- What links are fed with, once an application posted something to a call: each attempt on a link has the line that its call has then; and the responses are the same.
 use Rattle.call_actions.proofs.Lists.{changed_away, changed_map}
 use Rattle.call_cases.proofs.CallPosts.Report.{f, p, s, t}
 use Rattle.channel_actions.proofs.Lines.{AtPlace, all_at_places, all_filter, all_sorted}
@@ -31,7 +31,7 @@ use Rattle.std.specs.Option.{option_map_or}
 use Rattle.link_actions.specs.StreamActions.Sees.{ResponsesAreReceived, IsReceived, SeesStreams}
 use Rattle.call_actions.proofs.TakeActions.Retold as before
 
--- the call of an attempt, reported or not
+-- the call of an attempt, that one or another
 pub record HasCall (f : Call → Call) (calls : List Call) (k : ℕ) (c : Call) : Type 0 where
   pub call : Call
   pub at : numbered calls k ≡ Some call

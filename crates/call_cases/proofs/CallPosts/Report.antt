@@ -1,4 +1,4 @@
--- A call is notified of something by its application, or something of it is taken, and the event of the entry is answered: what the session says of all calls, and
+-- An application posts something to its call, or something of it is taken, and the event of the entry is answered: what the session says of all calls, and
 -- of this one.
 use Rattle.a6_numbers.specs.Throttling.{Bucket}
 use Rattle.call_actions.proofs.Frames.{bucket_reported, due_same, retold}

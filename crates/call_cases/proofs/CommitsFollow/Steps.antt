@@ -198,9 +198,6 @@ module _ (waits : Line → Bool) (n : ℕ) (k : Attempt) (o : OpenEntry) (b v : 
   current_cut : u.current ≡ Some o
   current_cut = ap (λ (z : Seen). z.current) one.after_is
 
-  abbrev steady_call : Call
-  steady_call = mid.steady.call
-
   pub steady_cut : StaysSteady u n
   steady_cut =
       let c : Call = mid.steady.call in

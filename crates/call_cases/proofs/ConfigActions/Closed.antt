@@ -95,8 +95,5 @@ module _ (why : EndCause) (n : ℕ) (slot : CallSlot) (live : slot.call.live ≡
   pub closed_held : (s : StateSeen) → slot_at s.book n ≡ Some slot → s.resets ≡ [] → (closed why n s).held ≡ s.held
   closed_held s there unreset = ap (λ (y : StateSeen). y.held) (closed_is s there unreset)
 
-  pub closed_resets : (s : StateSeen) → slot_at s.book n ≡ Some slot → s.resets ≡ [] → (closed why n s).resets ≡ []
-  closed_resets s there unreset = ap (λ (y : StateSeen). y.resets) (closed_is s there unreset)
-
   pub closed_unconfigured : (s : StateSeen) → slot_at s.book n ≡ Some slot → s.resets ≡ [] → (closed why n s).unconfigured ≡ s.unconfigured
   closed_unconfigured s there unreset = ap (λ (y : StateSeen). y.unconfigured) (closed_is s there unreset)

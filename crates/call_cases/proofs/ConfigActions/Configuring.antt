@@ -89,7 +89,3 @@ module _ (n : ℕ) (config : Config) (slot : CallSlot) (open_now : slot.call.end
     configured_first held rest others =
         ap (λ (l : List (ℕ × ℕ)). record plain { awaiting_config = l; fail_fast = remove_key (is_same (0, n)) others }) (head_out (0, n) rest)
         ∙ sym (ap (λ (y : StateSeen). record y { awaiting_config = rest; fail_fast = remove_key (is_same (0, n)) others }) (configured_is held))
-
-    pub configured_away : z.held ≡ Some config → (m : ℕ) → (m == n) ≡ false → slot_at (configured_call n z).book m ≡ slot_at z.book m
-    configured_away held m away =
-        ap (λ (y : StateSeen). slot_at y.book m) (configured_is held) ∙ put_away z.book.calls n m slot (timed slot1) there away

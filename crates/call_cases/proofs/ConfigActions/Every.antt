@@ -13,7 +13,7 @@ use Rattle.channel_core.specs.Timing.{due_keys, later, number_of}
 use Rattle.call_cases.proofs.ConfigActions.Unserved.{below_all, is_zero, within_word}
 use Rattle.session_order.specs.ConfigStirs.Laws.{ConfigsStir}
 use Rattle.call_cases.specs.ConfiguredCalls.Laws.{CallsGetConfigs, Frames}
-use Rattle.channel_actions.specs.KeptCalls.Laws.{CallsAreUnconfigured, EarlyAlong}
+use Rattle.channel_actions.specs.KeptCalls.Laws.{UnconfiguredHaveNoAttempts, EarlyAlong}
 use Rattle.net_actions.specs.Laws.{ClockChanges, ClockRests, NoneConnects, TakeOversAreSame, WishesConnect}
 use Rattle.picker_gate.specs.Pairs.{has, is_same}
 use Rattle.service_config.specs.Choice.{chosen_for}
@@ -32,7 +32,7 @@ use Rattle.call_cases.proofs.ConfigActions.Tended.{Gets, OneServed, unconfigured
 use Rattle.call_cases.proofs.ConfigActions.Served.{long_served, own, served_tended, short_served}
 
 module _ (exact : QuiescenceIsExact) (stir : ConfigsStir) (clocks : ClockChanges) (rests : ClockRests) (overs : TakeOversAreSame) (wishes : WishesConnect) (nones : NoneConnects)
-    (gets : CallsGetConfigs) (frames : Frames) (along : EarlyAlong) (awaiting_configs : CallsAreUnconfigured) (config : Config) where
+    (gets : CallsGetConfigs) (frames : Frames) (along : EarlyAlong) (awaiting_configs : UnconfiguredHaveNoAttempts) (config : Config) where
   no_others_left : (s : Seen) (others : List (ℕ × ℕ)) (y : StateSeen) → Agrees y s → y.awaiting_config ≡ [] → y.fail_fast ≡ []
   no_others_left s others y h none =
       empty_by y.fail_fast (is_in_fail_fast s) h.sets.fail_fast

@@ -30,7 +30,7 @@ use Rattle.call_cases.specs.ConfiguredCalls.Steps.{with_config}
 use Rattle.grpc_base.specs.declared.event.EndCause.TheVariants as ending
 use Rattle.grpc_base.specs.Requests.{RequestSeen}
 use Rattle.grpc_base.specs.declared.plan.Chosen.{Chosen}
-use Rattle.channel_actions.specs.KeptCalls.Laws.{CallsAreUnconfigured, EarlyAlong}
+use Rattle.channel_actions.specs.KeptCalls.Laws.{UnconfiguredHaveNoAttempts, EarlyAlong}
 use Rattle.net_actions.specs.Laws.{ClockChanges, ClockRests, NoneConnects, TakeOversAreSame, WishesConnect}
 use Rattle.picker_gate.specs.Pairs.{has, is_same}
 use Rattle.service_config.specs.Choice.{chosen_for}
@@ -83,7 +83,7 @@ served_tended config others z o s w = record {
 
 -- the next one gets its config
 module _ (exact : QuiescenceIsExact) (stir : ConfigsStir) (clocks : ClockChanges) (rests : ClockRests) (overs : TakeOversAreSame) (wishes : WishesConnect) (nones : NoneConnects)
-    (gets : CallsGetConfigs) (frames : Frames) (along : EarlyAlong) (awaiting_configs : CallsAreUnconfigured) (config : Config) where
+    (gets : CallsGetConfigs) (frames : Frames) (along : EarlyAlong) (awaiting_configs : UnconfiguredHaveNoAttempts) (config : Config) where
   module _ (n : ℕ) (rest others : List (ℕ × ℕ)) (z : StateSeen) (o : OpenEntry) (s : Seen) (w : Gets config ((0, n) ∷ rest) others z o s) where
     abbrev pub y : StateSeen
     y = record z { awaiting_config = (0, n) ∷ rest; fail_fast = others }

@@ -16,7 +16,7 @@ use Rattle.channel_core.specs.Steps.{configured_call}
 use Rattle.call_cases.proofs.ConfigActions.Unserved.{none_of}
 use Rattle.grpc_base.specs.declared.event.EndCause.TheVariants as ending
 use Rattle.channel_actions.specs.KeptCalls.Early.{IsEarlyKept}
-use Rattle.channel_actions.specs.KeptCalls.Laws.{CallsAreUnconfigured}
+use Rattle.channel_actions.specs.KeptCalls.Laws.{UnconfiguredHaveNoAttempts}
 use Rattle.picker_gate.specs.Pairs.{has, is_same}
 use Rattle.service_config.specs.declared.config.Config.{Config}
 use Rattle.session_actions.specs.Actions.{config_action}
@@ -136,7 +136,7 @@ module _ (y : StateSeen) (s : Seen) (h : Agrees y s) (config : Config) (held : y
         ∙ ap (λ (b : Bool). if b then Some (action.CallEnds d.number ending.NoConfig) else None)
         (lacks_none (is_open_call d) (is_none (held_config s)) s.answered (not (waits_for_ready d s)) (ap (λ (q : Option HeldConfig). is_none q) has_config.is))
 
-    pub is_unconfigured_call : CallsAreUnconfigured → IsEarlyKept s → is_awaiting_config s 0 m ≡ true → IsUnconfigured s d
+    pub is_unconfigured_call : UnconfiguredHaveNoAttempts → IsEarlyKept s → is_awaiting_config s 0 m ≡ true → IsUnconfigured s d
     is_unconfigured_call awaiting_configs early in_set =
         let both = and_parts (is_open_call d) (is_none d.config) (sym unconfigured_is ∙ in_set) in
         awaiting_configs s m d h.kept early there (none_of d.end both.0) (none_of d.config both.1)

@@ -28,9 +28,6 @@ remove_none p (q ∷ rest) e =
 equal_same : (p q : ℕ × ℕ) → pair_cmp p q ≡ Equal → is_same p q ≡ true
 equal_same p q e = ap is_eq e
 
-greater_not : (p q : ℕ × ℕ) → pair_cmp p q ≡ Greater → is_same p q ≡ false
-greater_not p q e = ap is_eq e
-
 insert_by : (p r : ℕ × ℕ) (rest : List (ℕ × ℕ)) (o : Ordering) → pair_cmp p r ≡ o → is_same p r ≡ false → remove_key (is_same p) (insert_key pair_cmp rest p) ≡ rest
     → remove_key (is_same p) (match_ordering o (p ∷ r ∷ rest) (r ∷ rest) (r ∷ insert_key pair_cmp rest p)) ≡ r ∷ rest
 insert_by p r rest Less e off more = head_out p (r ∷ rest)

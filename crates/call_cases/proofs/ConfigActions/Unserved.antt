@@ -25,9 +25,9 @@ use Rattle.channel_core.specs.declared.state.slots.CallSlot.{CallSlot}
 use Rattle.call_cases.proofs.ConfigActions.Closed.{closed_away, closed_unconfigured, closed_first, closed_held, closed_last, closed_moment, closed_net}
 use Rattle.call_cases.proofs.ConfigActions.NetLines.{clock_stays, over_stays, wish_stays}
 use Rattle.grpc_base.specs.declared.event.EndCause.TheVariants as ending
-use Rattle.call_cases.specs.ConfigActions.Ends.{UnconfiguredCallsEnd, UnconfiguredEndsNext, UnconfiguredHasEnded}
+use Rattle.call_cases.specs.ConfigActions.Ends.{CallsWithoutAttemptsEnd, EndsWithoutAttemptsNext, HasEndedWithoutAttempts}
 use Rattle.channel_actions.specs.KeptCalls.Early.{IsEarlyKept}
-use Rattle.channel_actions.specs.KeptCalls.Laws.{CallsAreUnconfigured, EarlyAlong}
+use Rattle.channel_actions.specs.KeptCalls.Laws.{UnconfiguredHaveNoAttempts, EarlyAlong}
 use Rattle.net_actions.specs.Laws.{ClockChanges, ClockRests, NoneConnects, TakeOversAreSame, WishesConnect}
 use Rattle.picker_gate.specs.Pairs.{has, is_same}
 use Rattle.service_config.specs.declared.config.Config.{Config}
@@ -199,7 +199,7 @@ tended z o s w = record {
 
 -- the next one ends
 module _ (exact : QuiescenceIsExact) (clocks : ClockChanges) (rests : ClockRests) (overs : TakeOversAreSame) (wishes : WishesConnect) (nones : NoneConnects)
-    (ends : UnconfiguredCallsEnd) (along : EarlyAlong) (awaiting_configs : CallsAreUnconfigured) where
+    (ends : CallsWithoutAttemptsEnd) (along : EarlyAlong) (awaiting_configs : UnconfiguredHaveNoAttempts) where
   module _ (n : ℕ) (rest : List (ℕ × ℕ)) (z : StateSeen) (o : OpenEntry) (s : Seen) (w : Waits ((0, n) ∷ rest) z o s) where
     abbrev y : StateSeen
     y = record z { fail_fast = (0, n) ∷ rest }
@@ -238,7 +238,7 @@ module _ (exact : QuiescenceIsExact) (clocks : ClockChanges) (rests : ClockRests
         awaiting_configs s n found.0 w.agrees.kept w.early found.1 (goes_on y s w.agrees w.held n found.0 found.1 in_set)
         (none_of found.0.config (calls_unconfigured y s w.agrees w.held n found.0 found.1))
 
-    ends_next : UnconfiguredEndsNext n ending.NoConfig y o s
+    ends_next : EndsWithoutAttemptsNext n ending.NoConfig y o s
     ends_next = record {
       current = w.at.current;
       agrees = w.agrees;
@@ -250,7 +250,7 @@ module _ (exact : QuiescenceIsExact) (clocks : ClockChanges) (rests : ClockRests
       next = follows;
     }
 
-    pub ended : UnconfiguredHasEnded n ending.NoConfig y o s
+    pub ended : HasEndedWithoutAttempts n ending.NoConfig y o s
     ended = ends n ending.NoConfig y o s ends_next
 
     -- its slot

@@ -21,11 +21,11 @@ use Rattle.channel_core.specs.Timing.{due_keys, later, number_of}
 use Rattle.channel_net.specs.Steps as net
 use Rattle.channel_net.specs.Steps.{NetLeft}
 use Rattle.call_cases.proofs.ConfigActions.Unserved.{calls_unconfigured, none_of, unserved_end}
-use Rattle.call_cases.specs.ConfigActions.Ends.{UnconfiguredCallsEnd}
+use Rattle.call_cases.specs.ConfigActions.Ends.{CallsWithoutAttemptsEnd}
 use Rattle.call_cases.specs.ConfigActions.Laws.{IsUnserved, UnservedSettlings}
 use Rattle.grpc_base.specs.declared.event.EndCause.TheVariants as ending
 use Rattle.channel_actions.specs.KeptCalls.Early.{IsEarlyKept}
-use Rattle.channel_actions.specs.KeptCalls.Laws.{CallsAreUnconfigured, EarlyAlong}
+use Rattle.channel_actions.specs.KeptCalls.Laws.{UnconfiguredHaveNoAttempts, EarlyAlong}
 use Rattle.net_actions.specs.Laws.{ClockChanges, ClockRests, NoneConnects, StatesAreSame, TakeOversAreSame, WishesConnect}
 use Rattle.service_config.specs.declared.config.Config.{Config}
 use Rattle.session_actions.specs.Attempts.{call_of, commitment, is_of, is_over, is_over_in}
@@ -116,7 +116,7 @@ filter_at p (x ∷ xs) none =
 numbers_same : (n m : ℕ) → n ≡ m → (n == m) ≡ true
 numbers_same n m e = subst (λ (k : ℕ). (n == k) ≡ true) e (same_number n)
 
-module _ (awaiting_configs : CallsAreUnconfigured) (y : StateSeen) (t : Seen) (h : Agrees y t) (early : IsEarlyKept t) (unheld : y.held ≡ None) where
+module _ (awaiting_configs : UnconfiguredHaveNoAttempts) (y : StateSeen) (t : Seen) (h : Agrees y t) (early : IsEarlyKept t) (unheld : y.held ≡ None) where
   unconfigured_at : (m : ℕ) (d : Call) → numbered t.calls m ≡ Some d → d.end ≡ None → IsUnconfigured t d
   unconfigured_at m d there going = awaiting_configs t m d h.kept early there going (none_of d.config (calls_unconfigured y t h unheld m d there))
 
@@ -152,7 +152,7 @@ module _ (awaiting_configs : CallsAreUnconfigured) (y : StateSeen) (t : Seen) (h
 
 -- put together
 module _ (exact : QuiescenceIsExact) (clock_changes : ClockChanges) (rests : ClockRests) (overs : TakeOversAreSame) (wishes : WishesConnect) (nones : NoneConnects) (states : StatesAreSame)
-    (along : EarlyAlong) (awaiting_configs : CallsAreUnconfigured) (ends : UnconfiguredCallsEnd) (keeps_clock : SoundStays clocked) (keeps_net : SoundStays net_settled) (clocks : ClockSteps) (nets : NetSteps)
+    (along : EarlyAlong) (awaiting_configs : UnconfiguredHaveNoAttempts) (ends : CallsWithoutAttemptsEnd) (keeps_clock : SoundStays clocked) (keeps_net : SoundStays net_settled) (clocks : ClockSteps) (nets : NetSteps)
     (x : StateSeen) (o : OpenEntry) (s : Seen) (h : Agrees x s) (at : IsAt stage.Settling o s) (fresh : o.turn ≡ None) (case : IsUnserved x s) where
   one : Leads (clocked x) o s IsClocked
   one = clocks x o s h case.sound at (record { turn = fresh })
@@ -208,6 +208,6 @@ module _ (exact : QuiescenceIsExact) (clock_changes : ClockChanges) (rests : Clo
   pub unserved_settles : IsSettled x o s
   unserved_settles = record { reaches = last.reaches; reply = last.reply; closes = closes_by last.reaches.entry last.reaches.seen last.reaches.at last.point }
 
-pub unserved_settlings : QuiescenceIsExact → ClockChanges → ClockRests → TakeOversAreSame → WishesConnect → NoneConnects → StatesAreSame → EarlyAlong → CallsAreUnconfigured → UnservedSettlings
+pub unserved_settlings : QuiescenceIsExact → ClockChanges → ClockRests → TakeOversAreSame → WishesConnect → NoneConnects → StatesAreSame → EarlyAlong → UnconfiguredHaveNoAttempts → UnservedSettlings
 unserved_settlings exact changes rests overs wishes nones states along awaiting_configs ends keeps_clock keeps_net clocks nets x o s h at fresh case =
     unserved_settles exact changes rests overs wishes nones states along awaiting_configs ends keeps_clock keeps_net clocks nets x o s h at fresh case

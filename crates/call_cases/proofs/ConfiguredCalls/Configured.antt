@@ -41,7 +41,7 @@ use Rattle.grpc_base.specs.declared.event.Reply.{Reply}
 use Rattle.grpc_base.specs.declared.plan.Chosen.{Chosen}
 use Rattle.channel_actions.specs.KeptSessions.Kept.{IsKept}
 use Rattle.ledger_stamps.specs.Steps.{configured_call}
-use Rattle.channel_actions.specs.LinkFrames.Alike.{CannotDistinguish}
+use Rattle.channel_actions.specs.LinkFrames.Alike.{SeesNoDifference}
 use Rattle.channel_actions.specs.LinkFrames.Bears.{IsOrderly, bears_on}
 use Rattle.net_actions.specs.Sees.{Sees as Sees_net}
 use Rattle.call_cases.specs.OtherCalls.Laws.{SetsApart}
@@ -352,8 +352,8 @@ module _ (frames : Frames) (tokens_stay : TokensStay) (fair : LinesAreFair) (sta
   orderly =
       any_none (λ (a : Attempt). is_outstanding a && (a.row.call == c.number)) (is_of c) (λ a e. and_second (is_outstanding a) (a.row.call == c.number) e) s.attempts awaiting_config.none
 
-  cannot : CannotDistinguish (bears_on does_it s) s t
-  cannot = subst (CannotDistinguish (bears_on does_it s) s) after_is (frames.untold does_it s h.kept orderly)
+  cannot : SeesNoDifference (bears_on does_it s) s t
+  cannot = subst (SeesNoDifference (bears_on does_it s) s) after_is (frames.no_difference does_it s h.kept orderly)
 
   links : SeesLinks y t
   links = frames.links (bears_on does_it s) x y s t h.links h.kept kept (λ link e. refl) cannot h.links.count (λ link l e f. absurd (cc))

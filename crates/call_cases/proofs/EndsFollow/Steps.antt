@@ -156,9 +156,6 @@ module _ (waits : Line → Bool) (n : ℕ) (o : OpenEntry) (b v : Seen) (base : 
   current_cut : u.current ≡ Some o
   current_cut = ap (λ (z : Seen). z.current) one.after_is
 
-  abbrev steady_call : Call
-  steady_call = mid.steady.call
-
   pub steady_cut : StaysSteady u n
   steady_cut =
       let c : Call = mid.steady.call in

@@ -15,10 +15,6 @@ use Rattle.std.proofs.lemmas.Bool.{and_parts, eq-eqb}
 use Rattle.std.proofs.lemmas.Bool.Decides.{nat_tests}
 use Rattle.call_actions.specs.TakeActions.Cuts.{CanCommit, is_twin}
 
--- the foremost of a list is one of it
-more_in : {X : Type 0} (x : X) (xs : List X) (a : X) → IsIn xs a → IsIn (x ∷ xs) a
-more_in x xs a i = record { index = suc i.index; here = i.here }
-
 pick_in : (x y : Attempt) (xs : List Attempt) (b : Bool) (a : Attempt) → IsIn xs y → Some (if b then y else x) ≡ Some a → IsIn (x ∷ xs) a
 pick_in x y xs true a there e =
     let one : y ≡ a = (cc) in record { index = suc there.index; here = there.here ∙ ap (λ (z : Attempt). Some z) one }

@@ -259,9 +259,6 @@ links_still (a ∷ cuts) s t off is =
 
 -- what was queued on links is closed: nothing that is queued from then on stands among it
 module _ (l : Link) (s : Seen) (g : ℕ → Line) where
-  abbrev queue_fresh : LinkSlot → ℕ
-  queue_fresh slot = slot.link.link.wire.queue.fresh
-
   ahead_if : (resets : List (ℕ × ℕ)) (b : Bool) (slot : LinkSlot) → SeesAhead resets l s slot.link.link.wire g
       → SeesAhead resets l s (if b then with_link sealed_link slot else slot).link.link.wire g
   ahead_if resets true slot is = seals_keep resets l s slot.link.link.wire g is

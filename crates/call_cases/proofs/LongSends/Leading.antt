@@ -61,10 +61,6 @@ use Rattle.std.specs.Prelude.{find, nat_lt}
 use Rattle.call_actions.proofs.TakeActions.Posted.{over_is, refusal_by, session_refusal, channel_refusal}
 use Rattle.call_actions.proofs.TakeActions.Sends.{long_is}
 
-if_none : {X : Type 0} (b : Bool) (z : Option X) → z ≡ None → (if b then z else None) ≡ None
-if_none true z e = e
-if_none false z e = refl
-
 and_none : (b : Bool) → (b && false) ≡ false
 and_none true = refl
 and_none false = refl

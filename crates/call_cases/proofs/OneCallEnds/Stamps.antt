@@ -121,12 +121,6 @@ shut_is x z h k =
     (ap sub_of (h.noted k) ∙ sub_stays (gone_by x k (has_outstanding k z)) x.book.ledger.entry (numbered x.book.ledger.links k))
     ∙ ap (λ (n : NetSeen). is_shut_state (state_at n.board (sub_of (numbered x.book.ledger.links k)))) h.net
 
-pub gone_is : (x z : StateSeen) → IsNoted x z → (k : ℕ) → is_gone k z ≡ gone_by x k (has_outstanding k z)
-gone_is x z h k =
-    ap (λ (b : Bool). b || ((is_retiring z.links k || is_of_shut_sub k z) && not (has_outstanding k z))) (h.dead k)
-    ∙ ap (λ (b : Bool). is_dead x.links k || ((b || is_of_shut_sub k z) && not (has_outstanding k z))) (h.retiring k)
-    ∙ ap (λ (b : Bool). is_dead x.links k || ((is_retiring x.links k || b) && not (has_outstanding k z))) (shut_is x z h k)
-
 less_gone : (d r : Bool) (o p : Bool) → (p ≡ true → o ≡ true) → (d || (r && not p)) ≡ false → (d || (r && not o)) ≡ false
 less_gone true r o p turn e = absurd (cc)
 less_gone false false o p turn e = refl

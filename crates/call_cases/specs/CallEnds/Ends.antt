@@ -52,7 +52,7 @@ pub record EndsNext (waits : Line → Bool) (number : ℕ) (why : EndCause) (x :
   pub unfollowed : IsStill line.Transparent o s
   pub still : (l : Line) → is_line l line.Cut ≡ false → waits l ≡ false → IsStill l o (call_ended number why s)
 
--- so it is, too, where the links of the channel are ahead of the session by what the end of the call is to bring: all else agrees, and the links do once the attempts
+-- so it is, too, where the links of the channel are ahead of the session by what the end of the call is to bring. All else agrees, and the links do once the attempts
 -- of the call are cut off and their streams are reset. (A message that is too long comes: the link of the channel resets its stream at once, and the session does so
 -- once the call has ended; RFC 9113, section 6.4.)
 -- Example: a too long message comes for attempt 1, on stream 1 of link 1. Link 1 of the channel has RST_STREAM on stream 1 queued, and CallEnds 1 is next.
@@ -91,7 +91,7 @@ pub record IsToEnd (waits : Line → Bool) (number : ℕ) (why : EndCause) (x : 
   pub still : (l : Line) → is_line l line.Cut ≡ false → waits l ≡ false → IsStill l o (call_ended number why s)
   pub reset : (t : Seen) (cuts : List Attempt) → cuts ≡ filter (is_out_of number) s.attempts → AttemptsAreCutOff cuts (call_ended number why s) t → StreamsAreResetToo (with_cuts cuts x) t
 
--- what is so of all but the books, once nothing follows from it any more: each of the actions was next; all attempts of the call that were outstanding were cut
+-- what is so of all but the books, once nothing follows from it any more: each of the actions was next. All attempts of the call that were outstanding were cut
 -- off; the links, as the channel then has them, agree; and so does the net
 pub record EndsOn (waits : Line → Bool) (number : ℕ) (why : EndCause) (x : StateSeen) (o : OpenEntry) (s : Seen) : Type 0 where
   pub cuts : List Attempt

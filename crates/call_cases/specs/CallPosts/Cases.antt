@@ -26,7 +26,7 @@ pub record IsFinish (e : Event) (x : StateSeen) (s : Seen) : Type 0 where
   pub event_is : e ≡ event.Finish call
   pub kept : channel.refusal_of e x ≡ None
 
--- it sends a message that neither ends its call nor commits it: it is refused; or it is not longer than the call's config allows, and what the call holds with it is
+-- it sends a message that neither ends its call nor commits it: it is refused. Or it is not longer than the call's config allows, and what the call holds with it is
 -- no more than is kept for attempts to come, or no attempt of the call is outstanding
 pub record IsPlainSend (e : Event) (x : StateSeen) (s : Seen) : Type 0 where
   pub call : ℕ

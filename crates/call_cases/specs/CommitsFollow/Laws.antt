@@ -27,7 +27,7 @@ use Rattle.session_order.specs.Lines.{is_line}
 use Rattle.session_order.specs.declared.line.Line.{Line}
 use Rattle.session_order.specs.declared.line.Line.TheVariants as line
 
--- the commitment of the call of a number is next, to an attempt that can have it; no attempt was to be cut off or to be followed; and once the call is committed,
+-- the commitment of the call of a number is next, to an attempt that can have it; no attempt was to be cut off or to be followed. Once the call is committed,
 -- nothing follows at once but that its other attempts are cut off, and what these lines give
 pub record IsNextToCommit (waits : Line → Bool) (number : ℕ) (why : CommitCause) (o : OpenEntry) (s : Seen) : Type 0 where
   pub late : (l : Line) → waits l ≡ true → is_late l ≡ true

@@ -20,7 +20,7 @@ use Rattle.session_actions.specs.declared.seen.Seen.{Seen}
 use Rattle.session_order.specs.Quiescent.{IsQuiescent}
 
 -- its end is next, and nothing follows at once
-pub record UnconfiguredEndsNext (number : ℕ) (why : EndCause) (x : StateSeen) (o : OpenEntry) (s : Seen) : Type 0 where
+pub record EndsWithoutAttemptsNext (number : ℕ) (why : EndCause) (x : StateSeen) (o : OpenEntry) (s : Seen) : Type 0 where
   pub current : s.current ≡ Some o
   pub agrees : Agrees x s
   pub early : IsEarlyKept s
@@ -31,7 +31,7 @@ pub record UnconfiguredEndsNext (number : ℕ) (why : EndCause) (x : StateSeen) 
   pub next : following s ≡ Some (action.CallEnds number why)
 
 -- it has ended, in the same entry, and nothing follows at once
-pub record UnconfiguredHasEnded (number : ℕ) (why : EndCause) (x : StateSeen) (o : OpenEntry) (s : Seen) : Type 0 where
+pub record HasEndedWithoutAttempts (number : ℕ) (why : EndCause) (x : StateSeen) (o : OpenEntry) (s : Seen) : Type 0 where
   pub actions : List Action
   pub seen : Seen
   pub does : Does (action.CallEnds number why ∷ actions) s seen
@@ -42,6 +42,6 @@ pub record UnconfiguredHasEnded (number : ℕ) (why : EndCause) (x : StateSeen) 
   pub quiescent : IsQuiescent o seen
   pub agrees : Agrees (closed why number x) seen
 
-abbrev pub UnconfiguredCallsEnd : Type 0
-UnconfiguredCallsEnd =
-    (number : ℕ) (why : EndCause) (x : StateSeen) (o : OpenEntry) (s : Seen) → UnconfiguredEndsNext number why x o s → UnconfiguredHasEnded number why x o s
+abbrev pub CallsWithoutAttemptsEnd : Type 0
+CallsWithoutAttemptsEnd =
+    (number : ℕ) (why : EndCause) (x : StateSeen) (o : OpenEntry) (s : Seen) → EndsWithoutAttemptsNext number why x o s → HasEndedWithoutAttempts number why x o s

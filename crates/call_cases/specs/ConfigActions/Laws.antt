@@ -10,7 +10,7 @@ use Rattle.channel_core.specs.Books.{slot_at}
 use Rattle.channel_core.specs.States.{StateSeen}
 use Rattle.channel_core.specs.Steps.{unconfigured_served, clocked, net_settled}
 use Rattle.channel_core.specs.declared.state.slots.CallSlot.{CallSlot}
-use Rattle.call_cases.specs.ConfigActions.Ends.{UnconfiguredCallsEnd}
+use Rattle.call_cases.specs.ConfigActions.Ends.{CallsWithoutAttemptsEnd}
 use Rattle.picker_gate.specs.Pairs.{has}
 use Rattle.service_config.specs.Choice.{chosen_for}
 use Rattle.service_config.specs.declared.config.Config.{Config}
@@ -23,7 +23,7 @@ use Rattle.call_cases.specs.SettlingActions.Steps.{ClockSteps, IsJoined, IsTende
 -- the step of configs, where no config is held
 abbrev pub UnservedCallsEnd : Type 0
 UnservedCallsEnd =
-    UnconfiguredCallsEnd → (x : StateSeen) (o : OpenEntry) (s : Seen) → Agrees x s → IsSound x s → IsAt stage.Settling o s → IsJoined o s → x.held ≡ None
+    CallsWithoutAttemptsEnd → (x : StateSeen) (o : OpenEntry) (s : Seen) → Agrees x s → IsSound x s → IsAt stage.Settling o s → IsJoined o s → x.held ≡ None
     → Leads (unconfigured_served x) o s IsTended
 
 -- and where one is held, and allows each message that calls without a config accepted, each of them gets it. (A call that accepted a longer one ends at once;
@@ -41,7 +41,7 @@ ServedCallsGetConfigs =
 -- so it is whichever config is held, if any
 abbrev pub ConfigsAreStep : Type 0
 ConfigsAreStep =
-    UnconfiguredCallsEnd → (x : StateSeen) (o : OpenEntry) (s : Seen) → Agrees x s → IsSound x s → IsAt stage.Settling o s → IsJoined o s
+    CallsWithoutAttemptsEnd → (x : StateSeen) (o : OpenEntry) (s : Seen) → Agrees x s → IsSound x s → IsAt stage.Settling o s → IsJoined o s
     → ((config : Config) → x.held ≡ Some config → IsAllowed config x) → Leads (unconfigured_served x) o s IsTended
 
 -- a whole settling where no config is held: once the net has done its part, calls end or wait, and no attempt is due or queued, since there is none
@@ -50,4 +50,4 @@ pub record IsUnserved (x : StateSeen) (s : Seen) : Type 0 where
   pub unheld : x.held ≡ None
 
 abbrev pub UnservedSettlings : Type 0
-UnservedSettlings = UnconfiguredCallsEnd → SoundStays clocked → SoundStays net_settled → ClockSteps → NetSteps → SettlingsOf IsUnserved
+UnservedSettlings = CallsWithoutAttemptsEnd → SoundStays clocked → SoundStays net_settled → ClockSteps → NetSteps → SettlingsOf IsUnserved

@@ -9,7 +9,7 @@ use Rattle.channel_actions.specs.Calls.{HasSlot}
 use Rattle.channel_core.specs.States.{StateSeen}
 use Rattle.call_cases.specs.ConfiguredCalls.Steps.{with_config}
 use Rattle.channel_actions.specs.KeptSessions.Laws.{KeptAlong}
-use Rattle.channel_actions.specs.LinkFrames.Laws.{ActionsAreUntold, LinksStay}
+use Rattle.channel_actions.specs.LinkFrames.Laws.{ActionsMakeNoDifference, LinksStay}
 use Rattle.net_actions.specs.NetFrames.Laws.{NetStays}
 use Rattle.call_cases.specs.OtherCalls.Laws.{AllCallsStay, ColumnsStay, SetsStay}
 use Rattle.service_config.specs.Choice.{chosen_for}
@@ -28,7 +28,7 @@ pub record Frames : Type 0 where
   pub columns : ColumnsStay
   pub sets : SetsStay
   pub links : LinksStay
-  pub untold : ActionsAreUntold
+  pub no_difference : ActionsMakeNoDifference
   pub net : NetStays
   pub kept : KeptAlong
 

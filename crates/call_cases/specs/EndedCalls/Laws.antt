@@ -1,5 +1,5 @@
--- What stands on the end of one call (`OneCallEnds`), without that premise: a message that is too long ends its call, a call without an attempt ends, calls whose
--- deadline has come end, and in a settling each call that waits for its config gets it, ends by it, or ends for want of one.
+-- What stands on the end of one call (`OneCallEnds`), without that premise. A message that is too long ends its call, a call without an attempt ends, calls whose
+-- deadline has come end. In a settling each call that waits for its config gets it, ends by it, or ends for want of one.
 -- Example: the config of call 1 allows 10 bytes, and it is sent 11. EventAnswered Done, CallEnds 1 for its request, AttemptEnds of its attempts, and StreamReset of
 -- their streams. Call 2 accepted 11 bytes before a config came: CallConfigured 2 and CallEnds 2 for its request follow one another.
 use Rattle.channel_actions.specs.Agrees.{Agrees}

@@ -30,7 +30,7 @@ abbrev pub is_late : Line → Bool
 is_late line.Shut = true
 is_late l = is_of_policies l
 
--- the end of the call of a number is next; no attempt was to be cut off, and no stream to be reset; and once the call has ended, nothing follows at once but that
+-- the end of the call of a number is next; no attempt was to be cut off, and no stream to be reset. Once the call has ended, nothing follows at once but that
 -- its attempts are cut off, and what these lines give
 pub record IsNextToEnd (waits : Line → Bool) (number : ℕ) (why : EndCause) (o : OpenEntry) (s : Seen) : Type 0 where
   pub late : (l : Line) → waits l ≡ true → is_late l ≡ true

@@ -79,11 +79,6 @@ follow_back owner rows after place number like old =
       same = sym was.1.1.number ∙ old.same;
     }
 
-pub ended_to : (owner : ℕ) (rows after : List Row) (place : ℕ) (end : RowEnd) → AreSameRows owner rows after → IsEndedIn owner rows place end → IsEndedIn owner after place end
-ended_to owner rows after place end like old =
-    let now : (r : Row) × (IsRowOf owner after place r × IsKeptRow old.row r) = row_to owner rows after place old.row like old.is in
-    record { row = now.0; is = now.1.0; ended = now.1.1.ended end old.ended }
-
 -- a place has one row
 pub one_row : (owner : ℕ) (rows : List Row) (place : ℕ) (a b : Row) → IsRowOf owner rows place a → IsRowOf owner rows place b → a ≡ b
 one_row owner rows place a b first second = let both : Some a ≡ Some b = sym first.there ∙ second.there in cc
@@ -92,10 +87,6 @@ pub one_end : (owner : ℕ) (rows : List Row) (place : ℕ) (a b : RowEnd) → I
 one_end owner rows place a b first second =
     let same : first.row ≡ second.row = one_row owner rows place first.row second.row first.is second.is in
     let both : Some a ≡ Some b = sym first.ended ∙ ap (λ (r : Row). r.ended) same ∙ second.ended in cc
-
-pub spent_number : (owner : ℕ) (rows : List Row) (place : ℕ) (end : RowEnd) (row : Row) → IsRowOf owner rows place row → IsSpentBy owner rows place end → IsFollowedAt owner rows place row.number
-spent_number owner rows place end row is spent =
-    subst (λ (r : Row). IsFollowedAt owner rows place r.number) (one_row owner rows place spent.has.row row spent.has.is is) spent.followed
 
 -- a cut is none of these
 pub cut_unsent : (c : RowCause) → is_cut c ≡ true → is_unsent c ≡ true → ⊥
@@ -120,17 +111,6 @@ cut_by_peer cause.Goaway e h = let no : false ≡ true = e in cc
 cut_by_peer cause.Unsent e h = let no : false ≡ true = e in cc
 cut_by_peer cause.Pick e h = let no : false ≡ true = e in cc
 
-pub unsent_by_peer : (c : RowCause) → is_unsent c ≡ true → is_by_peer c ≡ true → ⊥
-unsent_by_peer cause.Status e h = let no : false ≡ true = e in cc
-unsent_by_peer cause.Http e h = let no : false ≡ true = e in cc
-unsent_by_peer cause.Reset e h = let no : false ≡ true = e in cc
-unsent_by_peer cause.Framing e h = let no : false ≡ true = e in cc
-unsent_by_peer cause.Lost e h = let no : false ≡ true = e in cc
-unsent_by_peer cause.Goaway e h = let no : false ≡ true = e in cc
-unsent_by_peer cause.Unsent e h = let no : false ≡ true = h in cc
-unsent_by_peer cause.Pick e h = let no : false ≡ true = e in cc
-unsent_by_peer cause.Cut e h = let no : false ≡ true = e in cc
-
 pub and_second : (a b : Bool) → (a && b) ≡ true → b ≡ true
 and_second true b e = e
 and_second false b e = absurd (cc)
@@ -138,7 +118,7 @@ and_second false b e = absurd (cc)
 pub cut_refused : (end : RowEnd) → is_cut end.cause ≡ true → is_refused end ≡ true → ⊥
 cut_refused end e h = cut_by_peer end.cause e (and_second end.unseen (is_by_peer end.cause) h)
 
--- a step that writes no stamp and reports no end
+-- a step that writes no stamp and is given no end
 pub ended_case : (owner : ℕ) (rows : List Row) (place number : ℕ) (end : RowEnd) → is_by_peer end.cause ≡ true → IsFollowedAt owner rows place number → EndsSo owner rows place number end → IsEndedIn owner rows place end
 ended_case owner rows place number end by_peer f (inl fresh) = absurd (fresh.unfollowed by_peer f)
 ended_case owner rows place number end by_peer f (inr has) = has

@@ -45,12 +45,6 @@ use Rattle.call_core.proofs.RowLaws.Licenses.{IsQuietStep, IsUnlicensed, asked_s
 use Rattle.call_core.proofs.RowLaws.Made.{which}
 use Rattle.call_core.proofs.Standing.{found_stands, row_changed_other, row_changed_same, row_last, row_more}
 
--- the plan
-pub retries_plan : (p : CallPlan) → has_retries p ≡ true → (policy : RetryPolicy) × (p ≡ plans.Retry policy)
-retries_plan plans.None e = absurd (cc)
-retries_plan (plans.Retry policy) e = (policy, refl)
-retries_plan (plans.Hedge policy) e = absurd (cc)
-
 pub no_hedge : (p : CallPlan) → has_retries p ≡ true → hedges p ≡ false
 no_hedge plans.None e = absurd (cc)
 no_hedge (plans.Retry policy) e = refl

@@ -393,10 +393,6 @@ retry_new_nearest at owner rows place row reported x before now newest between o
 retry_new_nearest at owner rows place row reported x before now newest between other known first second e (inr both) =
     let at_end : between ≡ length (mid_rows rows place reported) + 1 = both.0 in omega (arith, at_end, second)
 
-retry_new_inherits : (a b c : Option ℕ) (entry : ℕ) → a ≡ b → (b ≡ None) ⊎ (c ≡ Some entry) → (a ≡ None) ⊎ (c ≡ Some entry)
-retry_new_inherits a b c entry e (inl none) = inl (e ∙ none)
-retry_new_inherits a b c entry e (inr some) = inr some
-
 retry_follower : (at owner : ℕ) (rows : List Row) (place : ℕ) (row : Row) (reported : RowEnd) (x : Row) (before now : Bool) (newest : Option ℕ) (p : ℕ) (other : Row) → IsRetry at owner rows place row reported x before now newest → HaveFollowers at owner rows before newest → is_transparent other.kind ≡ true → IsOldOr owner (mid_rows rows place reported) x p other → IsFollowerOf owner (mid_rows rows place reported ++ x ∷ []) p other
 retry_follower at owner rows place row reported x before now newest p other known old kind (inl is) =
     more_follower owner (mid_rows rows place reported) x other p is (retry_old_follower at owner rows place reported x other p old.followers is kind)

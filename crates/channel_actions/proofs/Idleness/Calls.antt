@@ -62,10 +62,6 @@ not_some : {X : Type 0} (b : Bool) (z : X) → (if b then Some z else None) ≡ 
 not_some true z e = absurd (cc)
 not_some false z e = refl
 
-and_false : (a b : Bool) → b ≡ true → (a && b) ≡ false → a ≡ false
-and_false true b e f = absurd (cc)
-and_false false b e f = refl
-
 pub equal_moment : (n m : ℕ) → (n == m) ≡ true → n ≡ m
 equal_moment n m h = grind (arith, nat_tests)
 

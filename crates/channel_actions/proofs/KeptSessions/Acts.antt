@@ -196,10 +196,6 @@ pub pinged : (e : Event) → list_all is_control (ping_of e) ≡ true
 pinged (event.Ping link word) = refl
 pinged _ = refl
 
-on_stream : (b : Bool) (f : FrameSeen) → list_all is_control (if b then window_update_frame f.stream (length f.payload) ∷ [] else []) ≡ true
-on_stream true f = refl
-on_stream false f = refl
-
 updates_by : (f : FrameSeen) (b c : Bool)
     → list_all is_control (if b then [] else window_update_frame 0 (length f.payload) ∷ (if c then window_update_frame f.stream (length f.payload) ∷ [] else [])) ≡ true
 updates_by f true c = refl

@@ -1,5 +1,5 @@
--- The lines of a session give only actions of which they say what its order leans on: an end is stamped with the entry that is open, an attempt is made of a
--- call that is there and placed on a link that came up, and no subchannel loses its link while a pick of it is to be acted on.
+-- The lines of a session give only actions of which they say what its order leans on. An end is stamped with the entry that is open, an attempt is made of a
+-- call that is there and placed on a link that came up. No subchannel loses its link while a pick of it is to be acted on.
 use Rattle.attempt_ledger.specs.Hedging.{is_hedge}
 use Rattle.attempt_ledger.specs.declared.ledger.Ask.{Ask}
 use Rattle.grpc_base.specs.declared.address.Address.{Address}

@@ -3,7 +3,7 @@ pub mod Pairs
 pub mod Streams
 pub mod Readers
 pub mod Frame
-pub mod Distinguishing
+pub mod Differences
 pub mod Changes
 pub mod Acts
-pub mod Untold
+pub mod NoDifference

@@ -32,10 +32,6 @@ back None d turn e = refl
 back (Some n) None turn e = absurd (let bad : false ≡ true = turn refl in (cc))
 back (Some n) (Some m) turn e = absurd (let bad : Some m ≡ None = e in (cc))
 
-none_of : {X : Type 0} (o : Option X) → is_some o ≡ false → o ≡ None
-none_of None e = refl
-none_of (Some x) e = absurd (cc)
-
 -- nothing is held for one row alone
 pub free : (c : Option ℕ) (b : Buffered) → b.committed ≡ None → IsWithin b → (c ≡ None → IsFree b) → IsSoundFor c b
 free c b none within low = record {

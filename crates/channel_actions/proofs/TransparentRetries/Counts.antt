@@ -42,9 +42,6 @@ use Rattle.std.specs.List.{AllByRecursion, IsDistinct, list_any}
 use Rattle.std.specs.Option.{option_map_or}
 use Rattle.std.specs.Prelude.{Bool, List, None, Option, Some, [], cond, count_by, false, filter, if◌then◌else◌, is_none, is_some, length, map, refl, slice_get, suc, true, zero, ℕ, ◌*◌, ◌+◌, ◌<◌, ◌||◌, ◌∷◌, ◌≡◌, ◌≤◌, ◌⊎◌}
 
-less_on : (a b c : ℕ) → a ≤ b → b ≤ c → a ≤ c
-less_on a b c e f = omega (arith, e, f)
-
 less_two : (a b c d : ℕ) → a ≤ b → b ≤ c → c ≤ d → a ≤ d
 less_two a b c d e f g = omega (arith, e, f, g)
 

@@ -1,4 +1,4 @@
--- What a channel does where one of its calls ends: each attempt of the call that is on a link is given up there and is no longer outstanding; each that waits for a
+-- What a channel does where one of its calls ends: each attempt of the call that is on a link is given up there and is no longer outstanding. Each that waits for a
 -- pick leaves the queue; the call waits for no config; and its timers go. What was queued on links is closed.
 -- Example: call 1 has the rows 1 and 3 on link 2, and row 4 in the queue. Link 2 gives up 1 and 3, and is closed; (2, 1) and (2, 3) are no longer outstanding; and the
 -- queue has (1, 4) no more.

@@ -1,4 +1,4 @@
--- What a drain takes of the messages of a call leaves the channel holding of them what the session has: for each attempt that goes on the bytes that were not
+-- What a drain takes of the messages of a call leaves the channel holding of them what the session has. That is for each attempt that goes on the bytes that were not
 -- written, and for the call what the attempt to which it is committed has passed.
 -- Example: call 1 has the message `hi`, of 7 bytes with its prefix, and DATA of 3 bytes is written for its attempt 1. The buffer of call 1 has 4 bytes left for
 -- attempt 1; so has the session.

@@ -1,4 +1,4 @@
--- The calls of a channel go on, whatever happens to it: those of a new one do, and each step keeps it; and so does each of a step's parts: that deadlines end
+-- The calls of a channel go on, whatever happens to it: those of a new one do, and each step keeps it. So does each of a step's parts: that deadlines end
 -- calls, that the event is answered, that the channel settles.
 -- Example: a call is cancelled. It ended, so it need not go on; the others go on as before.
 use Rattle.std.specs.Global.{Global}

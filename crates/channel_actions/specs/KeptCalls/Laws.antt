@@ -28,8 +28,8 @@ abbrev pub EarlyAlong : Type 0
 EarlyAlong = (actions : List Action) (s t : Seen) → IsKept s → IsEarlyKept s → Does actions s t → IsEarlyKept t
 
 -- so an open call without a config is without attempts
-abbrev pub CallsAreUnconfigured : Type 0
-CallsAreUnconfigured =
+abbrev pub UnconfiguredHaveNoAttempts : Type 0
+UnconfiguredHaveNoAttempts =
     (s : Seen) (number : ℕ) (c : Call) → IsKept s → IsEarlyKept s → numbered s.calls number ≡ Some c → c.end ≡ None → c.config ≡ None → IsUnconfigured s c
 
 -- and the frame that a link shows next ends after all that the ends of attempts saw of the link

@@ -1,6 +1,6 @@
--- What a session did since, that some links cannot distinguish: on each of them the same passed, the same bytes came, and it owes the same; the attempts that are
+-- What a session did since, in which some links see no difference: on each of them the same passed, the same bytes came, and it owes the same. The attempts that are
 -- outstanding on it are the same, with the same streams; and of their calls no message was taken back, and the longest message that a response may have is the same.
--- Example: link 1 has attempt 1, and link 2 has attempt 2, which is cut off, and its stream is reset. Link 1 cannot distinguish: attempt 1 is as before.
+-- Example: link 1 has attempt 1, and link 2 has attempt 2, which is cut off, and its stream is reset. Link 1 sees no difference: attempt 1 is as before.
 use Rattle.std.specs.List.{AllByRecursion}
 use Rattle.std.specs.Prelude.{Bool, List, Some, [], false, true, ℕ, ◌&&◌, ◌==◌, ◌∷◌, ◌≡◌, ◌≤◌}
 use Rattle.session_actions.specs.Attempts.{call_of, is_outstanding}
@@ -54,7 +54,7 @@ AttemptsAreAlike touched s t [] bs = AllByRecursion (IsElsewhere touched) bs
 AttemptsAreAlike touched s t (a ∷ as_) (b ∷ bs) = IsAlike touched s t a b × AttemptsAreAlike touched s t as_ bs
 AttemptsAreAlike touched s t (a ∷ as_) [] = ⊥
 
--- each link but those that are named was there, and cannot distinguish
-pub record CannotDistinguish (touched : Numbers) (s t : Seen) : Type 0 where
+-- each link but those that are named was there, and sees no difference
+pub record SeesNoDifference (touched : Numbers) (s t : Seen) : Type 0 where
   pub links : (link : ℕ) (m : Link) → touched link ≡ false → numbered t.links link ≡ Some m → (l : Link) × (numbered s.links link ≡ Some l) × IsLinkStill l m
   pub attempts : AttemptsAreAlike touched s t s.attempts t.attempts

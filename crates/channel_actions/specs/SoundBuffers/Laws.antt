@@ -1,4 +1,4 @@
--- The buffers of a channel's calls are sound: those of a new one are, and each step keeps it, where its calls go on (`going_calls`); and so does each of a step's
+-- The buffers of a channel's calls are sound: those of a new one are, and each step keeps it, where its calls go on (`going_calls`). So does each of a step's
 -- parts: that deadlines end calls, that the event is answered, that the channel settles.
 -- Example: call 1 is committed to row 2, and a transparent retry of it is made, row 3. Once row 3 is placed, the messages of call 1 are held for it alone.
 use Rattle.std.specs.Global.{Global}

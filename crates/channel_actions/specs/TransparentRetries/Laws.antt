@@ -41,7 +41,7 @@ UnsentOncePerLink =
 abbrev pub PlansAreShort : Seen → Type 0
 PlansAreShort s = (k : ℕ) (c : Call) → numbered s.calls k ≡ Some c → most_attempts (plan_of c s) ≤ 5
 
--- so a session within the limit of its journal, of 1,048,576 entries, has fewer than 7 * 2^40 attempts: with 5 numbers of each of 1,048,576 calls, and of each number one
+-- so a session within the limit of its journal, of 1,048,576 entries, has fewer than 7 * 2^40 attempts. There are 5 numbers of each of 1,048,576 calls, and of each number one
 -- attempt for each of 1,048,576 links, one that was refused, and the last one
 abbrev pub AttemptsAreBounded : Type 0
 AttemptsAreBounded =

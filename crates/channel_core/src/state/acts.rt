@@ -74,6 +74,9 @@ impl<P: Balancer> State<P> {
     pub fn seal(&mut self)
         ensures { self.new ≡ steps.sealed self.old }
     {
+        if self.resets.is_empty() {
+            return;
+        }
         let resets = mem::replace(&mut self.resets, Items::new(self.alloc));
         let mut rest = resets.into_vec().into_iter();
         while let Some(link) = rest.next() {

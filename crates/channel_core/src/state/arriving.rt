@@ -45,7 +45,7 @@ impl<P: Balancer> State<P> {
         }
     }
 
-    /// The news of one frame. The ledger is given how far the link is read before they are handled; ends are applied by the rows' places.
+    /// The news of one frame. The ledger gets how far the link is read before they are handled; ends are applied by the rows' places.
     fn receive_frame(&mut self, link: u32, read: u64, news: Items<News>) -> Result<(), NoMemory>
         ensures { OnOk result (self.new ≡ arrivals.handled link news (arrivals.read_to link read self.old)) }
     {
@@ -113,13 +113,13 @@ impl<P: Balancer> State<P> {
             }
             News::Head { tag, .. } | News::Message { tag, .. } | News::TooLarge { tag, .. } => {
                 let call = self.book.call_of_row(tag);
-                self.report(call, tag, news)
+                self.give_news(call, tag, news)
             }
         }
     }
 
     /// reports to a call what came for one of its attempts.
-    pub fn report(&mut self, call: u32, row: u64, news: News) -> Result<(), NoMemory>
+    pub fn give_news(&mut self, call: u32, row: u64, news: News) -> Result<(), NoMemory>
         ensures { OnOk result (self.new ≡ steps.reported_to call row news self.old) }
     {
         let word = self.next_word();
@@ -138,7 +138,7 @@ impl<P: Balancer> State<P> {
         }
         let _was = self.outstanding.leave(link, row);
         let call = self.book.call_of_row(row);
-        self.report(call, row, News::Ended { tag: row, end })?;
+        self.give_news(call, row, News::Ended { tag: row, end })?;
         self.stamp_gone(link);
         Ok(())
     }

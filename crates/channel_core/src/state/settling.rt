@@ -156,7 +156,7 @@ impl<P: Balancer> State<P> {
     {
         let calls = take_due(self.alloc, &mut self.dues, moment)?;
         self.forget_all(calls.as_slice());
-        let ready = sort_calls(self.alloc, calls.as_slice())?;
+        let ready = sort_calls(self.alloc, calls)?;
         let made = 0 < ready.len();
         self.act_on_all(ready, &CallEvent::Due)?;
         Ok(made)
@@ -283,7 +283,7 @@ impl<P: Balancer> State<P> {
     {
         self.unqueue(call, row);
         let end = own_end(self.alloc, Code::Unavailable, RowCause::Pick, 0);
-        self.report(call, row, News::Ended { tag: row, end })?;
+        self.give_news(call, row, News::Ended { tag: row, end })?;
         self.seal();
         Ok(())
     }

@@ -47,9 +47,6 @@ module _ (later : List (ℕ × RowEnd)) (waits : Line → Bool) (also : List ℕ
   abbrev then_ : Seen
   then_ = closing.closed later waits also a out x o s is counting b
 
-  abbrev stepped : Stepped
-  stepped = closing.stepped later waits also a out x o s is counting made
-
   abbrev was : CallSlot
   was = closing.was later waits also a out x o s is counting
 

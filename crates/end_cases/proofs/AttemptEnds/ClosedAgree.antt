@@ -113,9 +113,6 @@ module _ (later : List (ℕ × RowEnd)) (waits : Line → Bool) (also : List ℕ
   abbrev kept : IsKept s
   kept = closing.kept later waits also a out x o s is counting
 
-  abbrev kept_one : IsKept first
-  kept_one = closing.kept_one later waits also a out x o s is counting
-
   -- up to the end of the call
   abbrev pub start : List Action
   start = one ∷ b.actions

@@ -124,12 +124,6 @@ module _ (later : List (ℕ × RowEnd)) (waits : Line → Bool) (also : List ℕ
   abbrev k : Call
   k = c later waits also a out x o s is
 
-  abbrev lent : Stepped
-  lent = x2 later waits also a out x o s is
-
-  abbrev seen : Sees s k lent
-  seen = sees later waits also a out x o s is
-
   abbrev order : IsInOrder s k
   order = (has later waits also a out x o s is).sees.order
 

@@ -104,10 +104,6 @@ stamp_by at l (Some w) e = ap (λ (q : Option ℕ). record (link_seen l) { gone 
 stamp_is : (at : ℕ) (l : Link) → gone_link at (link_seen l) ≡ link_seen (noted_by at true l)
 stamp_is at l = stamp_by at l l.gone refl
 
-over_off : (b c : Bool) → (b ≡ true → c ≡ true) → c ≡ false → b ≡ false
-over_off false c turn e = refl
-over_off true c turn e = absurd (let both : true ≡ false = sym (turn refl) ∙ e in (cc))
-
 -- before it is stamped where the link is over (`over`), after it where it is gone then (`gone`)
 one_stamped : (at : ℕ) (l : Link) (m : Option LinkSeen) (over gone : Bool) → (over ≡ true → gone ≡ true)
     → (if over then option_map (gone_link at) m else m) ≡ Some (link_seen (noted_by at over l))

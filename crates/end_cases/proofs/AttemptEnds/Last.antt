@@ -80,21 +80,12 @@ module _ (later : List (ℕ × RowEnd)) (waits : Line → Bool) (also : List ℕ
   abbrev end_ : RowEnd
   end_ = e later waits also a out x o s is
 
-  abbrev dk : Call
-  dk = d later waits also a out x o s is
-
   abbrev none_else : list_any (λ (q : Attempt). is_live s k q && not (q.place == a.place)) s.attempts ≡ false
   none_else = case.alone
 
   -- between the two the call is committed
   abbrev b : Between later waits also a out x o s is counting
   b = last.b later waits also a out x o s is counting
-
-  abbrev f : Seen
-  f = closing.mid later waits also a out x o s is counting b
-
-  abbrev fk : Call
-  fk = closing.its later waits also a out x o s is counting b
 
   abbrev w : Seen
   w = closing.closed later waits also a out x o s is counting b

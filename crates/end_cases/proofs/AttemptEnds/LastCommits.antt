@@ -404,10 +404,6 @@ module _ (later : List (ℕ × RowEnd)) (waits : Line → Bool) (also : List ℕ
     goes_two = does_two
 
   module _ (free : commitment k s ≡ None) where
-    -- nothing came of it, since the call was not committed
-    abbrev none_head : Option (List Field) → Type 0
-    none_head q = q ≡ None
-
     none_of_some : (q : Option (List Field)) → is_some q ≡ false → q ≡ None
     none_of_some None h = refl
     none_of_some (Some meta) h = absurd (cc)

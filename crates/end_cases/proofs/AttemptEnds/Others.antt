@@ -1,4 +1,4 @@
--- What is done to one call brings nothing about for another one: no attempt of another call waits for its follower then, no other call ends by its attempt, and no end
+-- What is done to one call brings nothing about for another one. No attempt of another call waits for its follower then, no other call ends by its attempt, and no end
 -- of another call's attempt is final, that was not so before.
 use Rattle.std.proofs.Common.{◌≡◌, ◌==◌, ◌&&◌, ◌∷◌, ap, refl, sym, ◌∙◌, Bool, true, false, List, [], Option, None, Some, ℕ, zero, suc, is_some, slice_get}
 use Rattle.std.proofs.lemmas.Bool.{eq-eqb, or_from}

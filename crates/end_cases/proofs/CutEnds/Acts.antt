@@ -1,4 +1,4 @@
--- A call of the channel is notified that one of its attempts ended, and ends by it, and the rows that go on are given up: the book, the timers, links, sets of rows and
+-- A call of the channel is notified that one of its attempts ended, and ends by it, and the rows that go on are given up. The book, the timers, links, sets of rows and
 -- stamps change, and the call waits for no config.
 use Rattle.attempt_ledger.specs.declared.news.EndNews.{EndNews}
 use Rattle.attempt_ledger.specs.declared.news.News.TheVariants as news_of_link

@@ -363,11 +363,6 @@ abbrev pub all_reset : List Attempt → StateSeen → StateSeen
 all_reset [] y = y
 all_reset (a ∷ cuts) y = all_reset cuts (reset_on (link_number a) a.place y)
 
-pub cuts_ahead : (cuts : List Attempt) (s t : Seen) (also : List ℕ) (y : StateSeen) → AttemptsAreCutOff cuts s t → IsReady s → LinksAhead also y s → LinksAhead also (all_reset cuts y) t
-cuts_ahead [] s t also y off is ahead = subst (LinksAhead also y) (sym off) ahead
-cuts_ahead (a ∷ cuts) s t also y off is ahead =
-    cuts_ahead cuts (cut_off a s) t also (reset_on (link_number a) a.place y) off.1 (ready_still s a off.0 is) (cut_ahead s a off.0 is also y ahead)
-
 -- so are the links and what is to be closed
 pub reset_links : (cuts : List Attempt) (y : StateSeen) → (all_reset cuts y).links ≡ links_cut cuts y.links
 reset_links [] y = refl

@@ -28,7 +28,7 @@ use Rattle.session_actions.specs.declared.link.Link.{Link}
 use Rattle.session_actions.specs.declared.seen.Seen.{Seen}
 
 -- two sessions whose links cannot distinguish one from the other: the attempts are the same, but for tokens and words at ends, and for how an end came that brings the same
--- reset; of calls the same was accepted, with the same limits
+-- reset. Of calls the same was accepted, with the same limits
 pub record IsSameRow (s t : Seen) (a b : Attempt) : Type 0 where
   pub place : b.place ≡ a.place
   pub call : b.row.call ≡ a.row.call

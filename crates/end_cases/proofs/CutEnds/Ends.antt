@@ -38,10 +38,6 @@ use Rattle.session_order.specs.declared.line.Line.{Line}
 use Rattle.std.proofs.Common.{Bool, List, None, Option, Some, [], ap, cond, eqb-true, false, filter, is_none, is_some, nat_lt, not, refl, slice_get, subst, suc, sym, true, zero, ℕ, ◌&&◌, ◌==◌, ◌||◌, ◌∙◌, ◌∷◌, ◌≡◌}
 use Rattle.std.proofs.lemmas.Bool.{and_parts, and_right, both_ways}
 
-not_so : (b : Bool) → not b ≡ true → b ≡ false
-not_so false e = refl
-not_so true e = absurd (cc)
-
 all_of : (p q r : Bool) → p ≡ true → q ≡ true → r ≡ true → (p && (q && r)) ≡ true
 all_of true true true e f g = refl
 all_of false q r e f g = absurd (cc)
@@ -92,9 +88,6 @@ module _ (later : List (ℕ × RowEnd)) (waits : Line → Bool) (also : List ℕ
       (none : next_cut_of n t ≡ None) where
     abbrev v : Seen
     v = closing.v later waits also a out x o s is counting
-
-    abbrev dk : Call
-    dk = closing.dk later waits also a out x o s is counting
 
     abbrev p : OpenEntry
     p = closing.entry_then later waits also a out x o s is counting

@@ -46,9 +46,6 @@ turned m n e = grind (arith, nat_tests, e)
 between : (x y z : ℕ) → nat_lt z x ≡ false → nat_lt z y ≡ true → nat_lt x y ≡ true
 between x y z e f = grind (arith, nat_tests, e, f)
 
-not_above : (x y z : ℕ) → nat_lt z x ≡ true → nat_lt z y ≡ false → nat_lt x y ≡ false
-not_above x y z e f = grind (arith, nat_tests, e, f)
-
 below : (x y z : ℕ) → nat_lt z x ≡ true → nat_lt z y ≡ false → nat_lt y x ≡ true
 below x y z e f = grind (arith, nat_tests, e, f)
 

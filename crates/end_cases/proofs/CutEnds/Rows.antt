@@ -49,10 +49,6 @@ unplaced_by : (p : Option Placed) (e v : Bool) → ((is_none p && e) && v) ≡ t
 unplaced_by None e v h = refl
 unplaced_by (Some at) e v h = absurd (cc)
 
-not_so : (b : Bool) → not b ≡ true → b ≡ false
-not_so false e = refl
-not_so true e = absurd (cc)
-
 both_of : (p q : Bool) → p ≡ true → q ≡ true → (p && q) ≡ true
 both_of true q e f = f
 both_of false q e f = absurd (cc)

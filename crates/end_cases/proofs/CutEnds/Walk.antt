@@ -1,4 +1,4 @@
--- A call has just been committed to an attempt that ended by a last end, while others of it go on: these are cut off, one after the other, each the next action, and
+-- A call has just been committed to an attempt that ended by a last end, while others of it go on. These are cut off, one after the other, each the next action, and
 -- nothing follows at once then but the end of the call and what may wait.
 use Rattle.attempt_ledger.specs.declared.row.Placed.{Placed}
 use Rattle.attempt_ledger.specs.declared.row.RowEnd.{RowEnd}

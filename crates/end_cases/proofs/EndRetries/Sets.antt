@@ -117,9 +117,6 @@ module _ (later : List (ℕ × RowEnd)) (waits : Line → Bool) (also : List ℕ
   abbrev grown : Seen
   grown = retry.grown later waits also a out x o s is going follows r
 
-  abbrev dk : Call
-  dk = retry.dk later waits also a out x o s is going follows
-
   abbrev dw : Call
   dw = retry.its later waits also a out x o s is going follows r
 

@@ -12,7 +12,7 @@ use Rattle.call_core.specs.Steps.{Stepped}
 use Rattle.channel_actions.proofs.Does.{does_on}
 use Rattle.channel_actions.proofs.KeptSessions.Along.{kept_along}
 use Rattle.channel_actions.proofs.Links.Frames.Frame.{links_stay}
-use Rattle.channel_actions.proofs.Links.Frames.Untold.{lists_are_untold}
+use Rattle.channel_actions.proofs.Links.Frames.NoDifference.{lists_make_no_difference}
 use Rattle.call_cases.proofs.OtherCalls.Rows.{columns_stay}
 use Rattle.call_cases.proofs.OtherCalls.Sets.{sets_stay}
 use Rattle.call_cases.proofs.OtherCalls.Slots.{all_calls_stay}
@@ -26,7 +26,7 @@ use Rattle.channel_actions.specs.Calls.{HasSlot, SeesCall, deadline_of, due_of, 
 use Rattle.channel_actions.specs.Columns.{SeesColumns, links_noted}
 use Rattle.channel_actions.specs.Configs.{SeesBuckets, bucket_in, runs_in_turn}
 use Rattle.channel_actions.specs.KeptSessions.Kept.{IsKept}
-use Rattle.channel_actions.specs.LinkFrames.Alike.{CannotDistinguish}
+use Rattle.channel_actions.specs.LinkFrames.Alike.{SeesNoDifference}
 use Rattle.channel_actions.specs.LinkFrames.Bears.{bear_on}
 use Rattle.channel_actions.specs.Links.{SeesLinks}
 use Rattle.call_cases.specs.OtherCalls.Laws.{SetsApart}
@@ -353,8 +353,8 @@ module _ (x : StateSeen) (o : OpenEntry) (s0 : Seen) (k : LastHedge x o (with_op
           ∙ sym (set_length x.book.calls (n - 1) slot2)
 
       -- the links
-      cannot : CannotDistinguish (bear_on all s) s t
-      cannot = lists_are_untold all s t (all_kept all s t h.kept does) (tt, (tt, (tt, tt))) does
+      cannot : SeesNoDifference (bear_on all s) s t
+      cannot = lists_make_no_difference all s t (all_kept all s t h.kept does) (tt, (tt, (tt, tt))) does
 
       links : SeesLinks y t
       links =

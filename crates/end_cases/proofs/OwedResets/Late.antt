@@ -12,7 +12,7 @@ use Rattle.channel_actions.proofs.Links.Frames.Streams.{streams_still}
 use Rattle.channel_actions.proofs.Lines.{all_at_places}
 use Rattle.channel_actions.proofs.Stamps.{counted_at, map_same}
 use Rattle.channel_actions.specs.KeptSessions.Kept.{IsKept}
-use Rattle.channel_actions.specs.LinkFrames.Alike.{AttemptsAreAlike, CannotDistinguish, Numbers}
+use Rattle.channel_actions.specs.LinkFrames.Alike.{AttemptsAreAlike, SeesNoDifference, Numbers}
 use Rattle.channel_actions.specs.Links.{lines_in}
 use Rattle.channel_actions.specs.Readers.{SeesReaders}
 use Rattle.call_cases.proofs.ConfiguredCalls.Lists.{changed_length}
@@ -158,14 +158,14 @@ module _ (s : Seen) (a : Attempt) (index number : ℕ) (at : slice_get s.attempt
       ∙ ap (λ (xs : List Attempt). suc (length (filter (pending s) xs))) (sym attempts_are)
       ∙ ap (λ (xs : List Attempt). suc (length xs)) (sym (filter_same (pending z) (pending s) (λ b. ap (λ (o : Option ℕ). is_some o) (codes b)) z.attempts))
 
-  -- no link can distinguish it but by what it owes
-  untold : CannotDistinguish (λ link. false) s (with_attempt with_reset_queued a.place s)
-  untold =
+  -- it makes no difference to a link but by what that owes
+  no_difference : SeesNoDifference (λ link. false) s (with_attempt with_reset_queued a.place s)
+  no_difference =
       attempt_changed (λ link. false) with_reset_queued a.place s
       (λ x here. record { place = refl; call = refl; on = λ link apart. refl; stream = λ link apart on. refl })
 
   alike : AttemptsAreAlike (λ link. false) s z s.attempts z.attempts
-  alike = realike (λ link. false) s (with_attempt with_reset_queued a.place s) z.links s.attempts z.attempts untold.attempts
+  alike = realike (λ link. false) s (with_attempt with_reset_queued a.place s) z.links s.attempts z.attempts no_difference.attempts
 
   module _ (kept_z : IsKept z) (placed_z : AttemptsStandInPlace 1 z.attempts) where
     -- its own link, and another one

@@ -42,7 +42,7 @@ use Rattle.session_order.specs.Quiescent.{IsStill}
 use Rattle.session_order.specs.declared.line.Line.{Line}
 use Rattle.session_order.specs.declared.line.Line.TheVariants as line
 
--- what the channel does: the attempt leaves the queue, or those that are outstanding; its call is notified of the end, and is followed; and its link is gone where it is
+-- what the channel does: the attempt leaves the queue, or those that are outstanding; its call is notified of the end, and is followed. Its link is gone where it is
 -- over, or takes no further attempt and this was the last one on it
 abbrev pub taken_off : ℕ → ℕ → Option Placed → StateSeen → StateSeen
 taken_off call row None x = unqueued call row x

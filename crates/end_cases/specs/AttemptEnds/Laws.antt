@@ -1,4 +1,4 @@
--- One attempt ends, and channel and session agree again: the call goes on, by a retry that is set, by another attempt, or by a hedge that is due; a transparent retry
+-- One attempt ends, and channel and session agree again: the call goes on, by a retry that is set, by another attempt, or by a hedge that is due. A transparent retry
 -- is made at once; or the end is the last one, and the call ends by it (gRFC A6, "Retry Policy", "Hedging Policy", "Transparent Retries", "When Retries are Valid").
 -- Example: of a hedged call the attempts 1 and 2 are on link 1, which is lost. AttemptEnds 1, with UNAVAILABLE, a code of hedgingPolicy; attempt 2 goes on. Then
 -- AttemptEnds 2; no further attempt is due: CallCommitted 2, and the call ends with UNAVAILABLE.

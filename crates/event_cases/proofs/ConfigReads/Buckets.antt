@@ -89,9 +89,6 @@ throttles_turned u v =
     ap (λ (b : Bool). b && (u.ratio == v.ratio)) (turned u.start v.start) ∙ ap (λ (b : Bool). (v.start == u.start) && b) (turned u.ratio v.ratio)
 
 module _ (s : Seen) (b : BucketsSeen) (sees : SeesBuckets b s) (book : IsBook s) (throttled : BucketsFollowConfigs s) where
-  is_there : Option ℕ → Bool
-  is_there r = option_map_or (λ (k : ℕ). is_some (numbered s.runs k)) r true
-
   after_by : (r : Option ℕ) (g : HeldConfig) (configs : List HeldConfig) (x : Bool) → option_map_or (λ (k : ℕ). is_some (numbered s.runs k)) g.run true ≡ true
       → list_all (λ (q : Option ℕ). option_map_or (λ (k : ℕ). is_some (numbered s.runs k)) q true) (runs_after r configs) ≡ true
       → list_all (λ (q : Option ℕ). option_map_or (λ (k : ℕ). is_some (numbered s.runs k)) q true) (runs_after g.run configs) ≡ true

@@ -5,7 +5,7 @@ use Rattle.std.specs.Option.{option_map}
 use Rattle.call_actions.specs.CallsApart.Apart.{IsBook}
 use Rattle.channel_actions.proofs.KeptSessions.Along.{kept_along}
 use Rattle.channel_actions.proofs.Links.Frames.Frame.{links_stay}
-use Rattle.channel_actions.proofs.Links.Frames.Untold.{actions_are_untold}
+use Rattle.channel_actions.proofs.Links.Frames.NoDifference.{actions_make_no_difference}
 use Rattle.call_cases.proofs.OtherCalls.Along.{booked}
 use Rattle.call_cases.proofs.OtherCalls.Sets.{sets_stay}
 use Rattle.call_cases.proofs.OtherCalls.Slots.{all_calls_stay}
@@ -15,7 +15,7 @@ use Rattle.channel_actions.specs.Clock.{DrawsAlike}
 use Rattle.channel_actions.specs.Columns.{SeesColumns}
 use Rattle.channel_actions.specs.Configs.{SeesBuckets}
 use Rattle.channel_actions.specs.KeptSessions.Kept.{IsKept}
-use Rattle.channel_actions.specs.LinkFrames.Alike.{CannotDistinguish}
+use Rattle.channel_actions.specs.LinkFrames.Alike.{SeesNoDifference}
 use Rattle.channel_actions.specs.LinkFrames.Bears.{bears_on}
 use Rattle.channel_actions.specs.Links.{SeesLinks}
 use Rattle.call_cases.specs.OtherCalls.Laws.{SetsApart}
@@ -114,7 +114,7 @@ module _ (x : StateSeen) (o : OpenEntry) (s : Seen) (h : Agrees x (with_open o s
 
   links : SeesLinks y t
   links =
-      links_stay (bears_on a v) x y v t h.links h.kept kept (λ link e. refl) (subst (CannotDistinguish (bears_on a v) v) read_is (actions_are_untold a v h.kept tt)) h.links.count
+      links_stay (bears_on a v) x y v t h.links h.kept kept (λ link e. refl) (subst (SeesNoDifference (bears_on a v) v) read_is (actions_make_no_difference a v h.kept tt)) h.links.count
       (λ link l e f. absurd (cc))
 
   sets : SetsApart 0 v t

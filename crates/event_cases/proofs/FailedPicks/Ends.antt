@@ -11,7 +11,7 @@ use Rattle.channel_actions.proofs.KeptSessions.Along.{kept_begins, kept_stays}
 use Rattle.channel_actions.proofs.Lines.{all_at_places}
 use Rattle.channel_actions.proofs.Links.Frames.Readers.{readers_still}
 use Rattle.channel_actions.proofs.Links.Frames.Streams.{streams_still}
-use Rattle.channel_actions.proofs.Links.Frames.Untold.{actions_are_untold}
+use Rattle.channel_actions.proofs.Links.Frames.NoDifference.{actions_make_no_difference}
 use Rattle.channel_actions.proofs.Streams.Own.Along.{streams_along, streams_begin}
 use Rattle.channel_actions.proofs.Stamps.{counted_at}
 use Rattle.channel_actions.specs.Agrees.{Agrees}
@@ -19,7 +19,7 @@ use Rattle.call_cases.specs.EndsFollow.Cuts.{NoStreamIsToReset}
 use Rattle.channel_actions.specs.FewCalls.Reached.{IsReached}
 use Rattle.channel_actions.specs.GoingCalls.Going.{CallsGoOn}
 use Rattle.channel_actions.specs.KeptSessions.Kept.{IsKept}
-use Rattle.channel_actions.specs.LinkFrames.Alike.{CannotDistinguish}
+use Rattle.channel_actions.specs.LinkFrames.Alike.{SeesNoDifference}
 use Rattle.channel_actions.specs.LinkFrames.Bears.{bears_on, is_placed_on}
 use Rattle.channel_actions.specs.Links.{HasLink, IsGoing, lines_in}
 use Rattle.channel_actions.specs.OwnStreams.Own.{StreamsAreOwn}
@@ -208,8 +208,8 @@ module _ (a : Attempt) (y : StateSeen) (o : OpenEntry) (s : Seen) (h : Agrees y 
       (filter_none (is_owed_on m t) (is_to_reset t) (λ b f. ap (λ (z : Bool). z && (link_number b == m.number)) f) t.attempts unowed)
 
   -- and each link is as it was
-  untold : CannotDistinguish (bears_on (action.AttemptEnds a.place e) s) s t
-  untold = subst (CannotDistinguish (bears_on (action.AttemptEnds a.place e) s) s) after_is (actions_are_untold (action.AttemptEnds a.place e) s kept tt)
+  no_difference : SeesNoDifference (bears_on (action.AttemptEnds a.place e) s) s t
+  no_difference = subst (SeesNoDifference (bears_on (action.AttemptEnds a.place e) s) s) after_is (actions_make_no_difference (action.AttemptEnds a.place e) s kept tt)
 
   placed_t : AttemptsStandInPlace 1 t.attempts
   placed_t = placed_of 1 t.attempts kept_t.book.places
@@ -223,9 +223,9 @@ module _ (a : Attempt) (y : StateSeen) (o : OpenEntry) (s : Seen) (h : Agrees y 
       record {
         streams = subst (λ (rs : List (ℕ × ℕ)). SeesAhead rs m t slot.link.link.wire (lines_in m t)) (sym (none_owed m))
             (none_is_ahead m t slot.link.link.wire (lines_in m t)
-            (streams_still m m s t (bears_on (action.AttemptEnds a.place e) s) (apart_from m) kept.owned (all_at_places t.attempts kept_t.attempts) untold.attempts
+            (streams_still m m s t (bears_on (action.AttemptEnds a.place e) s) (apart_from m) kept.owned (all_at_places t.attempts kept_t.attempts) no_difference.attempts
             slot.link.link.wire (lines_in m s) (record { number = refl; traffic_ = refl; owed = refl }) k.streams at_t placed_t));
-        readers = readers_still (bears_on (action.AttemptEnds a.place e) s) m m s t refl refl at at_t (apart_from m) slot.link.readers kept.owned untold.attempts k.readers;
+        readers = readers_still (bears_on (action.AttemptEnds a.place e) s) m m s t refl refl at at_t (apart_from m) slot.link.readers kept.owned no_difference.attempts k.readers;
         rest = k.rest;
         fresh = k.closed ∙ sym (ap (λ (rs : List (ℕ × ℕ)). length rs) (none_owed m));
       }

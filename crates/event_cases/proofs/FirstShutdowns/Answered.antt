@@ -26,7 +26,7 @@ use Rattle.channel_actions.specs.TheirLinks.Theirs.{LinksAreTheirs}
 use Rattle.call_cases.proofs.CallPosts.Answered.{of_order}
 use Rattle.attempt_cases.proofs.DialEvents.Nets.{one_call_more}
 use Rattle.event_cases.proofs.FirstShutdowns.Over.{shutdowns_end_calls}
-use Rattle.attempt_cases.proofs.NetSteps.Alike.{untold_links_agree}
+use Rattle.attempt_cases.proofs.NetSteps.Alike.{links_without_difference_agree}
 use Rattle.attempt_cases.proofs.NetSteps.Clocks.{clock_goes_on}
 use Rattle.attempt_cases.proofs.NetSteps.Stepped.{net_steps_keep}
 use Rattle.attempt_cases.proofs.NetSteps.Subbed.{subbed_links}
@@ -208,7 +208,7 @@ module _ (chains : ChainsAreNext) (along : TheirsAlong) (stamps : ShutsAreStampe
     generations = stamped.generations ∙ ap (λ (w : StateSeen). w.book.ledger.generations) closed_is;
     noted = stamped.links;
     policy = λ held unshut. absurd (both_ways c.seen.shut unshut c.shut);
-    links = untold_links_agree links_stay z y c.seen v c.agrees.kept later boarded (links_along b.runs.actions p c.seen v b.runs.does) refl c.agrees.links;
+    links = links_without_difference_agree links_stay z y c.seen v c.agrees.kept later boarded (links_along b.runs.actions p c.seen v b.runs.does) refl c.agrees.links;
     net = b.sees;
     orderly = one_call_more Shut z.net c.agrees.orderly;
   })

@@ -135,10 +135,6 @@ module _ (s : Seen) (n : NetSeen) (h : Sees s n) (counted : NumbersCountUp 1 (ma
         ∙ ap (λ (b : Bool). retired_if b e (retired_if (is_current g) e g.generation)) (sym is_pending_at)
         ∙ ap (λ (b : Bool). retired_if (is_at p k) e (retired_if b e g.generation)) (sym is_current_at)
 
-  twice : (k : ℕ) (a b : Bool) (o : Option Generation) → option_map (retired_if a e) (option_map (retired_if b e) o) ≡ option_map (λ (g : Generation). retired_if a e (retired_if b e g)) o
-  twice k a b None = refl
-  twice k a b (Some g) = refl
-
   each_by : (k : ℕ) (o : Option PolicyUse) → numbered s.policies k ≡ o
       → option_map drop (option_map (λ (g : PolicyUse). g.generation) o)
       ≡ option_map (retired_if (is_at p k) e) (option_map (retired_if (is_at c k) e) (option_map (λ (g : PolicyUse). g.generation) o))

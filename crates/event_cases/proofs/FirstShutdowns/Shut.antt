@@ -3,7 +3,7 @@ use Rattle.std.proofs.Common.{◌≡◌, ◌==◌, ◌∷◌, arith, refl, sym, 
 use Rattle.std.proofs.lemmas.Bool.Decides.{nat_tests}
 use Rattle.channel_actions.proofs.KeptSessions.Along.{kept_along}
 use Rattle.channel_actions.proofs.Links.Frames.Frame.{links_stay}
-use Rattle.channel_actions.proofs.Links.Frames.Untold.{actions_are_untold}
+use Rattle.channel_actions.proofs.Links.Frames.NoDifference.{actions_make_no_difference}
 use Rattle.call_cases.proofs.OtherCalls.Along.{booked}
 use Rattle.call_cases.proofs.OtherCalls.Sets.{sets_stay}
 use Rattle.call_cases.proofs.OtherCalls.Slots.{all_calls_stay}
@@ -88,7 +88,7 @@ module _ (x : StateSeen) (o : OpenEntry) (s : Seen) (h : Agrees x (with_open o s
 
   links : SeesLinks y t
   links =
-      links_stay (bears_on action.ChannelShuts u) x y u t h.links h.kept kept (λ link e. refl) (actions_are_untold action.ChannelShuts u h.kept tt) h.links.count
+      links_stay (bears_on action.ChannelShuts u) x y u t h.links h.kept kept (λ link e. refl) (actions_make_no_difference action.ChannelShuts u h.kept tt) h.links.count
       (λ link l e f. absurd (cc))
 
   sets : SetsApart 0 u t

@@ -25,7 +25,7 @@ use Rattle.event_cases.proofs.GenerationStamps.Along.{gens, generations_along}
 use Rattle.event_cases.proofs.GenerationStamps.Results.{results_stamp_alike}
 use Rattle.event_cases.proofs.HeldResults.LeftNets.{links_left_by, still_shut}
 use Rattle.event_cases.proofs.HeldResults.Unread.{reread, restamped, stamps_other}
-use Rattle.attempt_cases.proofs.NetSteps.Alike.{untold_links_agree}
+use Rattle.attempt_cases.proofs.NetSteps.Alike.{links_without_difference_agree}
 use Rattle.attempt_cases.proofs.NetSteps.Clocks.{clock_goes_on, entry_goes_on}
 use Rattle.event_cases.proofs.HeldResults.Mid.{IsMid}
 use Rattle.event_cases.proofs.HeldResults.Stepped.{mid_steps_keep}
@@ -240,7 +240,7 @@ module _ (chains : ChainsAreNext) (keeps : GenerationsAreKept) (left_stamped : L
     generations = generations;
     noted = noted;
     policy = λ held unshut. current_is;
-    links = untold_links_agree links_stay y z t w q.mid.kept later boarded links_same refl q.mid.links;
+    links = links_without_difference_agree links_stay y z t w q.mid.kept later boarded links_same refl q.mid.links;
     net = b.sees;
     orderly = orderly;
   })

@@ -14,13 +14,13 @@ use Rattle.channel_actions.proofs.Gone.{all_numbered}
 use Rattle.channel_actions.proofs.KeptSessions.Along.{kept_stays}
 use Rattle.channel_actions.proofs.Links.Frames.Readers.{readers_still}
 use Rattle.channel_actions.proofs.Links.Frames.Streams.{streams_still}
-use Rattle.channel_actions.proofs.Links.Frames.Untold.{actions_are_untold}
+use Rattle.channel_actions.proofs.Links.Frames.NoDifference.{actions_make_no_difference}
 use Rattle.channel_actions.proofs.Lines.{all_at_places}
 use Rattle.channel_actions.proofs.Stamps.{counted_at, map_same}
 use Rattle.channel_actions.specs.GoingCalls.Going.{CallsGoOn}
 use Rattle.channel_actions.specs.PrefacedLinks.Prefaced.{LinksArePrefaced}
 use Rattle.channel_actions.specs.KeptSessions.Kept.{IsKept}
-use Rattle.channel_actions.specs.LinkFrames.Alike.{CannotDistinguish}
+use Rattle.channel_actions.specs.LinkFrames.Alike.{SeesNoDifference}
 use Rattle.channel_actions.specs.LinkFrames.Bears.{bears_on, is_placed_on}
 use Rattle.channel_actions.specs.Links.{lines_in}
 use Rattle.channel_actions.specs.OwnStreams.Own.{StreamsAreOwn}
@@ -133,10 +133,6 @@ pub lives_by : (own out waits : Bool) → own ≡ true → out ≡ true → (own
 lives_by true true waits e f = refl
 lives_by true false waits e f = absurd (cc)
 lives_by false out waits e f = absurd (cc)
-
-and_off : (a b : Bool) → a ≡ false → (a && b) ≡ false
-and_off true b e = absurd (cc)
-and_off false b e = refl
 
 -- an attempt on another link is not placed on this one
 off_by : (n k : ℕ) (p : Option Placed) (at : Placed) → p ≡ Some at → at.link ≡ k → (n ≡ k → ⊥) → holds (λ (q : Placed). q.link == n) p ≡ false
@@ -317,8 +313,8 @@ module _ (waits : Line → Bool) (also : List ℕ) (l : Link) (x : StateSeen) (o
   x_links : (stamped_gone l.number x).links ≡ x.links
   x_links = ap (λ (z : StateSeen). z.links) (stamped_form l.number x)
 
-  untold : CannotDistinguish (bears_on (action.AttemptEnds a.place e) s) s t
-  untold = subst (CannotDistinguish (bears_on (action.AttemptEnds a.place e) s) s) after_is (actions_are_untold (action.AttemptEnds a.place e) s kept tt)
+  no_difference : SeesNoDifference (bears_on (action.AttemptEnds a.place e) s) s t
+  no_difference = subst (SeesNoDifference (bears_on (action.AttemptEnds a.place e) s) s) after_is (actions_make_no_difference (action.AttemptEnds a.place e) s kept tt)
 
   placed_t : AttemptsStandInPlace 1 t.attempts
   placed_t = placed_of 1 t.attempts kept_t.book.places
@@ -334,12 +330,12 @@ module _ (waits : Line → Bool) (also : List ℕ) (l : Link) (x : StateSeen) (o
         streams = subst (λ (rs : List (ℕ × ℕ)). SeesAhead rs m t slot.link.link.wire (lines_in m t)) (sym (owed_same m))
             (record {
               wire = k.streams.wire;
-              sees = streams_still m m s t (bears_on (action.AttemptEnds a.place e) s) (apart m other) kept.owned (all_at_places t.attempts kept_t.attempts) untold.attempts
+              sees = streams_still m m s t (bears_on (action.AttemptEnds a.place e) s) (apart m other) kept.owned (all_at_places t.attempts kept_t.attempts) no_difference.attempts
                   k.streams.wire (lines_in m s) (record { number = refl; traffic_ = refl; owed = refl }) k.streams.sees at_t placed_t;
               same = k.streams.same;
               queue = k.streams.queue;
             });
-        readers = readers_still (bears_on (action.AttemptEnds a.place e) s) m m s t refl refl at at_t (apart m other) slot.link.readers kept.owned untold.attempts k.readers;
+        readers = readers_still (bears_on (action.AttemptEnds a.place e) s) m m s t refl refl at at_t (apart m other) slot.link.readers kept.owned no_difference.attempts k.readers;
         rest = k.rest;
         fresh = k.fresh ∙ sym (ap (λ (rs : List (ℕ × ℕ)). length rs) (owed_same m));
       }

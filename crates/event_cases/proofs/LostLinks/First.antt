@@ -93,9 +93,6 @@ nothing p (x ∷ xs) q is there = nothing_by p x q xs (p x) refl (is_same q x) r
 after_on : (link m n : ℕ) → nat_lt m n ≡ true → comes_after (link, m) (link, n) ≡ true
 after_on link m n e = grind (arith, nat_tests, e)
 
-above_on : (link m : ℕ) (p : ℕ × ℕ) → comes_after (link, m) p ≡ true → (p.0 == link) ≡ true → nat_lt m p.1 ≡ true
-above_on link m p e f = grind (arith, nat_tests, e, f)
-
 not_below : (link n : ℕ) (p : ℕ × ℕ) → comes_after (link, n) p ≡ false → (p.0 == link) ≡ true → nat_lt n p.1 ≡ false
 not_below link n p e f = grind (arith, nat_tests, e, f)
 

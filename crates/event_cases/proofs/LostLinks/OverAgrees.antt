@@ -12,14 +12,14 @@ use Rattle.channel_actions.specs.BoardActions.Boards.{IsBoarded}
 use Rattle.channel_actions.specs.Clock.{DrawsAlike, SeesClock}
 use Rattle.channel_actions.specs.Columns.{links_noted}
 use Rattle.channel_actions.specs.KeptSessions.Kept.{IsKept}
-use Rattle.channel_actions.specs.LinkFrames.Alike.{CannotDistinguish}
+use Rattle.channel_actions.specs.LinkFrames.Alike.{SeesNoDifference}
 use Rattle.channel_actions.specs.Links.{HasLink, SeesLinks}
 use Rattle.call_cases.specs.OtherCalls.Others.{ActionsAreOfCall, GoesApart}
 use Rattle.call_cases.proofs.ConfiguredCalls.Lists.{changed_length}
 use Rattle.attempt_cases.proofs.DialEvents.Nets.{one_call_more}
 use Rattle.attempt_cases.proofs.NetSettlings.Limits.{limits_form}
 use Rattle.attempt_cases.proofs.NetSettlings.Stamped.{map_stamped, stamp_over}
-use Rattle.attempt_cases.proofs.NetSteps.Alike.{links_cannot_distinguish, still}
+use Rattle.attempt_cases.proofs.NetSteps.Alike.{links_see_no_difference, still}
 use Rattle.attempt_cases.proofs.NetSteps.Clocks.{clock_goes_on, entry_goes_on}
 use Rattle.attempt_cases.proofs.NetSteps.Stepped.{IsBeside, agrees_after, booked}
 use Rattle.attempt_cases.proofs.NetSteps.Subbed.{current_stays, noted_gone_same}
@@ -148,9 +148,9 @@ module _ (why : LinkOver) (act : Action) (link : ℕ) (x : StateSeen) (o : OpenE
     others : (n : ℕ) → touched n ≡ false → numbered (marked_dead_in link slots) n ≡ numbered x.links n
     others n off = number_other tables.marked_dead slots link n (λ e. eqb-false link n off (sym e)) ∙ these.others n off
 
-    untold : CannotDistinguish touched s t
-    untold =
-        links_cannot_distinguish touched s t boarded
+    no_difference : SeesNoDifference touched s t
+    no_difference =
+        links_see_no_difference touched s t boarded
         (λ n z off here. (
           z,
           sym (ap (λ (ls : List Link). numbered ls n) dn.links ∙ away_v why act link x o s g n (λ e. eqb-false link n off (sym e))) ∙ here,
@@ -176,7 +176,7 @@ module _ (why : LinkOver) (act : Action) (link : ℕ) (x : StateSeen) (o : OpenE
 
     links : SeesLinks w t
     links =
-        links_stay touched x w s t h.links h.kept kept_t others untold long
+        links_stay touched x w s t h.links h.kept kept_t others no_difference long
         (λ n z on here.
         let number : link ≡ n = eqb-true link n on in subst (HasLink w t z) number (has_it z (ap (numbered t.links) number ∙ here)))
 

@@ -125,9 +125,6 @@ pub record HasDone (most row link : ℕ) (x : StateSeen) (o : OpenEntry) (s : Se
   pub quiescent : (m : Line) → IsStill m entry seen
   pub agrees : Agrees (stamped_gone link (rows_lost most link true row x)) seen
 
-one_only : (x : Option Attempt) (a b : Attempt) → x ≡ Some a → x ≡ Some b → a ≡ b
-one_only x a b e f = let both : Some a ≡ Some b = sym e ∙ f in (cc)
-
 module _ (ends : OneAttemptEnds) (stays : EndsStayHeld) (going : LossesGoOn) where
   module _ (l : Link) (x : StateSeen) (o : OpenEntry) (s : Seen) (is : LossGoesOn l x o s) (a : Attempt) (first : slice_get (outstanding_on l s) 0 ≡ Some a) where
     abbrev over_ : OverGoesOn none_waits [] l x o s

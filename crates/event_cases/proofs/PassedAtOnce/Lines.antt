@@ -119,9 +119,6 @@ module _ (p : Action → Bool) where
   allow_if true o q f g = f
   allow_if false o q f g = g
 
-  plain_or : (o : Option Action) (rest : List (Option Action)) → AllowsIf p o → AllowsIf p (first_action rest) → AllowsIf p (first_action (o ∷ rest))
-  plain_or o rest f g = allow_or o (first_action rest) f g
-
 module _ (p : Action → Bool) (once : (a : Action) → is_at_once a ≡ true → p a ≡ true) (s : Seen) where
   cut_allowed : (a : Attempt) → AllowsIf p (cut s a)
   cut_allowed a = allow_if p (is_outstanding a && is_over a s) (Some (action.AttemptEnds a.place (end_of a cut_end s))) None (once (action.AttemptEnds a.place (end_of a cut_end s)) refl) tt

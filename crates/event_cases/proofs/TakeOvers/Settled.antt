@@ -24,7 +24,7 @@ use Rattle.event_cases.proofs.GenerationStamps.Over.{may_by, pending_by}
 use Rattle.event_cases.proofs.HeldResults.LeftNets.{links_left_by, still_shut}
 use Rattle.attempt_cases.proofs.NetSettlings.Wished.{wishes_are_parts}
 use Rattle.attempt_cases.proofs.NetSettlings.Wishing.{IsDone, IsOn, connect_on, none_over}
-use Rattle.attempt_cases.proofs.NetSteps.Alike.{untold_links_agree}
+use Rattle.attempt_cases.proofs.NetSteps.Alike.{links_without_difference_agree}
 use Rattle.attempt_cases.proofs.NetSteps.Clocks.{clock_goes_on, entry_goes_on}
 use Rattle.attempt_cases.proofs.NetSteps.Stepped.{net_steps_keep}
 use Rattle.attempt_cases.proofs.NetSteps.Subbed.{current_stays}
@@ -161,7 +161,7 @@ module _ (exact : QuiescenceIsExact) (stir : BoardsStir) (apart : PoliciesStirAp
     sees = over.sees;
     ages = over.ages;
     joined = joined_t;
-    links = untold_links_agree links_stay x x s t h.kept kept_t boarded_t over.links refl h.links;
+    links = links_without_difference_agree links_stay x x s t h.kept kept_t boarded_t over.links refl h.links;
     noted = refl;
     clock = over.clock;
   }

@@ -1,5 +1,5 @@
 -- A result of the resolver after which a config is held is answered alike by channel and session: the config is read, the policy of its kind gets the addresses,
--- and subchannels go and come. Attempts go on, and no link reports.
+-- and subchannels go and come. Attempts go on, and on no link does anything change.
 -- Example: pick_first is current, with subchannel 1, and a result names round_robin, with the addresses of the subchannels 1 and 2. ConfigRead, PolicyBegins,
 -- AddressesGiven, and SubchannelAdded. The channel does the same at once, and both have generation 2 pending.
 use Rattle.channel_actions.specs.Stages.{EventsAnswered}

@@ -1,4 +1,4 @@
--- An attempt that gets its stream leaves its call, and every other one, as it is in all but the bytes of its messages: the call of a channel agrees with the
+-- An attempt that gets its stream leaves its call, and every other one, as it is in all but the bytes of its messages. The call of a channel agrees with the
 -- session as before, with the rows and links of the ledger that there are then, and with the buffer that a drain leaves.
 -- Example: HEADERS are written for attempt 1 of call 1. Its row has stream 1; that attempt 1 is live, that nothing is due of call 1, and what came of its
 -- response, is as before.

@@ -22,7 +22,7 @@ use Rattle.frame_cases.proofs.BrokenLinks.Deaf.{still_there}
 use Rattle.frame_cases.proofs.BrokenLinks.Starts.{act, break_goes_on, broken_over, received_is, received_x, lost_l, number_is, t}
 use Rattle.frame_cases.proofs.BrokenLinks.Unheeded.{agrees_unheeded}
 use Rattle.frame_cases.proofs.BrokenLinks.Walk.{HasBroken, breaks_end_in_turn}
-use Rattle.frame_cases.specs.BrokenLinks.Laws.{BrokenLinksAreReceived}
+use Rattle.frame_cases.specs.BrokenLinks.Laws.{BrokenLinksAreHandled}
 use Rattle.frame_cases.specs.PieceWalks.Points.{HasReceived, IsReceiving, coming}
 use Rattle.link_actions.specs.ResponseActions.Gained.{is_listed_fairly}
 use Rattle.session_actions.specs.Links.{read_bytes}
@@ -112,6 +112,6 @@ module _ (each : EachHoldsSoundly) (runs : RunsOfSessions) (stays : EndsStayHeld
         (agrees_unheeded link (drop h.taken piece) _ ended.entry ended.seen ended.agrees ended.current m found.1.0 over_m);
   }
 
-pub broken_links_are_received : EachHoldsSoundly → RunsOfSessions → EndsStayHeld → LossesGoOn → BrokenLinksAreReceived
-broken_links_are_received each runs stays losses ends link piece x o s a h is next receives case =
+pub broken_links_are_handled : EachHoldsSoundly → RunsOfSessions → EndsStayHeld → LossesGoOn → BrokenLinksAreHandled
+broken_links_are_handled each runs stays losses ends link piece x o s a h is next receives case =
     received_break each runs stays losses ends link piece x o s is h case.code (next ∙ ap (λ (b : Action). Some b) case.is) receives case.few

@@ -1,7 +1,7 @@
 -- What the channel keeps of the bytes of a link that is over does not matter.
 use Rattle.std.proofs.Common.{◌≡◌, ◌==◌, ap, refl, subst, sym, ◌∙◌, true, false, List, [], Option, None, Some, ℕ, is_some, length}
 use Rattle.std.specs.Option.{option_map}
-use Rattle.channel_actions.proofs.Links.Frames.Distinguishing.{untold}
+use Rattle.channel_actions.proofs.Links.Frames.Differences.{no_difference}
 use Rattle.channel_actions.specs.Agrees.{Agrees}
 use Rattle.channel_actions.specs.Links.{HasLink}
 use Rattle.attempt_cases.proofs.DrainEvents.Rooms.{one_some}
@@ -44,7 +44,7 @@ module _ (link : ℕ) (piece : List ℕ) (y : StateSeen) (o : OpenEntry) (s : Se
     word = refl;
     drawn = refl;
     kept = h.kept;
-    cannot = untold (λ (k : ℕ). link == k) s;
+    cannot = no_difference (λ (k : ℕ). link == k) s;
     slots = λ k e. others_coming link piece y k e;
     count = h.links.count ∙ sym (changed_length (with_rest piece) y.links link);
     came_same = λ c. refl;

@@ -24,11 +24,6 @@ pub items_same : (p q : Response) → HasNothingNew p q → response_items q ≡
 items_same p q is =
     ap (λ (h : Option (List Field)). response_items (record q { head = h })) is.head ∙ ap (λ (ms : List (List ℕ)). response_items (record q { head = p.head; messages = ms })) is.messages
 
--- one alone gives an action
-none_first : {X Y : Type 0} (f : X → Option Y) (xs : List X) → ((j : ℕ) (x : X) → slice_get xs j ≡ Some x → f x ≡ None) → first_of f xs ≡ None
-none_first f [] none = refl
-none_first f (x ∷ xs) none = ap (λ (o : Option _). option_or o (first_of f xs)) (none 0 x refl) ∙ none_first f xs (λ j y at. none (suc j) y at)
-
 one_first : {X Y : Type 0} (f : X → Option Y) (xs : List X) (i : ℕ) (x : X) (y : Y) → slice_get xs i ≡ Some x → f x ≡ Some y
     → ((j : ℕ) (z : X) → slice_get xs j ≡ Some z → (j ≡ i → ⊥) → f z ≡ None) → first_of f xs ≡ Some y
 one_first f [] i x y at is none = absurd (cc)

@@ -15,7 +15,7 @@ use Rattle.frame_cases.proofs.BrokenLinks.Received.{held_known}
 use Rattle.frame_cases.proofs.EndedFrames.OneEnd.{HasEndedAlone, ended_alone}
 use Rattle.frame_cases.proofs.EndedFrames.Starts as starts
 use Rattle.frame_cases.proofs.QuietFrames.ReadStill as read
-use Rattle.frame_cases.specs.EndedFrames.Laws.{EndedFramesAreReceived}
+use Rattle.frame_cases.specs.EndedFrames.Laws.{EndedFramesAreHandled}
 use Rattle.frame_cases.specs.FrameKinds.Laws.{Ends, kind_of}
 use Rattle.frame_cases.specs.PieceWalks.Points.{HasReceived, IsReceiving, IsReadFairly}
 use Rattle.h2_frame.specs.Numbers.{goaway_type}
@@ -98,6 +98,6 @@ module _ (each : EachHoldsSoundly) (runs : RunsOfSessions) (ends : OneAttemptEnd
     agrees = subst (λ (v : StateSeen). Agrees v alone.seen) (starts.received_is link piece x o s is h r next receives no_goaway kind) alone.agrees;
   }
 
-pub ended_frames_are_received : EachHoldsSoundly → RunsOfSessions → EndedFramesAreReceived
-ended_frames_are_received each runs ends link piece x o s a h is next receives case =
+pub ended_frames_are_handled : EachHoldsSoundly → RunsOfSessions → EndedFramesAreHandled
+ended_frames_are_handled each runs ends link piece x o s a h is next receives case =
     received_end each runs ends link piece x o s is h case.frame (next ∙ ap (λ (b : Action). Some b) case.is) receives case.stays case.kind_is

@@ -16,14 +16,14 @@ use Rattle.channel_actions.proofs.Gone.{all_numbered, gone_by, sub_noted}
 use Rattle.channel_actions.proofs.KeptSessions.Along.{kept_stays}
 use Rattle.channel_actions.proofs.Links.Frames.Readers.{readers_still}
 use Rattle.channel_actions.proofs.Links.Frames.Streams.{streams_still}
-use Rattle.channel_actions.proofs.Links.Frames.Untold.{actions_are_untold}
+use Rattle.channel_actions.proofs.Links.Frames.NoDifference.{actions_make_no_difference}
 use Rattle.channel_actions.proofs.Lines.{all_at_places}
 use Rattle.channel_actions.proofs.Stamps.{counted_at}
 use Rattle.channel_actions.specs.Agrees.{Agrees}
 use Rattle.channel_actions.specs.Calls.{HasSlot}
 use Rattle.channel_actions.specs.GoingCalls.Going.{CallsGoOn, GoesOn}
 use Rattle.channel_actions.specs.KeptSessions.Kept.{IsKept}
-use Rattle.channel_actions.specs.LinkFrames.Alike.{CannotDistinguish}
+use Rattle.channel_actions.specs.LinkFrames.Alike.{SeesNoDifference}
 use Rattle.channel_actions.specs.LinkFrames.Bears.{bears_on, is_placed_on}
 use Rattle.channel_actions.specs.Links.{HasLink, IsGoing, SeesLinkOf, lines_in}
 use Rattle.end_cases.proofs.AttemptEnds.Gone.{going_gone}
@@ -245,7 +245,7 @@ module _ (link : ℕ) (piece : List ℕ) (x : StateSeen) (o : OpenEntry) (s : Se
   pub live : (more ≡ [] → ⊥) → is_committed_live a.place has.slot.call ≡ true
   live some_more = calls.committed_live (coming link piece x) o s h0 going_x quiescent_s a on.there out_a (headed some_more)
 
-  -- the channel is reported
+  -- the channel after the report
   abbrev pub news_ : EndNews
   news_ = end_news out (seen_at r)
 
@@ -469,8 +469,8 @@ module _ (link : ℕ) (piece : List ℕ) (x : StateSeen) (o : OpenEntry) (s : Se
   places_u : AttemptsStandInPlace 1 u.attempts
   places_u = placed_of 1 u.attempts kept_u.book.places
 
-  untold : CannotDistinguish (bears_on act t) t u
-  untold = actions_are_untold act t kept_t tt
+  no_difference : SeesNoDifference (bears_on act t) t u
+  no_difference = actions_make_no_difference act t kept_t tt
 
   -- what it owes
   none_owed_t : list_any (order.is_to_reset t) t.attempts ≡ false
@@ -562,9 +562,9 @@ module _ (link : ℕ) (piece : List ℕ) (x : StateSeen) (o : OpenEntry) (s : Se
               record {
                 streams = subst (λ (rs : List (ℕ × ℕ)). SeesAhead rs q u had.slot.link.link.wire (lines_in q u)) (sym none)
                     (none_is_ahead q u had.slot.link.link.wire (lines_in q u)
-                    (streams_still q q t u (bears_on act t) apart kept_t.owned (all_at_places u.attempts kept_u.attempts) untold.attempts had.slot.link.link.wire (lines_in q t)
+                    (streams_still q q t u (bears_on act t) apart kept_t.owned (all_at_places u.attempts kept_u.attempts) no_difference.attempts had.slot.link.link.wire (lines_in q t)
                     (record { number = refl; traffic_ = refl; owed = refl }) g.streams here_u places_u));
-                readers = readers_still (bears_on act t) q q t u refl refl here_q here_u apart had.slot.link.readers kept_t.owned untold.attempts g.readers;
+                readers = readers_still (bears_on act t) q q t u refl refl here_q here_u apart had.slot.link.readers kept_t.owned no_difference.attempts g.readers;
                 rest = g.rest;
                 fresh = g.closed ∙ sym (ap (λ (rs : List (ℕ × ℕ)). length rs) none);
               });

@@ -16,7 +16,7 @@ use Rattle.channel_actions.specs.Agrees.{Agrees}
 use Rattle.channel_actions.specs.BoardActions.Boards.{IsBoarded}
 use Rattle.channel_actions.specs.Columns.{links_noted}
 use Rattle.attempt_cases.proofs.DialEvents.Nets.{one_call_more}
-use Rattle.attempt_cases.proofs.NetSteps.Alike.{untold_links_agree}
+use Rattle.attempt_cases.proofs.NetSteps.Alike.{links_without_difference_agree}
 use Rattle.attempt_cases.proofs.NetSteps.Clocks.{clock_goes_on, entry_goes_on}
 use Rattle.attempt_cases.proofs.NetSteps.Stepped.{net_steps_keep}
 use Rattle.attempt_cases.proofs.NetSteps.Subbed.{current_stays, noted_same, subbed_generations, subbed_links, subbed_shut, subbed_subs}
@@ -37,7 +37,7 @@ use Rattle.frame_cases.proofs.QuietFrames.Lines as lines
 use Rattle.frame_cases.proofs.QuietFrames.ReadStill as read
 use Rattle.frame_cases.proofs.QuietFrames.Responses as responses
 use Rattle.frame_cases.specs.FrameKinds.Laws.{Prefaces, kind_of}
-use Rattle.frame_cases.specs.FirstSettings.Laws.{PrefacedFramesAreReceived}
+use Rattle.frame_cases.specs.FirstSettings.Laws.{PrefacedFramesAreHandled}
 use Rattle.frame_cases.specs.PassedBytes.Laws.{relinked}
 use Rattle.frame_cases.specs.PieceWalks.Points.{HasReceived, IsReceiving, coming}
 use Rattle.frame_cases.specs.QuietFrames.Laws.{HasNothingNew, IsReadStill}
@@ -432,7 +432,7 @@ module _ (link : ℕ) (piece : List ℕ) (x : StateSeen) (o : OpenEntry) (s : Se
       generations = generations ∙ agrees_t.columns.generations;
       noted = noted_v ∙ agrees_t.columns.links;
       policy = λ held unshut. current_stays t v generations ∙ agrees_t.configs.policy held unshut;
-      links = untold_links_agree links_stay z ready_z t v agrees_t.kept (kept_along (act ∷ []) t v agrees_t.kept does_v) boarded (subbed_links made_ready l.sub t) refl agrees_t.links;
+      links = links_without_difference_agree links_stay z ready_z t v agrees_t.kept (kept_along (act ∷ []) t v agrees_t.kept does_v) boarded (subbed_links made_ready l.sub t) refl agrees_t.links;
       net = settings_come l.sub link t x.net b agrees_t.net sub_is.1 connecting its;
       orderly = one_call_more (Ready l.sub link) x.net agrees_t.orderly;
     })
@@ -468,6 +468,6 @@ module _ (link : ℕ) (piece : List ℕ) (x : StateSeen) (o : OpenEntry) (s : Se
       by true e = received_ready (number_is link b.link e)
       by false e = received_apart e
 
-pub prefaced_frames_are_received : PrefacedFramesAreReceived
-prefaced_frames_are_received link piece x o s a h is next receives case =
+pub prefaced_frames_are_handled : PrefacedFramesAreHandled
+prefaced_frames_are_handled link piece x o s a h is next receives case =
     received_preface link piece x o s is h case.0.frame (next ∙ ap (λ (b : Action). Some b) case.0.is) receives case.0.stays case.0.kind_is case.1

@@ -1,6 +1,6 @@
 -- Every frame is of one of the kinds.
 use Rattle.std.proofs.Common.{◌≡◌, ◌==◌, ap, refl, ◌∙◌, Bool, true, false, Some, drop}
-use Rattle.frame_cases.proofs.QuietFrames.Received.{quiet_frames_are_received}
+use Rattle.frame_cases.proofs.QuietFrames.Received.{quiet_frames_are_handled}
 use Rattle.frame_cases.specs.FrameKinds.Laws.{Ends, FrameKind, FramesByKinds, Prefaces, Heads, Large, Messages, Quiet, kind_of}
 use Rattle.frame_cases.specs.PieceWalks.Points.{HasReceived}
 use Rattle.channel_core.specs.Arrivals.{frame_received}
@@ -23,7 +23,7 @@ frames_by_kinds ends larges heads messages prefaces goaways link piece x o s a h
     by_kind stays Messages e = messages link piece x o s a h is next receives (record { frame = case.0; is = case.1; stays = stays; kind_is = e })
     by_kind stays Prefaces e = prefaces link piece x o s a h is next receives (record { frame = case.0; is = case.1; stays = stays; kind_is = e })
     by_kind stays Quiet e =
-        quiet_frames_are_received link piece x o s a h is next receives
+        quiet_frames_are_handled link piece x o s a h is next receives
         (record { frame = case.0; is = case.1; stays = stays; none = quiet_none link piece x o s is h case.0 abbrev_next receives stays e })
 
     by_goaway : (b : Bool) → (case.0.frame.kind == goaway_type) ≡ b → HasReceived link (drop h.taken piece) (frame_received link h x) o s

@@ -273,7 +273,7 @@ module _ (link : ℕ) (piece : List ℕ) (x : StateSeen) (o : OpenEntry) (s : Se
     abbrev u : Seen
     u = done.seen
 
-    -- the channel does the same: it reports to the call, and seals what it queued
+    -- the channel does the same: it gives the head to the call, and seals what it queued
     abbrev g : Stepped → Stepped
     g st = commits_with a.place inbox x.book.moment st
 

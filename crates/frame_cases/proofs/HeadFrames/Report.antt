@@ -68,7 +68,7 @@ module _ (tag moment : ℕ) (tokens : Option ℕ) where
       ap has_drawn (row_stays live (commit_stamped tag ledger) ∙ number_changed (committed_row ledger.entry) ledger.rows tag ∙ ap (option_map (committed_row ledger.entry)) there)
       ∙ ap drew_by going
 
--- so it is reported
+-- so it is given
 module _ (tag seen n : ℕ) (meta : List Field) (x : StateSeen) (row : Row) (slot : CallSlot) (row_is : row_at x.book tag ≡ Some row) (call_is : row.call ≡ n) (going : row.ended ≡ None)
     (there : slot_at x.book n ≡ Some slot) (free : is_some slot.call.attempts.committed ≡ false) (live : is_some (find_live tag slot.call.live) ≡ true) where
   abbrev what : News

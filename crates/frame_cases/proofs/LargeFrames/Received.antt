@@ -33,7 +33,7 @@ use Rattle.channel_core.specs.Tables.{Received, received_in}
 use Rattle.frame_cases.proofs.LargeFrames.Next as next_
 use Rattle.frame_cases.proofs.LargeFrames.Starts as starts
 use Rattle.frame_cases.proofs.QuietFrames.ReadStill as read
-use Rattle.frame_cases.specs.FrameKinds.Laws.{Large, LargeMessagesAreReceived, kind_of}
+use Rattle.frame_cases.specs.FrameKinds.Laws.{Large, LargeMessagesAreHandled, kind_of}
 use Rattle.frame_cases.specs.PieceWalks.Points.{IsReceiving, coming}
 use Rattle.h2_frame.specs.Numbers.{goaway_type}
 use Rattle.session_actions.specs.Words.{numbered}
@@ -181,6 +181,6 @@ module _ (link : ℕ) (piece : List ℕ) (x : StateSeen) (o : OpenEntry) (s : Se
     agrees = subst (λ (q : StateSeen). Agrees q u) (sym final) agrees_w;
   }
 
-pub large_frames_are_received : LargeMessagesAreReceived
-large_frames_are_received link piece x o s a h is next receives case =
+pub large_frames_are_handled : LargeMessagesAreHandled
+large_frames_are_handled link piece x o s a h is next receives case =
     received_large link piece x o s is h case.frame (next ∙ ap (λ (b : Action). Some b) case.is) receives case.stays case.kind_is

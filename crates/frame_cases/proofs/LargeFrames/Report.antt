@@ -1,4 +1,4 @@
--- The channel is notified that a message is too long, and the messages that came before it in the same frame: the call ends, as any call does.
+-- It is reported to the channel that a message is too long, and the messages that came before it in the same frame: the call ends, as any call does.
 use Rattle.std.proofs.Common.{◌≡◌, ◌-◌, ◌++◌, ◌==◌, ◌∷◌, not, ap, refl, sym, ◌∙◌, Bool, true, false, List, [], Option, None, Some, ℕ, if◌then◌else◌, is_some, map, slice_set}
 use Rattle.std.proofs.lemmas.Bool.{eqb-false, eqb-true}
 use Rattle.std.specs.Option.{option_map}

@@ -1,5 +1,5 @@
 -- After a message that is too long, and the end of its call: the attempt is cut off, and the links of the channel are ahead of the session by the reset of its stream
--- alone, where one is owed; so they agree once it is made.
+-- alone, where one is owed. So they agree once it is made.
 use Rattle.std.proofs.Common.{◌≡◌, ◌++◌, ◌&&◌, ◌||◌, ◌==◌, ◌∷◌, ap, refl, subst, sym, ◌∙◌, Bool, true, false, List, [], Option, None, Some, ℕ, drop, if◌then◌else◌, is_some, length, option_and_then, option_map}
 use Rattle.std.proofs.lemmas.Bool.{eq-eqb, eqb-true}
 use Rattle.std.specs.List.{list_all, list_any}

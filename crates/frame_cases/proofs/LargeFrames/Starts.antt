@@ -175,7 +175,7 @@ module _ (link : ℕ) (piece : List ℕ) (x : StateSeen) (o : OpenEntry) (s : Se
   open_slot : has.slot.call.ended ≡ None
   open_slot = no_cause c.end has.slot.call.ended has.sees.serves.sees.ended open_now
 
-  -- the channel is reported: of the messages, and then of that one
+  -- the messages are reported to the channel, and then that one
   pub its_news : h.news ≡ large_news a.place (seen_at r) more
   its_news = news_are ∙ long.news_are
 

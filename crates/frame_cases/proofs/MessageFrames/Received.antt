@@ -26,7 +26,7 @@ use Rattle.frame_cases.proofs.PassedBytes.Agreeing.{HasCame, recalled}
 use Rattle.frame_cases.proofs.QuietFrames.Received as quiet
 use Rattle.frame_cases.proofs.QuietFrames.Lines as lines
 use Rattle.frame_cases.proofs.QuietFrames.ReadStill as read
-use Rattle.frame_cases.specs.FrameKinds.Laws.{Messages, MessagesAreReceived, Quiet, kind_of}
+use Rattle.frame_cases.specs.FrameKinds.Laws.{Messages, MessagesAreHandled, Quiet, kind_of}
 use Rattle.frame_cases.specs.MessageFrames.Laws.{HasMessages, IsReadWithMessages}
 use Rattle.frame_cases.specs.PassedBytes.Laws.{relinked}
 use Rattle.frame_cases.specs.PieceWalks.Points.{HasReceived, IsReceiving, coming}
@@ -259,6 +259,6 @@ module _ (link : ℕ) (piece : List ℕ) (x : StateSeen) (o : OpenEntry) (s : Se
     agrees = agrees_t;
   }
 
-pub messages_are_received : MessagesAreReceived
-messages_are_received link piece x o s a h is next receives case =
+pub messages_are_handled : MessagesAreHandled
+messages_are_handled link piece x o s a h is next receives case =
     received_messages link piece x o s is h case.frame (next ∙ ap (λ (b : Action). Some b) case.is) receives case.stays case.kind_is

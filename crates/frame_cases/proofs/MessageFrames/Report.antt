@@ -1,4 +1,4 @@
--- The channel is reported messages of a response: they stand in the inbox of their call, and nothing else changes.
+-- Messages of a response are reported to the channel: they stand in the inbox of their call, and nothing else changes.
 use Rattle.std.proofs.Common.{◌≡◌, ◌-◌, ◌∷◌, ◌++◌, append-nil, append_assoc, ap, refl, sym, ◌∙◌, Bool, true, false, List, [], Option, None, Some, ℕ, zero, suc, if◌then◌else◌, map, slice_get, slice_set}
 use Rattle.std.proofs.lemmas.Bool.{eq-eqb}
 use Rattle.std.specs.Option.{option_map_or}

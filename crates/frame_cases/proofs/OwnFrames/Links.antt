@@ -3,8 +3,8 @@ use Rattle.std.proofs.Common.{◌≡◌, ◌==◌, ap, subst, sym, ◌∙◌, fa
 use Rattle.std.proofs.lemmas.Bool.{eqb-false}
 use Rattle.attempt_cases.proofs.DrainEvents.Rooms.{length_changed}
 use Rattle.channel_actions.proofs.Links.Frames.Frame.{others_agree}
-use Rattle.channel_actions.proofs.Links.Frames.Untold.{actions_are_untold}
-use Rattle.channel_actions.specs.LinkFrames.Alike.{CannotDistinguish}
+use Rattle.channel_actions.proofs.Links.Frames.NoDifference.{actions_make_no_difference}
+use Rattle.channel_actions.specs.LinkFrames.Alike.{SeesNoDifference}
 use Rattle.channel_actions.specs.Links.{HasLink}
 use Rattle.channel_core.proofs.BookLaws.{number_changed, number_other}
 use Rattle.channel_core.proofs.Resting.{changed_length}
@@ -70,9 +70,9 @@ module _ (link : ℕ) (piece : List ℕ) (x : StateSeen) (o : OpenEntry) (s : Se
         length_changed (read.f link piece x o s is h r next receives) link s.links ∙ is.agrees.links.count ∙ changed_length (with_rest piece) x.links link
         ∙ sym (changed_length (with_rest left) h.links link ∙ ap (λ (ls : List LinkSlot). length ls) links_are ∙ changed_length (with_link (received_link piece)) x.links link)
 
-    read_apart : CannotDistinguish (λ (k : ℕ). link == k) s t
+    read_apart : SeesNoDifference (λ (k : ℕ). link == k) s t
     read_apart =
-        subst (CannotDistinguish (λ (k : ℕ). link == k) s) (read.after_is link piece x o s is h r next receives) (actions_are_untold (action.FrameRead link r) s is.agrees.kept tt)
+        subst (SeesNoDifference (λ (k : ℕ). link == k) s) (read.after_is link piece x o s is h r next receives) (actions_make_no_difference (action.FrameRead link r) s is.agrees.kept tt)
 
     pub others_then : (k : ℕ) (q : Link) → numbered t.links k ≡ Some q → (link == k) ≡ false → HasLink z t q k
     others_then k q got off =

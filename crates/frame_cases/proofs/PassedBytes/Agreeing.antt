@@ -24,7 +24,7 @@ use Rattle.channel_actions.specs.Calls.{HasSlot, SeesCall, SeesCalls, lent_to}
 use Rattle.channel_actions.specs.DrainBooks.Laws.{SetsAreSame}
 use Rattle.channel_actions.specs.DrainCalls.Laws.{IsOnlyStreamed}
 use Rattle.channel_actions.specs.KeptSessions.Kept.{IsKept}
-use Rattle.channel_actions.specs.LinkFrames.Alike.{CannotDistinguish, Numbers}
+use Rattle.channel_actions.specs.LinkFrames.Alike.{SeesNoDifference, Numbers}
 use Rattle.channel_actions.specs.Links.{HasLink, SeesLinks}
 use Rattle.channel_actions.specs.Columns.{links_noted}
 use Rattle.channel_actions.specs.Sets.{SeesSets}
@@ -249,7 +249,7 @@ module _ (link : ℕ) (x : StateSeen) (slots : List LinkSlot) (columns : List Li
     }
 
     -- the links
-    module _ (cannot : CannotDistinguish (λ (k : ℕ). link == k) s t) (others : (k : ℕ) → (link == k) ≡ false → numbered slots k ≡ numbered x.links k)
+    module _ (cannot : SeesNoDifference (λ (k : ℕ). link == k) s t) (others : (k : ℕ) → (link == k) ≡ false → numbered slots k ≡ numbered x.links k)
         (count : length ls ≡ length slots) (own : (m : Link) → numbered ls link ≡ Some m → HasLink y t m link) where
       abbrev touched : Numbers
       touched k = link == k
@@ -285,7 +285,7 @@ pub record IsReportedOn (link : ℕ) (x y : StateSeen) (o p : OpenEntry) (s t : 
   pub word : p.word ≡ o.word
   pub drawn : p.drawn ≡ o.drawn
   pub kept : IsKept t
-  pub cannot : CannotDistinguish (λ k. link == k) s t
+  pub cannot : SeesNoDifference (λ k. link == k) s t
   pub slots : (k : ℕ) → (link == k) ≡ false → numbered y.links k ≡ numbered x.links k
   pub count : length t.links ≡ length y.links
   pub long : length y.book.calls ≡ length x.book.calls
@@ -309,7 +309,7 @@ reported_keeps link x y o p s t h is =
     subst (λ (z : Seen). HasCame y.book.calls z number c slot) t_is (is.handled number c slot got there (subst (λ (z : Seen). SeesCall x z c slot) (sym s_is) k)))
     (λ a. ap (drained a) (sym t_is) ∙ is.drained_same a ∙ ap (drained a) s_is)
     (ap links_noted (sym t_is) ∙ is.noted)
-    (subst (λ (z : Seen). CannotDistinguish (λ (k : ℕ). link == k) z t1) s_is (subst (CannotDistinguish (λ (k : ℕ). link == k) s) t_is is.cannot))
+    (subst (λ (z : Seen). SeesNoDifference (λ (k : ℕ). link == k) z t1) s_is (subst (SeesNoDifference (λ (k : ℕ). link == k) s) t_is is.cannot))
     is.slots is.count
     (λ m got. subst (λ (z : StateSeen). HasLink z t1 m link) is.state (subst (λ (z : Seen). HasLink y z m link) t_is (is.own m got))) in
     subst (λ (z : StateSeen). Agrees z t) (sym is.state) (subst (Agrees y1) (sym t_is) agrees)

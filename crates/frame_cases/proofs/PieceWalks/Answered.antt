@@ -18,7 +18,7 @@ use Rattle.channel_core.specs.declared.state.links.LinkSlot.{LinkSlot}
 use Rattle.frame_cases.proofs.PieceWalks.Arrives as arrives
 use Rattle.frame_cases.proofs.PieceWalks.Knows.{known_with}
 use Rattle.frame_cases.proofs.PieceWalks.Walk.{Walked, walk}
-use Rattle.frame_cases.specs.PieceWalks.Laws.{BreaksAreReceived, FramesAreReceived, IsArrival, KnownAlongFrames, PiecesAreReceived}
+use Rattle.frame_cases.specs.PieceWalks.Laws.{BreaksAreHandled, FramesAreHandled, IsArrival, KnownAlongFrames, PiecesAreHandled}
 use Rattle.frame_cases.specs.PieceWalks.Points.{IsReceiving, IsReadOut}
 use Rattle.grpc_base.specs.declared.event.Event.{Event}
 use Rattle.grpc_base.specs.declared.event.Event.TheVariants as event
@@ -49,7 +49,7 @@ up_by x s link None h kept here =
     = sym (ap (λ (q : Option LinkSlot). if not (is_some q) then Some refusal.NoSuchLink else if steps.is_gone link x then Some refusal.LinkGone else None) none) ∙ kept in (cc))
 up_by x s link (Some l) h kept here = record { l = l; here = here }
 
-module _ (frames : FramesAreReceived) (breaks : BreaksAreReceived) (knows : KnownAlongFrames) (few : AttemptsAreFew) (x : StateSeen) (o : OpenEntry) (s : Seen) (h : Agrees x s) (at : IsAt stage.Event o s)
+module _ (frames : FramesAreHandled) (breaks : BreaksAreHandled) (knows : KnownAlongFrames) (few : AttemptsAreFew) (x : StateSeen) (o : OpenEntry) (s : Seen) (h : Agrees x s) (at : IsAt stage.Event o s)
     (fresh : o.turn ≡ None) (timely : next_deadline s ≡ None) (case : IsArrival o.event x s) where
   abbrev link : ℕ
   link = case.link
@@ -128,8 +128,8 @@ module _ (frames : FramesAreReceived) (breaks : BreaksAreReceived) (knows : Know
     none = walked.none;
   }
 
-pub pieces_are_received : AttemptsAreFew → PiecesAreReceived
-pieces_are_received few frames breaks knows x y r o s h at fresh timely case answers =
+pub pieces_are_handled : AttemptsAreFew → PiecesAreHandled
+pieces_are_handled few frames breaks knows x y r o s h at fresh timely case answers =
     let given : AnswersBy None (event.Arrived case.link case.piece) x y r
     = subst (λ (e : Event). AnswersBy None e x y r) case.event_is (subst (λ (z : Option Refusal). AnswersBy z o.event x y r) case.kept answers) in
     subst (λ (z : StateSeen). IsAnswered z r o s) (sym given.0)

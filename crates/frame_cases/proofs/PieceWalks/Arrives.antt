@@ -10,8 +10,8 @@ use Rattle.channel_actions.proofs.Dialling.{applied_next, open_in, unshut_by}
 use Rattle.channel_actions.proofs.KeptSessions.Along.{kept_stays}
 use Rattle.channel_actions.proofs.Links.Frames.Readers.{readers_still}
 use Rattle.channel_actions.proofs.Links.Frames.Streams.{streams_still}
-use Rattle.channel_actions.proofs.Links.Frames.Distinguishing.{all_go, selves_alike}
-use Rattle.channel_actions.proofs.Links.Frames.Untold.{actions_are_untold}
+use Rattle.channel_actions.proofs.Links.Frames.Differences.{all_go, selves_alike}
+use Rattle.channel_actions.proofs.Links.Frames.NoDifference.{actions_make_no_difference}
 use Rattle.channel_actions.proofs.Lines.{all_at_places}
 use Rattle.channel_actions.proofs.Refusing.{link_same}
 use Rattle.channel_actions.proofs.Settles.{is_with_open}
@@ -20,7 +20,7 @@ use Rattle.channel_actions.specs.Agrees.{Agrees}
 use Rattle.channel_actions.specs.Quiescent.{IsAt}
 use Rattle.channel_actions.specs.Columns.{links_noted}
 use Rattle.channel_actions.specs.KeptSessions.Kept.{IsKept}
-use Rattle.channel_actions.specs.LinkFrames.Alike.{CannotDistinguish, Numbers}
+use Rattle.channel_actions.specs.LinkFrames.Alike.{SeesNoDifference, Numbers}
 use Rattle.channel_actions.specs.Links.{HasLink, IsGoing, lines_in}
 use Rattle.attempt_cases.proofs.DrainEvents.Rooms.{length_changed, one_some}
 use Rattle.channel_core.proofs.BookLaws.{number_changed, number_other}
@@ -160,7 +160,7 @@ module _ (x : StateSeen) (o : OpenEntry) (s : Seen) (h : Agrees x s) (at : IsAt 
     word = refl;
     drawn = refl;
     kept = kept_t;
-    cannot = subst (CannotDistinguish (λ (k : ℕ). link == k) s) after_is (actions_are_untold (action.BytesArrive link) s h.kept tt);
+    cannot = subst (SeesNoDifference (λ (k : ℕ). link == k) s) after_is (actions_make_no_difference (action.BytesArrive link) s h.kept tt);
     slots = λ k e. number_other (with_rest piece) x.links link k (λ same. eqb-false link k e (sym same));
     count = length_changed f link s.links ∙ h.links.count ∙ sym (changed_length (with_rest piece) x.links link);
     came_same = came_through s f link (Some p) (λ a. ap response_items (response_through s f link (Some p) (λ k. refl) a));

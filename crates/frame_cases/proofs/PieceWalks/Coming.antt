@@ -137,9 +137,6 @@ module _ (link : ℕ) (piece : List ℕ) where
   pub coming_asked : (g : Stepped → Stepped) (n : ℕ) (s : StateSeen) → call_asked g n (coming link piece s) ≡ coming link piece (call_asked g n s)
   coming_asked g n s = asked_so link (with_rest piece) (λ q. refl) (λ q. refl) (λ q. refl) (λ row q. refl) g n s
 
-  pub coming_reported : (row : ℕ) (what : News) (s : StateSeen) → reported row what (coming link piece s) ≡ coming link piece (reported row what s)
-  coming_reported row what s = reported_so link (with_rest piece) (λ q. refl) (λ q. refl) (λ q. refl) (λ row_ q. refl) row what s
-
   pub coming_ended : (k row : ℕ) (end : EndNews) (s : StateSeen) → ended_on k row end (coming link piece s) ≡ coming link piece (ended_on k row end s)
   coming_ended k row end s = ended_so link (with_rest piece) (λ q. refl) (λ q. refl) (λ q. refl) (λ row_ q. refl) k row end s
 

@@ -1,4 +1,4 @@
--- The slot of a link that is being handled: what it keeps, what it is reported, and what is left of it.
+-- The slot of a link that is being handled: what it keeps, what it reports, and what is left of it.
 use Rattle.std.proofs.Common.{◌≡◌, ◌==◌, ◌||◌, ap, refl, sym, ◌∙◌, Bool, true, false, List, [], Option, None, Some, ℕ, if◌then◌else◌, is_some, length, not}
 use Rattle.std.proofs.lemmas.Bool.{eqb-false}
 use Rattle.std.specs.Option.{option_map}
@@ -28,26 +28,6 @@ slot_by link piece x slot (Some old) e got = record { old = old; there = e; is =
 pub slot_of : (link : ℕ) (piece : List ℕ) (x : StateSeen) (slot : LinkSlot) → numbered (coming link piece x).links link ≡ Some slot → IsSlot link piece x slot
 slot_of link piece x slot got =
     slot_by link piece x slot (numbered x.links link) refl (sym (number_changed (with_rest piece) x.links link) ∙ got)
-
--- what it receives
-pub record IsReceivedBy (link : ℕ) (piece : List ℕ) (x : StateSeen) (h : Received) : Type 0 where
-  pub slot : LinkSlot
-  pub there : numbered x.links link ≡ Some slot
-  pub receives : receives_at (Some slot) ≡ true
-  pub is : h ≡ received_by slot link piece x.links
-
-received_if : (link : ℕ) (piece : List ℕ) (x : StateSeen) (h : Received) (slot : LinkSlot) (b : Bool) → numbered x.links link ≡ Some slot → receives_at (Some slot) ≡ b
-    → (if b then Some (received_by slot link piece x.links) else None) ≡ Some h → IsReceivedBy link piece x h
-received_if link piece x h slot true there receives got =
-    record { slot = slot; there = there; receives = receives; is = (let same : Some (received_by slot link piece x.links) ≡ Some h = got in let one : h ≡ received_by slot link piece x.links = (cc) in one) }
-received_if link piece x h slot false there receives got = let no : None ≡ Some h = got in absurd (cc)
-
-received_from : (link : ℕ) (piece : List ℕ) (x : StateSeen) (h : Received) (o : Option LinkSlot) → numbered x.links link ≡ o → received_at o link piece x.links ≡ Some h → IsReceivedBy link piece x h
-received_from link piece x h None there got = let no : None ≡ Some h = got in absurd (cc)
-received_from link piece x h (Some slot) there got = received_if link piece x h slot (receives_at (Some slot)) there refl got
-
-pub received_of : (link : ℕ) (piece : List ℕ) (x : StateSeen) (h : Received) → received_in link piece x.links ≡ Some h → IsReceivedBy link piece x h
-received_of link piece x h got = received_from link piece x h (numbered x.links link) refl got
 
 -- a link that is not over receives
 receives_by : (dead : Bool) (broken : Option ℕ) → dead ≡ false → broken ≡ None → not (dead || is_some broken) ≡ true

@@ -2,7 +2,7 @@
 use Rattle.std.proofs.Common.{◌≡◌, ◌++◌, ◌==◌, ap, refl, subst, sym, ◌∙◌, true, false, List, [], Option, None, Some, ℕ, is_some, length, ◌≤◌}
 use Rattle.std.proofs.Math.Nat.{min-eq_left}
 use Rattle.std.proofs.lemmas.List.{append-nil}
-use Rattle.channel_actions.proofs.Links.Frames.Distinguishing.{untold}
+use Rattle.channel_actions.proofs.Links.Frames.Differences.{no_difference}
 use Rattle.channel_actions.specs.Agrees.{Agrees}
 use Rattle.channel_actions.specs.Links.{HasLink, IsGoing, SeesLinkOf}
 use Rattle.attempt_cases.proofs.DrainEvents.Rooms.{one_some}
@@ -51,7 +51,7 @@ module _ (link : ℕ) (piece : List ℕ) (x : StateSeen) (o : OpenEntry) (s : Se
         word = refl;
         drawn = refl;
         kept = h.kept;
-        cannot = untold (λ (k : ℕ). link == k) s;
+        cannot = no_difference (λ (k : ℕ). link == k) s;
         slots = λ k e. others k e ∙ sym (others_coming link piece x k e);
         count = count_x ∙ sym count;
         came_same = λ c. refl;

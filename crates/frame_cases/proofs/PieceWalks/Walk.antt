@@ -16,7 +16,7 @@ use Rattle.channel_core.specs.Tables.{Received, received_by, received_in}
 use Rattle.channel_core.specs.declared.state.links.LinkSlot.{LinkSlot}
 use Rattle.frame_cases.proofs.PieceWalks.Slots.{IsSlot, receives_nothing, receives_now, slot_of}
 use Rattle.frame_cases.proofs.PieceWalks.Stops.{agrees_done, agrees_over, agrees_part, kept_slot, old, sees_old}
-use Rattle.frame_cases.specs.PieceWalks.Laws.{BreaksAreReceived, FramesAreReceived, KnownAlongFrames}
+use Rattle.frame_cases.specs.PieceWalks.Laws.{BreaksAreHandled, FramesAreHandled, KnownAlongFrames}
 use Rattle.frame_cases.specs.PieceWalks.Points.{HasReceived, IsReceiving, coming, with_rest}
 use Rattle.grpc_base.specs.declared.event.Event.{Event}
 use Rattle.grpc_base.specs.declared.event.Event.TheVariants as event
@@ -177,7 +177,7 @@ after_received link piece start x y o s is has known = record {
 few_by : (n : ℕ) → n < 7696581394432 → n < 18446744073709551615
 few_by n e = omega (arith, e)
 
-module _ (frames : FramesAreReceived) (breaks : BreaksAreReceived) (knows : KnownAlongFrames) (few : AttemptsAreFew) (link : ℕ) where
+module _ (frames : FramesAreHandled) (breaks : BreaksAreHandled) (knows : KnownAlongFrames) (few : AttemptsAreFew) (link : ℕ) where
   -- the piece is at its end
   ends_by : (x : StateSeen) (o : OpenEntry) (s : Seen) → (is : IsReceiving link [] x o s) → (over : Option LinkOver) → is.l.over ≡ over → Walked x o s
   ends_by x o s is None e =

@@ -182,9 +182,6 @@ module _ (s : Seen) (link : ℕ) (l : Link) (here : numbered s.links link ≡ So
     pub links_stay : has_settings m ≡ has_settings l → (o : OpenEntry) → IsStill line.Link o s → IsStill line.Link o t
     links_stay settings o h = any_in (is_link_new t) (is_link_new s) s.subs (λ i b got. new_one settings b) ∙ h
 
-    over_same : (k : ℕ) → option_map_or (λ (q : Link). is_some q.over) (numbered t.links k) false ≡ option_map_or (λ (q : Link). is_some q.over) (numbered s.links k) false
-    over_same k = through (λ (q : Link). is_some q.over) false refl k (k == link) refl
-
     -- of one attempt
     module _ (a : Attempt) (same_end : (response a t).end ≡ (response a s).end) where
       outcome_by_link : (o : Option ℕ) → (p : Option Placed)

@@ -10,7 +10,7 @@ use Rattle.attempt_ledger.specs.declared.ledger.LinkSeen.{LinkSeen}
 use Rattle.call_actions.proofs.Lists.{changed_here}
 use Rattle.channel_actions.proofs.Calls.Kept.Fresh.{frames_are_fresh}
 use Rattle.channel_actions.proofs.KeptSessions.Along.{kept_stays}
-use Rattle.channel_actions.proofs.Links.Frames.Untold.{actions_are_untold}
+use Rattle.channel_actions.proofs.Links.Frames.NoDifference.{actions_make_no_difference}
 use Rattle.channel_actions.proofs.Settles.{follows_by, is_with_open}
 use Rattle.channel_actions.proofs.Stamps.{counted_at}
 use Rattle.channel_actions.specs.Agrees.{Agrees}
@@ -18,7 +18,7 @@ use Rattle.channel_actions.specs.Calls.{SeesCall}
 use Rattle.channel_actions.specs.Quiescent.{IsAt}
 use Rattle.channel_actions.specs.Columns.{links_noted}
 use Rattle.channel_actions.specs.KeptSessions.Kept.{IsKept}
-use Rattle.channel_actions.specs.LinkFrames.Alike.{CannotDistinguish}
+use Rattle.channel_actions.specs.LinkFrames.Alike.{SeesNoDifference}
 use Rattle.channel_actions.specs.Links.{HasLink, IsGoing, SeesLinkOf, lines_in}
 use Rattle.call_actions.specs.TakeActions.Serves.{came}
 use Rattle.attempt_cases.proofs.DrainEvents.Links.{own_lines, read_then}
@@ -345,7 +345,7 @@ module _ (link : ℕ) (piece : List ℕ) (x : StateSeen) (o : OpenEntry) (s : Se
         word = refl;
         drawn = refl;
         kept = kept_t;
-        cannot = subst (CannotDistinguish (λ (k : ℕ). link == k) s) after_is (actions_are_untold (action.FrameRead link r) s h0.kept tt);
+        cannot = subst (SeesNoDifference (λ (k : ℕ). link == k) s) after_is (actions_make_no_difference (action.FrameRead link r) s h0.kept tt);
         slots = others_now;
         count = count_now;
         long = long;

@@ -14,7 +14,7 @@ use Rattle.frame_cases.proofs.QuietFrames.Lines as lines
 use Rattle.frame_cases.proofs.QuietFrames.ReadStill as read
 use Rattle.frame_cases.proofs.QuietFrames.Responses.{quiet_frames_leave_responses}
 use Rattle.frame_cases.specs.PieceWalks.Points.{HasReceived, IsReceiving, coming}
-use Rattle.frame_cases.specs.QuietFrames.Laws.{IsReadQuietly, QuietFramesAreReceived}
+use Rattle.frame_cases.specs.QuietFrames.Laws.{IsReadQuietly, QuietFramesAreHandled}
 use Rattle.grpc_link.specs.Links.{Report as Reported}
 use Rattle.h2_frame.specs.Frames.{FrameSeen}
 use Rattle.h2_frame.specs.Numbers.{goaway_type}
@@ -121,6 +121,6 @@ module _ (link : ℕ) (piece : List ℕ) (x : StateSeen) (o : OpenEntry) (s : Se
           (read.agrees_read link piece x o s is h r next receives quiet.still);
     }
 
-pub quiet_frames_are_received : QuietFramesAreReceived
-quiet_frames_are_received link piece x o s a h is next receives case =
+pub quiet_frames_are_handled : QuietFramesAreHandled
+quiet_frames_are_handled link piece x o s a h is next receives case =
     received_quietly link piece x o s is h case.frame (next ∙ ap (λ (b : Action). Some b) case.is) receives case.stays case.none

@@ -226,10 +226,6 @@ all_here l s places =
     (filter_all (IsHere l s) (IsHere l s) (λ (a : Attempt). is_some a.row.stream) (λ a h e. h) (outstanding_on l s)
     (filter_all (AtPlace s) (IsHere l s) (is_outstanding_on l) (λ a h e. (h, e)) s.attempts places))
 
--- kinds
-abbrev IsKind : FrameSeen → ℕ → Bool
-IsKind f n = f.kind == n
-
 connection_first : (a b : Bool) → (a && b) ≡ true → a ≡ true
 connection_first true b e = refl
 connection_first false b e = absurd (cc)
@@ -309,9 +305,6 @@ module _ (l : Link) (s : Seen) (w : Wire) (g : ℕ → Line) (readers : List Tag
 
   abbrev Quiet : Type 0
   Quiet = IsReadQuietly l m s u out.link.link.wire g out.link.readers
-
-  after_is : (a : Attempt) (n : ℕ) → response_of m u n a ≡ response_in (limit_of_attempt a u) n m.traffic
-  after_is a n = refl
 
   limit_same : (a : Attempt) → limit_of_attempt a u ≡ limit_of_attempt a s
   limit_same a = ap (limit_of_attempt a) (read_is l s r is.sees.at)

@@ -14,12 +14,12 @@ use Rattle.call_cases.proofs.LinkEnds.Cutting.{counted_places}
 use Rattle.channel_actions.proofs.Links.Frames.Frame.{others_agree}
 use Rattle.channel_actions.proofs.Links.Frames.Readers.{readers_still}
 use Rattle.channel_actions.proofs.Links.Frames.Streams.{streams_still}
-use Rattle.channel_actions.proofs.Links.Frames.Distinguishing.{untold}
-use Rattle.channel_actions.proofs.Links.Frames.Untold.{actions_are_untold}
+use Rattle.channel_actions.proofs.Links.Frames.Differences.{no_difference}
+use Rattle.channel_actions.proofs.Links.Frames.NoDifference.{actions_make_no_difference}
 use Rattle.channel_actions.proofs.Lines.{all_at_places}
 use Rattle.channel_actions.proofs.Stamps.{counted_at}
 use Rattle.channel_actions.specs.KeptSessions.Kept.{NumbersCountUp, IsKept}
-use Rattle.channel_actions.specs.LinkFrames.Alike.{AttemptsAreAlike, CannotDistinguish, IsAlike, Numbers, is_on}
+use Rattle.channel_actions.specs.LinkFrames.Alike.{AttemptsAreAlike, SeesNoDifference, IsAlike, Numbers, is_on}
 use Rattle.channel_actions.specs.Links.{HasLink, IsGoing, SeesLinkOf, lines_in}
 use Rattle.channel_core.proofs.BookLaws.{number_changed, number_other}
 use Rattle.channel_core.proofs.Resting.{changed_length}
@@ -276,7 +276,7 @@ module _ (link : ℕ) (piece : List ℕ) (x : StateSeen) (o : OpenEntry) (s : Se
       let got = some_of (slice_get s.attempts i) b (row_then later (suc i)) (sym (rows_at later (suc i) s.attempts) ∙ to) in
       owed_off_by i q got.0 b (is_one_of (places later) (suc i)) off got.1.0 got.1.1 refl))
 
-  -- the others cannot distinguish
+  -- the others see no difference
   alike_by : (i : ℕ) (a b : Attempt) (c : Bool) → slice_get s.attempts i ≡ Some a → b ≡ row_then later (suc i) a → is_one_of (places later) (suc i) ≡ c
       → IsAlike (touched link) t u0 a b
   alike_by i a b true at same e =
@@ -346,7 +346,7 @@ module _ (link : ℕ) (piece : List ℕ) (x : StateSeen) (o : OpenEntry) (s : Se
 
     relined : (v : Wire) → SeesStreams m u0 v (lines_in l s) → SeesStreams m u0 v (lines_in m u0)
     relined v k =
-        streams_still m m u0 u0 (λ (j : ℕ). false) refl owned_u0 (all_at_places u0.attempts counted_u0) (untold (λ (j : ℕ). false) u0).attempts v (lines_in l s)
+        streams_still m m u0 u0 (λ (j : ℕ). false) refl owned_u0 (all_at_places u0.attempts counted_u0) (no_difference (λ (j : ℕ). false) u0).attempts v (lines_in l s)
         (record { number = refl; traffic_ = refl; owed = refl }) k k.sees.at k.sees.places
 
     wire_is : (reported w r.frame).wire ≡ out_.link.link.wire
@@ -385,9 +385,9 @@ module _ (link : ℕ) (piece : List ℕ) (x : StateSeen) (o : OpenEntry) (s : Se
     }
 
     -- the others
-    read_apart : CannotDistinguish (touched link) s t
+    read_apart : SeesNoDifference (touched link) s t
     read_apart =
-        subst (CannotDistinguish (touched link) s) (read.after_is link piece x o s is h r next receives) (actions_are_untold (action.FrameRead link r) s is.agrees.kept tt)
+        subst (SeesNoDifference (touched link) s) (read.after_is link piece x o s is h r next receives) (actions_make_no_difference (action.FrameRead link r) s is.agrees.kept tt)
 
     ahead_other : (k : ℕ) (q : Link) → numbered t.links k ≡ Some q → (link == k) ≡ false → HasLinkAhead z1 u0 q k
     ahead_other k q got off =

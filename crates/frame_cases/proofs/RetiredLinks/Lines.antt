@@ -1,5 +1,5 @@
--- The lines of a session that give the end of an attempt, or place one: an attempt that was placed ends, while it goes on, cut off or by the wire, as the session says of it;
--- and what is placed was not placed before.
+-- The lines of a session that give the end of an attempt, or place one: an attempt that was placed ends, while it goes on, cut off or by the wire, as the session says of it.
+-- What is placed was not placed before.
 use Rattle.std.proofs.Common.{◌≡◌, ◌&&◌, ◌==◌, ◌∷◌, ap, refl, subst, sym, ◌∙◌, not, Bool, true, false, List, [], Option, None, Some, ℕ, filter, if◌then◌else◌, inl, inr, is_none, is_some, option_and_then, option_map, slice_get, suc, find, ◌⊎◌}
 use Rattle.std.proofs.lemmas.Bool.{and_parts}
 use Rattle.std.specs.List.{list_any}

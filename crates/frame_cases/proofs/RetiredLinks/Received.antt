@@ -48,7 +48,7 @@ use Rattle.frame_cases.proofs.RetiredLinks.Starts as starts
 use Rattle.frame_cases.proofs.RetiredLinks.Report.{frame_is}
 use Rattle.frame_cases.proofs.RetiredLinks.Walk.{walk}
 use Rattle.frame_cases.specs.PieceWalks.Points.{HasReceived, IsReceiving, IsReadFairly}
-use Rattle.frame_cases.specs.RetiredLinks.Laws.{RetiredLinksAreReceived}
+use Rattle.frame_cases.specs.RetiredLinks.Laws.{RetiredLinksAreHandled}
 use Rattle.h2_frame.specs.Numbers.{goaway_type}
 use Rattle.h2_frame.specs.Payloads.{last_stream}
 use Rattle.lb_policy.specs.Table.{is_one_of}
@@ -323,6 +323,6 @@ module _ (holds_soundly : EachHoldsSoundly) (runs : RunsOfSessions) (stays : End
     agrees = subst (λ (v : StateSeen). Agrees v hr.seen) (sym (frame_is link piece x o s is h r next receives goes said)) hr.agrees;
   }
 
-pub retired_links_are_received : EachHoldsSoundly → RunsOfSessions → EndsStayHeld → ReceivedGoesOn → GoawaysGoAhead → GoawaysOweResets → GoawaysLeaveReaders → RetiredLinksAreReceived
-retired_links_are_received holds_soundly runs stays handled ahead owes readers ends link piece x o s a h is next receives case =
+pub retired_links_are_handled : EachHoldsSoundly → RunsOfSessions → EndsStayHeld → ReceivedGoesOn → GoawaysGoAhead → GoawaysOweResets → GoawaysLeaveReaders → RetiredLinksAreHandled
+retired_links_are_handled holds_soundly runs stays handled ahead owes readers ends link piece x o s a h is next receives case =
     received_goaway holds_soundly runs stays handled ahead owes readers ends link piece x o s is h case.frame (next ∙ ap (λ (b : Action). Some b) case.is) receives case.goes

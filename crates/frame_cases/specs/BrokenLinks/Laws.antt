@@ -5,7 +5,7 @@
 -- is on stream 1 of link 2. LinkBreaks 1; LinkDown of its subchannel; AttemptEnds 1, with UNAVAILABLE, which hedgingPolicy does not name: CallCommitted 1, AttemptEnds 2,
 -- cut, CallEnds 1. Then AttemptEnds 3, which was never sent, and its transparent retry is made; and then StreamReset 2.
 use Rattle.end_cases.specs.AttemptEnds.Laws.{OneAttemptEnds}
-use Rattle.frame_cases.specs.PieceWalks.Laws.{BreaksAreReceived}
+use Rattle.frame_cases.specs.PieceWalks.Laws.{BreaksAreHandled}
 
-abbrev pub BrokenLinksAreReceived : Type 0
-BrokenLinksAreReceived = OneAttemptEnds → BreaksAreReceived
+abbrev pub BrokenLinksAreHandled : Type 0
+BrokenLinksAreHandled = OneAttemptEnds → BreaksAreHandled

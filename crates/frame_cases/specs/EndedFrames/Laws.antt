@@ -7,5 +7,5 @@ use Rattle.end_cases.specs.AttemptEnds.Laws.{OneAttemptEnds}
 use Rattle.frame_cases.specs.FrameKinds.Laws.{Ends, IsOfKind}
 use Rattle.frame_cases.specs.PieceWalks.Laws.{ReceivedOf}
 
-abbrev pub EndedFramesAreReceived : Type 0
-EndedFramesAreReceived = OneAttemptEnds → ReceivedOf (IsOfKind Ends)
+abbrev pub EndedFramesAreHandled : Type 0
+EndedFramesAreHandled = OneAttemptEnds → ReceivedOf (IsOfKind Ends)

@@ -6,5 +6,5 @@ use Rattle.frame_cases.specs.FrameKinds.Laws.{Prefaces, IsOfKind}
 use Rattle.frame_cases.specs.PieceWalks.Laws.{ReceivedOf}
 
 -- (a READY subchannel has a link whose SETTINGS came: every session keeps this)
-abbrev pub PrefacedFramesAreReceived : Type 0
-PrefacedFramesAreReceived = ReceivedOf (λ link s a h. IsOfKind Prefaces link s a h × LinksArePrefaced s)
+abbrev pub PrefacedFramesAreHandled : Type 0
+PrefacedFramesAreHandled = ReceivedOf (λ link s a h. IsOfKind Prefaces link s a h × LinksArePrefaced s)

@@ -9,7 +9,7 @@ use Rattle.std.specs.Prelude.{Bool, List, false, if◌then◌else◌, true, ◌=
 use Rattle.attempt_ledger.specs.declared.news.News.{News}
 use Rattle.attempt_ledger.specs.declared.news.News.TheVariants as news
 use Rattle.channel_core.specs.Tables.{Received}
-use Rattle.frame_cases.specs.PieceWalks.Laws.{FramesAreReceived, ReceivedOf}
+use Rattle.frame_cases.specs.PieceWalks.Laws.{FramesAreHandled, ReceivedOf}
 use Rattle.h2_frame.specs.Numbers.{goaway_type}
 use Rattle.session_actions.specs.declared.action.Action.{Action}
 use Rattle.session_actions.specs.declared.action.Action.TheVariants as action
@@ -69,29 +69,29 @@ pub record IsGoaway (link : ℕ) (s : Seen) (a : Action) (h : Received) : Type 0
   pub goes : (frame.frame.kind == goaway_type) ≡ true
 
 -- the attempt of the stream ends by its response, and its call goes on, is retried or ends (gRPC over HTTP/2, "Responses" and "Errors"; gRFC A6)
-abbrev pub EndsAreReceived : Type 0
-EndsAreReceived = ReceivedOf (IsOfKind Ends)
+abbrev pub EndsAreHandled : Type 0
+EndsAreHandled = ReceivedOf (IsOfKind Ends)
 
 -- a message that is longer than allowed ends its call (gRPC over HTTP/2, "Length-Prefixed-Message")
-abbrev pub LargeMessagesAreReceived : Type 0
-LargeMessagesAreReceived = ReceivedOf (IsOfKind Large)
+abbrev pub LargeMessagesAreHandled : Type 0
+LargeMessagesAreHandled = ReceivedOf (IsOfKind Large)
 
 -- a head commits its call, and its other attempts are cut off (gRFC A6, "When Retries are Valid")
-abbrev pub HeadsAreReceived : Type 0
-HeadsAreReceived = ReceivedOf (IsOfKind Heads)
+abbrev pub HeadsAreHandled : Type 0
+HeadsAreHandled = ReceivedOf (IsOfKind Heads)
 
 -- messages come for the application
-abbrev pub MessagesAreReceived : Type 0
-MessagesAreReceived = ReceivedOf (IsOfKind Messages)
+abbrev pub MessagesAreHandled : Type 0
+MessagesAreHandled = ReceivedOf (IsOfKind Messages)
 
 -- the server's connection preface: the subchannel of the link becomes READY (RFC 9113, section 3.4; "gRPC Connectivity Semantics and API")
-abbrev pub PrefacesAreReceived : Type 0
-PrefacesAreReceived = ReceivedOf (IsOfKind Prefaces)
+abbrev pub PrefacesAreHandled : Type 0
+PrefacesAreHandled = ReceivedOf (IsOfKind Prefaces)
 
 -- GOAWAY: attempts whose streams it leaves out end, and those that wait for a stream, and the link takes no further attempt (RFC 9113, section 6.8)
-abbrev pub GoawaysAreReceived : Type 0
-GoawaysAreReceived = ReceivedOf IsGoaway
+abbrev pub GoawaysAreHandled : Type 0
+GoawaysAreHandled = ReceivedOf IsGoaway
 
 -- these are all
 abbrev pub FramesByKinds : Type 0
-FramesByKinds = EndsAreReceived → LargeMessagesAreReceived → HeadsAreReceived → MessagesAreReceived → PrefacesAreReceived → GoawaysAreReceived → FramesAreReceived
+FramesByKinds = EndsAreHandled → LargeMessagesAreHandled → HeadsAreHandled → MessagesAreHandled → PrefacesAreHandled → GoawaysAreHandled → FramesAreHandled

@@ -1,7 +1,7 @@
 -- Frames that bring the head of a response, and neither its end nor a message that is too long: the last frame of a header block (gRPC over HTTP/2, "Responses").
 -- Example: the hedged attempts 1, 2 and 3 of call 1 are on the streams 1, 3 and 5 of a link. HEADERS with `:status` 200 and `content-type` application/grpc come on
 -- stream 3: a head came of the response to attempt 2, and nothing of the other two. So the call is committed to attempt 2, and the other two are cut off.
--- What is reported stands here; that channel and session agree after it is `HeadsAreReceived` of `frame_kinds`.
+-- What is reported stands here; that channel and session agree after it is `HeadsAreHandled` of `frame_kinds`.
 use Rattle.std.specs.List.{list_all}
 use Rattle.std.specs.Prelude.{List, None, Some, [], false, true, ◌==◌, ◌∷◌, ◌≡◌, ℕ}
 use Rattle.attempt_ledger.specs.declared.news.News.{News}

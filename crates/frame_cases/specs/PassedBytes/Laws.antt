@@ -6,7 +6,7 @@ use Rattle.call_actions.specs.TakeActions.Serves.{came}
 use Rattle.channel_actions.specs.Agrees.{Agrees}
 use Rattle.channel_actions.specs.Columns.{links_noted}
 use Rattle.channel_actions.specs.KeptSessions.Kept.{IsKept}
-use Rattle.channel_actions.specs.LinkFrames.Alike.{CannotDistinguish}
+use Rattle.channel_actions.specs.LinkFrames.Alike.{SeesNoDifference}
 use Rattle.channel_actions.specs.Links.{HasLink}
 use Rattle.channel_core.specs.States.{StateSeen}
 use Rattle.channel_core.specs.declared.state.links.LinkSlot.{LinkSlot}
@@ -32,7 +32,7 @@ pub record IsPassed (link : ℕ) (x y : StateSeen) (o p : OpenEntry) (s t : Seen
   pub drawn : p.drawn ≡ o.drawn
   pub kept : IsKept t
   -- the other links
-  pub cannot : CannotDistinguish (λ k. link == k) s t
+  pub cannot : SeesNoDifference (λ k. link == k) s t
   pub slots : (k : ℕ) → (link == k) ≡ false → numbered y.links k ≡ numbered x.links k
   pub count : length t.links ≡ length y.links
   -- nothing came for an application, and nothing was written

@@ -31,8 +31,8 @@ ReceivedOf Case =
     → received_in link piece x.links ≡ Some h → Case link s a h → HasReceived link (drop h.taken piece) (frame_received link h x) o s
 
 -- a frame
-abbrev pub FramesAreReceived : Type 0
-FramesAreReceived = ReceivedOf (λ link s a h. (r : ReadFrame) × (a ≡ action.FrameRead link r))
+abbrev pub FramesAreHandled : Type 0
+FramesAreHandled = ReceivedOf (λ link s a h. (r : ReadFrame) × (a ≡ action.FrameRead link r))
 
 -- bytes that break the link (RFC 9113, section 5.4.1), where fewer than 2^64 - 1 attempts were made
 pub record IsBreak (link : ℕ) (s : Seen) (a : Action) (h : Received) : Type 0 where
@@ -40,8 +40,8 @@ pub record IsBreak (link : ℕ) (s : Seen) (a : Action) (h : Received) : Type 0 
   pub is : a ≡ action.LinkBreaks link code
   pub few : length s.attempts < 18446744073709551615
 
-abbrev pub BreaksAreReceived : Type 0
-BreaksAreReceived = ReceivedOf IsBreak
+abbrev pub BreaksAreHandled : Type 0
+BreaksAreHandled = ReceivedOf IsBreak
 
 -- what is known stays known along a frame: of the channel, whatever it receives; of the session, along its actions
 abbrev pub KnownAlongFrames : Type 0
@@ -61,5 +61,5 @@ pub record IsArrival (e : Event) (x : StateSeen) (s : Seen) : Type 0 where
   pub few : (l : Link) → numbered s.links link ≡ Some l → length l.received + length piece ≤ 18446744073709551615
   pub known : IsKnown x s
 
-abbrev pub PiecesAreReceived : Type 0
-PiecesAreReceived = FramesAreReceived → BreaksAreReceived → KnownAlongFrames → EventsAnswered IsArrival
+abbrev pub PiecesAreHandled : Type 0
+PiecesAreHandled = FramesAreHandled → BreaksAreHandled → KnownAlongFrames → EventsAnswered IsArrival

@@ -1,4 +1,4 @@
--- A piece of bytes arrives on a link. A session has all of it at once (BytesArrive), and reads it one frame after the other; the channel takes of the piece what shows
+-- A piece of bytes arrives on a link. A session has all of it at once (BytesArrive), and reads it one frame after the other. The channel takes of the piece what shows
 -- the next frame, receives it with all that follows from it, and then goes on with the rest. So between two frames the two agree as if the link of the channel kept the
 -- bytes that are still to be handled (RFC 9113, section 4.1).
 -- Example: of two frames of 17 bytes and 3 bytes of a third, which come in one piece, the channel agrees as if its link kept 37 bytes after BytesArrive, 20 after the

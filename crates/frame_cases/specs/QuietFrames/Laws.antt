@@ -60,5 +60,5 @@ pub record IsQuiet (link : ℕ) (s : Seen) (a : Action) (h : Received) : Type 0 
   pub stays : (frame.frame.kind == goaway_type) ≡ false
   pub none : h.news ≡ []
 
-abbrev pub QuietFramesAreReceived : Type 0
-QuietFramesAreReceived = ReceivedOf IsQuiet
+abbrev pub QuietFramesAreHandled : Type 0
+QuietFramesAreHandled = ReceivedOf IsQuiet

@@ -83,13 +83,6 @@ all_at P [] i a e all = absurd (let no : ⊥ = (cc) in no)
 all_at P (x ∷ xs) zero a e all = (let same : x ≡ a = (cc) in subst P same all.0)
 all_at P (x ∷ xs) (suc i) a e all = all_at P xs i a e all.1
 
-none_app : (xs ys : List ℕ) (k : ℕ) → is_one_of (xs ++ ys) k ≡ false → (is_one_of xs k ≡ false) × (is_one_of ys k ≡ false)
-none_app [] ys k e = (refl, e)
-none_app (x ∷ xs) ys k e =
-    let parts = none_of (x == k) (is_one_of (xs ++ ys) k) e in
-    let rest = none_app xs ys k parts.1 in
-    (ap (λ (c : Bool). c || is_one_of xs k) parts.0 ∙ rest.0, rest.1)
-
 one_app : (xs ys : List ℕ) (k : ℕ) (b c : Bool) → is_one_of xs k ≡ b → is_one_of ys k ≡ c → is_one_of (xs ++ ys) k ≡ (b || c)
 one_app [] ys k b c e h = h ∙ ap (λ (x : Bool). x || c) e
 one_app (x ∷ xs) ys k b c e h =

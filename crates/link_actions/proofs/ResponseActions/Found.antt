@@ -122,11 +122,6 @@ pub afterwards_by : (tag k : ℕ) (r : ReaderSeen) (readers : List TagReader) �
 afterwards_by tag k r [] apart = (let none : Option ReaderSeen = None in if_false (tag == k) (Some r) none (turned k tag apart))
 afterwards_by tag k r (t ∷ readers) apart = ap (λ (o : Option ReaderSeen). if t.tag == k then Some t.reader else o) (afterwards_by tag k r readers apart)
 
-own_by : (tag : ℕ) (t : TagReader) (o : Option ReaderSeen) (r : ReaderSeen) (b : Bool) → (if b then Some t.reader else o) ≡ None → (o ≡ None → (if b then Some t.reader else Some r) ≡ Some r)
-    → (if b then Some t.reader else Some r) ≡ Some r
-own_by tag t o r true e next = absurd (cc)
-own_by tag t o r false e next = next e
-
 pub own_after : (tag : ℕ) (r : ReaderSeen) (readers : List TagReader) → reader_in tag readers ≡ None → reader_in tag (with_reader tag r readers) ≡ Some r
 own_after tag r [] none = (let no : Option ReaderSeen = None in if_true (tag == tag) (Some r) no (let same : (tag == tag) ≡ true = grind (arith, nat_tests) in same))
 own_after tag r (t ∷ readers) none = own_first tag r t readers (t.tag == tag) none (λ h. own_after tag r readers h)

@@ -188,14 +188,6 @@ data_is_reported l s w g readers r a is reads comes on over data_ =
       code = λ done. data_code limit p f we h going.goes going.small (open_of l s n a going) refl done;
     }))
 
--- RST_STREAM
-of_ends : (l : Link) (s : Seen) (a : Attempt) (n : ℕ) (number : Option ℕ) (we : Bool) (q : Response) → response_of l s n a ≡ q → EndsAs l s a n number
-    → ((o : Outcome) → q.end ≡ Some o → code_for o.cause we q ≡ number) → HasCode we q number
-of_ends l s a n number we q same is by_end = record {
-  by_end = by_end;
-  by_cut = λ none. absurd (let no : None ≡ Some is.outcome = sym none ∙ sym (ap (λ (x : Response). x.end) same) ∙ is.end in let out : ⊥ = (cc) in out);
-}
-
 pub resets_are_reported : ResetsAreReported
 resets_are_reported l s w g readers r a is reads comes on over kind_ =
     let f : FrameSeen = r.frame in

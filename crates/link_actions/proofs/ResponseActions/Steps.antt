@@ -191,15 +191,6 @@ reset_reported limit tag t seen number opened p is =
     (plain_end (looked_up reset_codes number) cause.Reset ((number == refused_stream) && is_none p.head) None) (link.reset_end (is_some p.head) number seen) is.small refl refl refl
     (ap (λ (b : Bool). link.end_without_block (looked_up reset_codes number) cause.Reset ((number == refused_stream) && b) seen) (none_is p.head))
 
-abbrev pub unseen_outcome : Outcome
-unseen_outcome = plain_end code.Unavailable cause.Goaway true (Some cancel)
-
-pub unseen_reported : (limit tag t seen : ℕ) (p : Response) → GoesOn p
-    → IsStep limit tag seen true (stepped (the_reader true limit p) tag (report.Unseen t seen)) p (ended unseen_outcome p)
-unseen_reported limit tag t seen p is =
-    let opened : Bool = true in
-    ends_step limit tag seen opened (the_reader true limit p) p p unseen_outcome (link.unseen_end true seen) is.small refl refl refl refl
-
 -- header blocks: the same HTTP status, codes and ends
 pub code_same : (fields : List Field) → link.http_code fields ≡ http_code fields
 code_same fields = ap (λ (o : Option ℕ). option_map_or (λ s. looked_up http_codes s) o code.Unknown) (sym (status_same fields))
@@ -296,9 +287,6 @@ alone_same p b seen e none =
     ∙ ap (λ (k : Outcome). end_news k seen)
     (sym (if_false (is_success o.code && nat_lt 0 (length p.rest)) (block_end code.Internal cause.Framing cancel b) o
     (ap (λ (bs : List ℕ). is_success o.code && nat_lt 0 (length bs)) none ∙ and_false (is_success o.code))))
-
-closed_response : Response → Response
-closed_response p = record p { closes = true }
 
 never_head : (fields : List Field) → is_head fields ≡ true → is_none (http_status fields) ≡ true → ⊥
 never_head fields h none = by_status (http_status fields) none h

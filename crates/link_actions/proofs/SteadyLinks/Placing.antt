@@ -202,12 +202,6 @@ distinct_more k [] all none = (refl, tt)
 distinct_more k (m ∷ ns) all none =
     let parts = none_of (m == k) (is_one_of ns k) none in distinct_by k m ns (nat_cmp k m) all none (distinct_more k ns all.1 parts.1)
 
-either_none : (k : ℕ) (us vs : List ℕ) → is_one_of (us ++ vs) k ≡ false → (is_one_of us k ≡ false) × (is_one_of vs k ≡ false)
-either_none k [] vs none = (refl, none)
-either_none k (u ∷ us) vs none =
-    let parts = none_of (u == k) (is_one_of (us ++ vs) k) none in
-    let rest = either_none k us vs parts.1 in (ap (λ (b : Bool). b || is_one_of us k) parts.0 ∙ rest.0, rest.1)
-
 absent_after : (k n : ℕ) (us vs : List ℕ) → is_one_of (us ++ vs) n ≡ false → (k == n) ≡ false → is_one_of (us ++ insert_key nat_cmp vs k) n ≡ false
 absent_after k n [] vs none apart = absent k n vs none apart
 absent_after k n (u ∷ us) vs none apart =

@@ -1,4 +1,4 @@
--- A frame of a header block: what the link is notified of it is what the session reads.
+-- A frame of a header block: what the link reports of it is what the session reads.
 use Rattle.std.proofs.Common.{◌≡◌, ◌++◌, ◌||◌, ◌&&◌, ◌==◌, not, ap, refl, subst, sym, ◌∙◌, Bool, true, false, List, [], Option, None, Some, Ok, Err, Result, ℕ, ◌+◌, if◌then◌else◌, length}
 use Rattle.std.specs.List.{list_any}
 use Rattle.std.proofs.lemmas.Bool.{eqb-true}
@@ -146,7 +146,7 @@ of_by w f seen open_ false kind of_b is placed = continued w f seen w.block open
 pub is_of : (l : Link) (w : Wire) (f : FrameSeen) (seen : ℕ) → SeesRead l w → is_of_block f ≡ true → link.is_misplaced w.block f ≡ false → IsOf w f (block_with (open_block l) f) seen
 is_of l w f seen reads of_b placed = of_by w f seen (open_block l) (f.kind == headers_type) refl of_b reads.block placed
 
--- what the link is notified of a whole block
+-- what the link reports of a whole block
 pub record IsListed (w : Wire) (f : FrameSeen) (fields : List Field) (ends : Bool) (seen : ℕ) : Type 0 where
   pub kept : Option Block
   pub table : hpack.State
@@ -206,7 +206,7 @@ received_by l w r t reads comes e =
     let same : S (Ok t) = subst S e (applied_same l v f r.end (read_after w.read (9 + length f.payload)) reads.block reads.table (subst N (sym (settings_same f comes.allowed)) none)) in
     unsealed f (open_block l) w t.wire (received_of r.end f (open_block l) v (frame_read_by None l f r.end) t same)
 
--- what is reported to the link
+-- what the link reports
 pub reported_by : (w : Wire) (f : FrameSeen) (t : Report) → link.link_error w f ≡ None
     → applied (record w { queue = sealed w.queue }) f (read_after w.read (9 + length f.payload)) ≡ Ok t → reported w f ≡ outcome w (read_after w.read (9 + length f.payload)) (Ok t)
 reported_by w f t fair e = ap (judged w f) fair ∙ ap (outcome w (read_after w.read (9 + length f.payload))) e

@@ -108,7 +108,7 @@ data_owed l s w g r a is st kind =
     ∙ ap (λ (b : Bool). map (λ k. AFrame k) (if z then [] else window_update_frame 0 by ∷ (if b && not e then window_update_frame f.stream by ∷ [] else []))) (sym h)
     ∙ ap (map (λ k. AFrame k)) (sym (owed_data f l s kind))
 
--- what is reported to the link
+-- what the link reports
 data_is_reported : (w : Wire) (f : FrameSeen) (i : ℕ) (y : LiveStream) → link.link_error w f ≡ None → f.kind ≡ data_type → found_from (is_numbered f.stream) 0 w.live ≡ Some (i, y)
     → reported w f ≡ outcome w (read_after w.read (9 + length f.payload)) (Ok (data_reported (record w { queue = sealed w.queue }) f (read_after w.read (9 + length f.payload)) (Some (i, y))))
 data_is_reported w f i y fair kind found =

@@ -263,7 +263,7 @@ gone_zip l z s ts last (x ∷ xs) (a ∷ others) are all there out ends =
 gone_zip l z s ts last [] (a ∷ others) are all there out ends = absurd are
 gone_zip l z s ts last (x ∷ xs) [] are all there out ends = absurd are
 
--- what is reported to the link
+-- what the link reports
 pub goaway_is_reported : (w : Wire) (f : FrameSeen) → link.link_error w f ≡ None → f.kind ≡ goaway_type
     → reported w f ≡ outcome w (read_after w.read (9 + length f.payload)) (Ok (goaway_reported (record w { queue = sealed w.queue }) (last_stream f.payload) (read_after w.read (9 + length f.payload))))
 goaway_is_reported w f fair kind =

@@ -332,7 +332,7 @@ block_by l s w g r a b kept table false is comes on st part block handled known 
     block_goes l s w g r a b kept table h is comes st part block handled
     (λ goes. on_ ∙ sym (ap (λ (x : Response). is_some x.head) first ∙ head_by p b (is_head b.fields) refl (sym (ap (λ (x : Response). x.end) first) ∙ goes))))
 
--- the header list that the frame completes is the one that the link is reported
+-- the header list that the frame completes is the one that the link reports
 pub record IsGot (l : Link) (w : Wire) (r : ReadFrame) (b : Whole) : Type 0 where
   pub of_b : is_of_block r.frame ≡ true
   pub listed : IsListed w r.frame b.fields b.ends (read_after w.read (9 + length r.frame.payload))

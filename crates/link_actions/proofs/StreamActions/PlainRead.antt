@@ -61,7 +61,7 @@ none_owed f l s no_data no_settings_ no_ping =
     ∙ if_false ((f.kind == ping_type) && not (has_flag f.flags ack_flag)) (ping_ack (ping_word f.payload) ∷ []) _ (ap (λ (b : Bool). b && not (has_flag f.flags ack_flag)) no_ping)
     ∙ if_false (f.kind == data_type) (updates_for f l s) [] no_data
 
--- what the link is notified of it
+-- what the link reports of it
 still_reported : (w : Wire) (f : FrameSeen) → link.link_error w f ≡ None → IsStill f
     → reported w f ≡ outcome w (read_after w.read (9 + length f.payload))
     (Ok (if f.kind == rst_stream_type then reset_reported (record w { queue = sealed w.queue }) (reset_code f.payload) (read_after w.read (9 + length f.payload)) (found_from (is_numbered f.stream) 0 w.live)

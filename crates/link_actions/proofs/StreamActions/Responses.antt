@@ -96,7 +96,7 @@ like_written limit k l x goes small =
     let p : Response = response_in limit k l.traffic in
     subst (IsLike p) (sym (response_wrote limit k l x ∙ goes_on limit k p (traffic.Written x) goes small)) (write_like limit k p x)
 
--- so a stream is still received
+-- so a stream still takes what comes
 pub received_like : (l m : Link) (s u : Seen) (x y : LiveStream) (a : Attempt) → y.head ≡ x.head → IsLike (response_of l s x.number a) (response_of m u y.number a)
     → IsReceived l s x a → IsReceived m u y a
 received_like l m s u x y a head like is = record {

@@ -1,6 +1,6 @@
 -- Links that are over: one that breaks, in mid-piece too, one that is lost, and one whose SETTINGS did not come in time.
 -- Example: a piece has DATA of stream 1, and then PUSH_PROMISE. The DATA is read, with all that follows from it; then the link is broken in both, with
--- PROTOCOL_ERROR; what comes after it in the piece is not read; and the attempts on the link end, the lowest first, none of them with RST_STREAM.
+-- PROTOCOL_ERROR. What comes after it in the piece is not read; and the attempts on the link end, the lowest first, none of them with RST_STREAM.
 -- The laws, in the order of this file:
 -- 1. A link that breaks; one that is lost; one whose SETTINGS did not come.
 -- 2. Nothing more is read of it.

@@ -2,7 +2,7 @@
 -- HTTP/2, "Errors").
 -- Example: the head of attempt 2 comes on stream 3 of link 1, and its call is committed to it. Attempts 1 and 3, on the streams 1 and 5, end, cut off; then RST_STREAM
 -- with CANCEL is queued for 1, and for 5. So it is in the link, whichever was cut off first.
--- The laws, in the order of this file: a link that is ahead by none; one more that is cut off, with a stream or waiting for one; a reset that the session queues too;
+-- The laws, in the order of this file: a link that is ahead by none; one more that is cut off, with a stream or waiting for one. Then come a reset that the session queues too;
 -- GOAWAY, once all attempts have ended that it ends, and the resets that the session owes then.
 use Rattle.std.specs.Prelude.{Bool, List, None, Option, Some, [], false, filter, if◌then◌else◌, is_some, length, map, true, unwrap_or, ℕ, ◌&&◌, ◌==◌, ◌∷◌, ◌≡◌}
 use Rattle.attempt_ledger.specs.declared.row.RowEnd.{RowEnd}

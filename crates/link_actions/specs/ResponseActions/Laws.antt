@@ -116,7 +116,7 @@ QuietIsReported =
     → IsQuiet l s (read_link r l s) (frame_read l.number r s) w (reported w r.frame).wire (frame_reported w readers r.frame) readers r.frame
 
 -- GOAWAY (section 6.8): of each stream that it leaves out, the lowest first, and then of each attempt that waits for a stream, it is reported that the server
--- did not see it; and, the first time, that the link takes no further attempt. These have no reader any more, and the others keep theirs. (In which order
+-- did not see it. The first time it is reported, too, that the link takes no further attempt. These have no reader any more, and the others keep theirs. (In which order
 -- the attempts end is the session's: by place.)
 abbrev pub left_out_end : Outcome
 left_out_end = plain_end code.Unavailable cause.Goaway true (Some cancel)

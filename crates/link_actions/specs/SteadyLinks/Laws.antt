@@ -1,9 +1,9 @@
--- What leaves the agreement of a link: whatever it cannot distinguish. So what is done to calls and their attempts between a frame and the ends that it brings
--- leaves it: a commitment, the end of a call, an attempt that is made, a message that is accepted, a request that is finished.
+-- What leaves the agreement of a link: whatever makes no difference to it. That is what is done to calls and their attempts between a frame and the ends that it brings:
+-- a commitment, the end of a call, an attempt that is made, a message, or the end of a request.
 -- Example: the head of attempt 1 comes on stream 1 of link 1, where attempt 2 of the same call has stream 3. The frame is read; the call is committed to attempt
 -- 1; and link 1 still agrees, with both streams. Then attempt 2 ends, cut off, and its stream is reset.
 -- The laws, in the order of this file:
--- 1. Whatever a link cannot distinguish.
+-- 1. Whatever makes no difference to a link.
 -- 2. A commitment; the end of a call; an attempt that is made.
 -- 3. An attempt that is placed on the link.
 -- 4. What is noted of the entry; a message that is accepted; a request that is finished; an entry that opens.

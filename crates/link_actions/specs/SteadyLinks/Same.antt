@@ -1,4 +1,4 @@
--- When a link cannot distinguish two sessions: what passed on it and what it owes is the same; its attempts have the same places and streams, the same limits
+-- When a link cannot distinguish two sessions: what passed on it and what it owes is the same. Its attempts have the same places and streams, the same limits
 -- for their responses, and are fed right; and the attempts that came since are on no link.
 -- Example: a call is committed to its attempt 1, which has stream 1 of link 1. The attempt is noted to be committed, and its call has one mark more. Link 1
 -- looks at neither.

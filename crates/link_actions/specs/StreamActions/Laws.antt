@@ -10,7 +10,7 @@
 -- 5. RST_STREAM; WINDOW_UPDATE of the stream; PRIORITY and frames of unknown types.
 -- 6. GOAWAY.
 -- 7. Ends are those of the session's responses, with the codes that it resets streams with: DATA, header blocks, RST_STREAM, GOAWAY.
--- Still to be stated: other ends of one frame (those that are cut off), whose resets go by stream; that what is reported of a response is what came of it (a
+-- Still to be stated: other ends of one frame (those that are cut off), whose resets go by stream. So is that what is reported of a response is what came of it (a
 -- head, messages, the end with its code and metadata); breaks in mid-piece; a link that is lost.
 use Rattle.std.specs.List.{AllByRecursion}
 use Rattle.std.specs.Prelude.{Bool, List, None, Option, Some, [], false, filter, if◌then◌else◌, is_none, is_some, length, map, nat_lt, not, true, ℕ, ◌&&◌, ◌+◌, ◌==◌, ◌<◌, ◌^◌, ◌||◌, ◌∷◌, ◌≡◌}

@@ -74,9 +74,6 @@ module _ (s : Seen) where
   held config None = record { setup = refl; asks = refl; policies = refl; subs = refl }
   held config (Some t) = throttled config t (run_to_join t s)
 
-  marked_by : (what : MarkKind) (o : Option Attempt) → IsSameNet s (option_map_or (λ (a : Attempt). marked what a.row.call s) o s)
-  marked_by what o = same_or s (λ (a : Attempt). marked what a.row.call s) (λ a. record { setup = refl; asks = refl; policies = refl; subs = refl }) o
-
   run_step : (place : ℕ) (b : Bool) (o : Option ℕ)
       → IsSameNet s (if b then option_map_or (λ (run : ℕ). record s { runs = changed (λ (u : ThrottleRun). record u { ends = u.ends ++ place ∷ [] }) run s.runs }) o s else s)
   run_step place true o =

@@ -1,13 +1,13 @@
 -- A piece that arrives, with what runs keep.
 use Rattle.std.proofs.Common.{arith, length, ℕ, ◌+◌, ◌≤◌}
 use Rattle.channel_actions.specs.FewCalls.Laws.{BytesAreFew}
-use Rattle.frame_cases.specs.PieceWalks.Laws.{KnownAlongFrames, PiecesAreReceived}
+use Rattle.frame_cases.specs.PieceWalks.Laws.{KnownAlongFrames, PiecesAreHandled}
 use Rattle.run_cases.specs.ReadOut.Laws.{ArrivalsAreAnswered, LinksAreReadOut}
 
 few_bytes : (n : ℕ) → n ≤ 268435456 → n ≤ 18446744073709551615
 few_bytes n e = omega (arith, e)
 
-pub arrivals_are_answered : BytesAreFew → LinksAreReadOut → KnownAlongFrames → PiecesAreReceived → ArrivalsAreAnswered
+pub arrivals_are_answered : BytesAreFew → LinksAreReadOut → KnownAlongFrames → PiecesAreHandled → ArrivalsAreAnswered
 arrivals_are_answered bytes outs knows pieces frames breaks x y r o s h at fresh timely case answers =
     let reached = case.known.reached in
     pieces frames breaks knows x y r o s h at fresh timely

@@ -1,4 +1,4 @@
--- Line by line, what the action of a stage reports of its entry: bytes come, and frames are read, of the link of the event; frames are written where no bytes come; an entry
+-- Line by line, what the action of a stage says of its entry: bytes come, and frames are read, of the link of the event. Frames are written where no bytes come; an entry
 -- settles once nothing is left to be read; and one that closes has settled.
 use Rattle.attempt_ledger.specs.Hedging.{is_hedge}
 use Rattle.channel_actions.proofs.Calls.Few.Begins.{is_of_stage, is_stage_next}

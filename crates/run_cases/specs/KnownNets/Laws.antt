@@ -1,4 +1,4 @@
--- Results of the resolver, take-overs and wishes, in any session that is known to keep what runs keep (`IsKnown`), or to have begun new (`IsSound`): without a premise
+-- Results of the resolver, take-overs and wishes, in any session that is known to keep what runs keep (`IsKnown`), or to have begun new (`IsSound`). They are without a premise
 -- of their own, but for what the types of an event and of a channel say.
 -- Example: a channel holds a config. A result with two addresses and no config is one of these, and so is one with a config that is invalid.
 use Rattle.channel_actions.specs.Known.{IsKnown}

@@ -4,7 +4,7 @@
 use Rattle.std.specs.Prelude.{List, Some, ℕ, ◌≡◌}
 use Rattle.channel_actions.specs.Stages.{EventsAnswered}
 use Rattle.run_cases.specs.WholeRuns.Parts.{IsArrival}
-use Rattle.frame_cases.specs.PieceWalks.Laws.{BreaksAreReceived, FramesAreReceived}
+use Rattle.frame_cases.specs.PieceWalks.Laws.{BreaksAreHandled, FramesAreHandled}
 use Rattle.frame_cases.specs.PieceWalks.Points.{IsReadOut}
 use Rattle.session_actions.specs.Sessions.{Does, new_session}
 use Rattle.session_actions.specs.Words.{numbered}
@@ -21,4 +21,4 @@ LinksAreReadOut =
     → (link : ℕ) (l : Link) → numbered s.links link ≡ Some l → IsReadOut l
 
 abbrev pub ArrivalsAreAnswered : Type 0
-ArrivalsAreAnswered = FramesAreReceived → BreaksAreReceived → EventsAnswered IsArrival
+ArrivalsAreAnswered = FramesAreHandled → BreaksAreHandled → EventsAnswered IsArrival

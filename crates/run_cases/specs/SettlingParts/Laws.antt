@@ -1,5 +1,5 @@
 -- A settling from its parts: what is proved of them, put together, and what is left of them as premises, each by its name.
--- Example: where the clock and the net of a settling keep channel and session in agreement, so does all of it, but for what follows an answer to a pick
+-- Example: where the clock and the net of a settling keep channel and session in agreement, so does all of it. Left out are what follows an answer to a pick
 -- request, and a hedge that is withheld when no other attempt of its call goes on.
 use Rattle.channel_actions.specs.Stages.{SettlingsOf}
 use Rattle.attempt_cases.specs.MakingSteps.Laws.{LastIsWithheld}

@@ -10,7 +10,7 @@ returns c =
       columns = c.others_are_same.ensures.columns;
       sets = c.sets_stay.ensures;
       links = c.links_stay.ensures.all;
-      untold = c.actions_are_untold.ensures.action;
+      no_difference = c.actions_make_no_difference.ensures.action;
       net = c.nets_stay.ensures.one;
       kept = c.sessions_are_kept.ensures.along;
     }) c.calls_share_tokens_alone.ensures.stay c.books_are_kept.ensures.fair c.calls_go_on_alike.ensures.withheld c.posts_keep_order.ensures.withheld

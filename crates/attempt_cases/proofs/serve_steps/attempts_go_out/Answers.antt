@@ -10,7 +10,7 @@ goes c =
         columns = c.others_are_same.ensures.columns;
         sets = c.sets_stay.ensures;
         links = c.links_stay.ensures.all;
-        untold = c.actions_are_untold.ensures.action;
+        no_difference = c.actions_make_no_difference.ensures.action;
         net = c.nets_stay.ensures.one;
         kept = c.sessions_are_kept.ensures.along;
       };

@@ -4,7 +4,7 @@ use Rattle.channel_actions.proofs.Calls.Kept.Lines.{next_fits}
 use Rattle.channel_actions.proofs.Calls.Kept.Parts.{Early}
 use Rattle.channel_actions.proofs.Calls.Kept.Steps.{early_after}
 use Rattle.channel_actions.specs.KeptCalls.Early.{IsEarlyKept, has_none, is_early, is_past}
-use Rattle.channel_actions.specs.KeptCalls.Laws.{CallsAreUnconfigured, EarlyAlong, EarlyBegins, EarlyStays}
+use Rattle.channel_actions.specs.KeptCalls.Laws.{UnconfiguredHaveNoAttempts, EarlyAlong, EarlyBegins, EarlyStays}
 use Rattle.channel_actions.proofs.KeptSessions.Along.{kept_stays}
 use Rattle.channel_actions.proofs.KeptSessions.Lines.{next_sound}
 use Rattle.channel_actions.proofs.KeptSessions.Lists.{all_at, counted_places}
@@ -68,8 +68,8 @@ none_of s c k (a ∷ attempts) own early made =
     or_from (a.row.call == k) (list_any (λ (q : Attempt). q.row.call == k) attempts) (not_own s c k a (a.row.call == k) own refl early both.0)
     (none_of s c k attempts own early both.1)
 
-pub calls_are_unconfigured : CallsAreUnconfigured
-calls_are_unconfigured s number c kept early own end config =
+pub unconfigured_have_no_attempts : UnconfiguredHaveNoAttempts
+unconfigured_have_no_attempts s number c kept early own end config =
     let past : is_past c ≡ false = not_past c end config in
     let sound : (is_past c || is_early c) ≡ true = all_at (λ (d : Call). is_past d || is_early d) s.calls number c early.awaiting_config own in
     let first : is_early c ≡ true = sym (ap (λ (b : Bool). b || is_early c) past) ∙ sound in

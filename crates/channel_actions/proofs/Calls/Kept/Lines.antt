@@ -87,11 +87,6 @@ sound_then : {X : Type 0} (s : Seen) (f : X → Option Action) → ((x : X) → 
 sound_then s f each None = tt
 sound_then s f each (Some x) = each x
 
-sound_then_of : {X : Type 0} (s : Seen) (q : X → Bool) (f : X → Option Action) → ((x : X) → q x ≡ true → FitsIf s (f x)) → (o : Option X) → option_map_or q o true ≡ true
-    → FitsIf s (option_and_then f o)
-sound_then_of s q f each None e = tt
-sound_then_of s q f each (Some x) e = each x e
-
 sound_first : {X : Type 0} (s : Seen) (f : X → Option Action) (xs : List X) → ((i : ℕ) (x : X) → slice_get xs i ≡ Some x → FitsIf s (f x)) → FitsIf s (first_of f xs)
 sound_first s f [] each = tt
 sound_first s f (x ∷ xs) each = sound_or s (f x) (first_of f xs) (each 0 x refl) (sound_first s f xs (λ i y got. each (suc i) y got))

@@ -341,10 +341,6 @@ pub committed_if : (b : Bool) (n row : ℕ) (c : Buffered) → list_all (is_held
 committed_if true n row c e = to_held n row c (buffers.taken_by row c) e
 committed_if false n row c e = e
 
-begun_by : (b : Bool) (n row : ℕ) (c : Buffered) → list_all (is_held n) c.cursors ≡ true → list_all (is_held n) (if b then committed_buffer row c else c).cursors ≡ true
-begun_by true n row c e = committed_if (buffers.is_open row c) n row c e
-begun_by false n row c e = e
-
 begun_held : (n row : ℕ) (is_committed : Bool) (c : Buffered) → nat_le row n ≡ true → list_all (is_held n) c.cursors ≡ true
     → list_all (is_held n) (begun_row row is_committed c).cursors ≡ true
 begun_held n row is_committed c low e = by_bool is_committed

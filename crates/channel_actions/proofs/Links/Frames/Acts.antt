@@ -1,4 +1,4 @@
--- What each kind of action does, distinguished by no link on which it does not bear: to calls, to attempts, to links.
+-- What each kind of action does, which makes no difference to a link on which it does not bear: to calls, to attempts, to links.
 use Rattle.std.proofs.Common.{◌≡◌, ◌+◌, ◌++◌, ◌∷◌, ◌&&◌, ◌==◌, ◌≤◌, ap, arith, length-append, refl, subst, sym, ◌∙◌, Bool, true, false, List, [], Option, None, Some, ℕ, if◌then◌else◌, is_none, is_some, length, map, not, option_and_then, slice_get}
 use Rattle.std.proofs.Math.Nat.{le_refl}
 use Rattle.std.proofs.lemmas.Bool.{eqb-false, eqb-true, or_parts}
@@ -28,8 +28,8 @@ use Rattle.h2_frame.specs.Numbers.{headers_type}
 use Rattle.h2_frame.specs.Sent.{rst_stream_frame}
 use Rattle.channel_actions.specs.KeptSessions.Kept.{NumbersCountUp}
 use Rattle.channel_actions.proofs.Links.Frames.Changes.{IsMild, IsRowAlike, IsSameSo, all_same, attempt_changed, attempt_joins, call_changed, call_joins, link_changed, link_joins, limit_same, same_but_calls, same_so}
-use Rattle.channel_actions.proofs.Links.Frames.Distinguishing.{Continues, all_go, joined, untold}
-use Rattle.channel_actions.specs.LinkFrames.Alike.{CannotDistinguish, IsLinkStill, Numbers, is_on}
+use Rattle.channel_actions.proofs.Links.Frames.Differences.{Continues, all_go, joined, no_difference}
+use Rattle.channel_actions.specs.LinkFrames.Alike.{SeesNoDifference, IsLinkStill, Numbers, is_on}
 use Rattle.channel_actions.specs.LinkFrames.Bears.{is_placed_on}
 use Rattle.call_actions.proofs.ReadsInOrder.Order.{links_of_sub}
 use Rattle.service_config.specs.Choice.{chosen_for}
@@ -138,7 +138,7 @@ pub attempts_of_config : (x : Result Config ConfigFault) (s : Seen) → (config_
 attempts_of_config (Ok config) s = attempts_of_held config config.throttle (replied reply.Done (resolver_answered s))
 attempts_of_config (Err fault) s = refl
 
--- what is done to runs when an attempt ends is distinguished by no link
+-- what is done to runs when an attempt ends makes no difference to a link
 more_of : (s : Seen) (place : ℕ) (b : Bool) (o : Option ℕ)
     → IsSameSo s (if b then option_map_or (λ (run : ℕ). record s { runs = changed (λ (u : ThrottleRun). record u { ends = u.ends ++ place ∷ [] }) run s.runs }) o s else s)
 more_of s place false o = record { calls = refl; attempts = refl; configs = refl; links = refl }
@@ -155,43 +155,43 @@ other_than n touched is link apart e = eqb-false n link (sym (is link) ∙ apart
 
 module _ (touched : Numbers) (s : Seen) where
   -- the same, once something that none of this looks at is noted
-  pub then_same : (t u : Seen) → CannotDistinguish touched s t → IsSameSo t u → CannotDistinguish touched s u
+  pub then_same : (t u : Seen) → SeesNoDifference touched s t → IsSameSo t u → SeesNoDifference touched s u
   then_same t u f is = joined touched s t u f (all_same touched t u is)
 
-  pub marked_so : (what : MarkKind) (n : ℕ) (t : Seen) → CannotDistinguish touched s t → CannotDistinguish touched s (marked what n t)
+  pub marked_so : (what : MarkKind) (n : ℕ) (t : Seen) → SeesNoDifference touched s t → SeesNoDifference touched s (marked what n t)
   marked_so what n t f =
       joined touched s t (marked what n t) f
       (call_changed touched (λ (c : Call). record c { marks = c.marks ++ record { what = what; moment = now t } ∷ [] }) n t (marks_mild touched what (now t)))
 
-  pub row_marked : (what : MarkKind) (t : Seen) → CannotDistinguish touched s t → (o : Option Attempt) → CannotDistinguish touched s (option_map_or (λ (a : Attempt). marked what a.row.call t) o t)
+  pub row_marked : (what : MarkKind) (t : Seen) → SeesNoDifference touched s t → (o : Option Attempt) → SeesNoDifference touched s (option_map_or (λ (a : Attempt). marked what a.row.call t) o t)
   row_marked what t f None = f
   row_marked what t f (Some a) = marked_so what a.row.call t f
 
-  pub begun : (e : Event) → CannotDistinguish touched s (call_begun_by e s)
+  pub begun : (e : Event) → SeesNoDifference touched s (call_begun_by e s)
   begun (event.Begin request) =
       let d : Call = begun_call (length s.calls + 1) (entry s) (now s) request in
       let t : Seen = record s { calls = s.calls ++ d ∷ [] } in
       then_same t (call_begun_by (event.Begin request) s) (call_joins touched d s) (record { calls = refl; attempts = refl; configs = refl; links = refl })
-  begun _ = untold touched s
+  begun _ = no_difference touched s
 
-  pub called : (f : Call → Call) (n : ℕ) (u : Seen) → IsMild touched f → IsSameSo (with_call f n s) u → CannotDistinguish touched s u
+  pub called : (f : Call → Call) (n : ℕ) (u : Seen) → IsMild touched f → IsSameSo (with_call f n s) u → SeesNoDifference touched s u
   called f n u k is = then_same (with_call f n s) u (call_changed touched f n s k) is
 
-  pub ended : (n : ℕ) (why : EndCause) → CannotDistinguish touched s (call_ended n why s)
+  pub ended : (n : ℕ) (why : EndCause) → SeesNoDifference touched s (call_ended n why s)
   ended n why =
       let t : Seen = marked mark.Closed n s in
       let f : Call → Call = λ (c : Call). record c { end = Some (record { entry = entry s; moment = now s; cause = why }) } in
-      joined touched s t (with_call f n t) (marked_so mark.Closed n s (untold touched s)) (call_changed touched f n t (mild touched f (λ c. refl) (λ c. refl) (λ c. refl)))
+      joined touched s t (with_call f n t) (marked_so mark.Closed n s (no_difference touched s)) (call_changed touched f n t (mild touched f (λ c. refl) (λ c. refl) (λ c. refl)))
 
-  pub withheld : (n : ℕ) → CannotDistinguish touched s (hedge_withheld n s)
+  pub withheld : (n : ℕ) → SeesNoDifference touched s (hedge_withheld n s)
   withheld n =
-      then_same (marked mark.Withheld n s) (hedge_withheld n s) (marked_so mark.Withheld n s (untold touched s)) (record { calls = refl; attempts = refl; configs = refl; links = refl })
+      then_same (marked mark.Withheld n s) (hedge_withheld n s) (marked_so mark.Withheld n s (no_difference touched s)) (record { calls = refl; attempts = refl; configs = refl; links = refl })
 
-  pub turned_so : (b : Bool) (u : Seen) → CannotDistinguish touched s u → CannotDistinguish touched s (without_turn_unless b u)
+  pub turned_so : (b : Bool) (u : Seen) → SeesNoDifference touched s u → SeesNoDifference touched s (without_turn_unless b u)
   turned_so true u g = g
   turned_so false u g = then_same u (without_turn_unless false u) g (record { calls = refl; attempts = refl; configs = refl; links = refl })
 
-  pub made : (n number : ℕ) (k : RowKind) (due : ℕ) → CannotDistinguish touched s (attempt_made n number k due s)
+  pub made : (n number : ℕ) (k : RowKind) (due : ℕ) → SeesNoDifference touched s (attempt_made n number k due s)
   made n number k due =
       let t : Seen = with_row (new_row n number k due) s in
       let a : Attempt = record { place = length s.attempts + 1; row = new_row n number k due; made = entry s; reset = false } in
@@ -200,18 +200,18 @@ module _ (touched : Numbers) (s : Seen) where
 
   -- a commitment, a placing
   pub row_changed : (f : Attempt → Attempt) (what : MarkKind) (place : ℕ) → ((x : Attempt) → numbered s.attempts place ≡ Some x → IsRowAlike touched x (f x))
-      → CannotDistinguish touched s (marked_row what place (with_attempt f place s))
+      → SeesNoDifference touched s (marked_row what place (with_attempt f place s))
   row_changed f what place is =
       let t : Seen = with_attempt f place s in
       row_marked what t (attempt_changed touched f place s is) (numbered t.attempts place)
 
-  pub committed : (place : ℕ) → CannotDistinguish touched s (marked_row mark.Committed place (with_attempt (with_commitment (entry s)) place s))
+  pub committed : (place : ℕ) → SeesNoDifference touched s (marked_row mark.Committed place (with_attempt (with_commitment (entry s)) place s))
   committed place =
       row_changed (with_commitment (entry s)) mark.Committed place
       (λ x got. record { place = refl; call = refl; on = λ link apart. refl; stream = λ link apart on. refl })
 
   pub placed : (place : ℕ) (at : Placed) → ((link : ℕ) → touched link ≡ (at.link == link)) → ((a : Attempt) → numbered s.attempts place ≡ Some a → a.row.placed ≡ None)
-      → CannotDistinguish touched s (marked_row (mark.Placed place) place (with_attempt (with_placing at) place s))
+      → SeesNoDifference touched s (marked_row (mark.Placed place) place (with_attempt (with_placing at) place s))
   placed place at is free =
       row_changed (with_placing at) (mark.Placed place) place
       (λ x got. record {
@@ -223,15 +223,15 @@ module _ (touched : Numbers) (s : Seen) where
 
   -- an end: the attempt is on none of the others, before and after
   pub end_by : (place : ℕ) (e : RowEnd) (o : Option Attempt) → ((link : ℕ) → touched link ≡ holds (is_placed_on link) o) → ((a : Attempt) → o ≡ Some a → numbered s.attempts a.place ≡ Some a)
-      → CannotDistinguish touched s (option_map_or (attempt_ended_as e s) o s)
-  end_by place e None is here = untold touched s
+      → SeesNoDifference touched s (option_map_or (attempt_ended_as e s) o s)
+  end_by place e None is here = no_difference touched s
   end_by place e (Some a) is here =
       let z : Seen = option_map_or (with_end_in_run a e s) (call_of a s) s in
       let same : IsSameSo s z = run_of s a e (call_of a s) in
       let y : Seen = with_attempt (with_end e) a.place z in
       let w : Seen = marked (mark.Ended a.place) a.row.call y in
-      let one : CannotDistinguish touched s z = all_same touched s z same in
-      let two : CannotDistinguish touched z y
+      let one : SeesNoDifference touched s z = all_same touched s z same in
+      let two : SeesNoDifference touched z y
       = attempt_changed touched (with_end e) a.place z
       (λ x got.
       let it : x ≡ a = some_same x a (sym got ∙ ap (λ (l : List Attempt). numbered l a.place) same.attempts ∙ here a refl) in
@@ -244,16 +244,16 @@ module _ (touched : Numbers) (s : Seen) where
       then_same w (attempt_ended_as e s a) (marked_so (mark.Ended a.place) a.row.call y (joined touched s z y one two)) (record { calls = refl; attempts = refl; configs = refl; links = refl })
 
   -- a link that changes, which is touched
-  pub turned_link : (f : Link → Link) (n : ℕ) (u : Seen) → ((link : ℕ) → touched link ≡ false → link ≡ n → ⊥) → IsSameSo (record s { links = changed f n s.links }) u → CannotDistinguish touched s u
+  pub turned_link : (f : Link → Link) (n : ℕ) (u : Seen) → ((link : ℕ) → touched link ≡ false → link ≡ n → ⊥) → IsSameSo (record s { links = changed f n s.links }) u → SeesNoDifference touched s u
   turned_link f n u off is = then_same (record s { links = changed f n s.links }) u (link_changed touched f n s off) is
 
   pub reset_at : (f : Link → Link) (t : Seen) (o : Option Placed) → ((link : ℕ) → touched link ≡ holds (λ (at : Placed). at.link == link) o)
-      → CannotDistinguish touched t (record t { links = changed f (option_map_or (λ (at : Placed). at.link) o 0) t.links })
-  reset_at f t None is = untold touched t
+      → SeesNoDifference touched t (record t { links = changed f (option_map_or (λ (at : Placed). at.link) o 0) t.links })
+  reset_at f t None is = no_difference touched t
   reset_at f t (Some at) is = link_changed touched f at.link t (other_than at.link touched is)
 
-  pub reset_by : (number : ℕ) (o : Option Attempt) → ((link : ℕ) → touched link ≡ holds (is_placed_on link) o) → CannotDistinguish touched s (option_map_or (stream_reset_of number s) o s)
-  reset_by number None is = untold touched s
+  pub reset_by : (number : ℕ) (o : Option Attempt) → ((link : ℕ) → touched link ≡ holds (is_placed_on link) o) → SeesNoDifference touched s (option_map_or (stream_reset_of number s) o s)
+  reset_by number None is = no_difference touched s
   reset_by number (Some a) is =
       let t : Seen = with_attempt with_reset_queued a.place s in
       let f : Link → Link = λ (l : Link). record l { owed = l.owed ++ rst_stream_frame (stream_number a) number ∷ [] } in
@@ -263,15 +263,15 @@ module _ (touched : Numbers) (s : Seen) where
 
   -- frames
   pub read_by : (r : ReadFrame) (n : ℕ) (o : Option Link) → ((link : ℕ) → touched link ≡ (n == link)) → ((l : Link) → o ≡ Some l → l.number ≡ n)
-      → CannotDistinguish touched s (option_map_or (frame_read_on r s) o s)
-  read_by r n None is own = untold touched s
+      → SeesNoDifference touched s (option_map_or (frame_read_on r s) o s)
+  read_by r n None is own = no_difference touched s
   read_by r n (Some l) is own =
       link_changed touched (with_frame_read r (owed_for r.frame l s)) l.number s (λ link apart e. other_than n touched is link apart (e ∙ own l refl))
 
   pub opened_by : (f : FrameSeen) (l : Link) (n : ℕ) (o : Option Attempt) → ((link : ℕ) → touched link ≡ (n == link)) → l.number ≡ n
       → ((a : Attempt) → o ≡ Some a → (numbered s.attempts a.place ≡ Some a) × (is_on l.number a ≡ true))
-      → CannotDistinguish touched s (option_map_or (λ (a : Attempt). with_attempt (with_stream f.stream) a.place s) o s)
-  opened_by f l n None is own here = untold touched s
+      → SeesNoDifference touched s (option_map_or (λ (a : Attempt). with_attempt (with_stream f.stream) a.place s) o s)
+  opened_by f l n None is own here = no_difference touched s
   opened_by f l n (Some a) is own here =
       attempt_changed touched (with_stream f.stream) a.place s
       (λ x got.
@@ -285,19 +285,19 @@ module _ (touched : Numbers) (s : Seen) where
 
   pub opened_if : (f : FrameSeen) (l : Link) (n : ℕ) (b : Bool) → ((link : ℕ) → touched link ≡ (n == link)) → l.number ≡ n
       → ((a : Attempt) → slice_get (waiting_on l s) 0 ≡ Some a → (numbered s.attempts a.place ≡ Some a) × (is_on l.number a ≡ true))
-      → CannotDistinguish touched s (if b then stream_opened f l s else s)
+      → SeesNoDifference touched s (if b then stream_opened f l s else s)
   opened_if f l n true is own here = opened_by f l n (slice_get (waiting_on l s) 0) is own here
-  opened_if f l n false is own here = untold touched s
+  opened_if f l n false is own here = no_difference touched s
 
   pub opens : (x : Sent) (l : Link) (n : ℕ) → ((link : ℕ) → touched link ≡ (n == link)) → l.number ≡ n
-      → ((a : Attempt) → slice_get (waiting_on l s) 0 ≡ Some a → (numbered s.attempts a.place ≡ Some a) × (is_on l.number a ≡ true)) → CannotDistinguish touched s (stream_opened_by x l s)
-  opens sent.Preface l n is own here = untold touched s
+      → ((a : Attempt) → slice_get (waiting_on l s) 0 ≡ Some a → (numbered s.attempts a.place ≡ Some a) × (is_on l.number a ≡ true)) → SeesNoDifference touched s (stream_opened_by x l s)
+  opens sent.Preface l n is own here = no_difference touched s
   opens (sent.Frame f) l n is own here = opened_if f l n (f.kind == headers_type) is own here
 
   pub written_by : (x : Sent) (n : ℕ) (o : Option Link) → ((link : ℕ) → touched link ≡ (n == link)) → ((l : Link) → o ≡ Some l → l.number ≡ n)
       → ((l : Link) (a : Attempt) → slice_get (waiting_on l s) 0 ≡ Some a → (numbered s.attempts a.place ≡ Some a) × (is_on l.number a ≡ true))
-      → CannotDistinguish touched s (option_map_or (frame_written_on x s) o s)
-  written_by x n None is own here = untold touched s
+      → SeesNoDifference touched s (option_map_or (frame_written_on x s) o s)
+  written_by x n None is own here = no_difference touched s
   written_by x n (Some l) is own here =
       let t : Seen = stream_opened_by x l s in
       let f : Link → Link = λ (k : Link). record k { traffic = k.traffic ++ traffic.Written x ∷ [] } in
@@ -307,16 +307,16 @@ module _ (touched : Numbers) (s : Seen) where
       (record { calls = refl; attempts = refl; configs = refl; links = refl })
 
   -- a link that is given up
-  pub over_by : (o : Option ℕ) → ((link : ℕ) → touched link ≡ is_number link o) → CannotDistinguish touched s (option_map_or (λ (link : ℕ). link_over over.TimedOut link s) o s)
-  over_by None is = untold touched s
+  pub over_by : (o : Option ℕ) → ((link : ℕ) → touched link ≡ is_number link o) → SeesNoDifference touched s (option_map_or (λ (link : ℕ). link_over over.TimedOut link s) o s)
+  over_by None is = no_difference touched s
   over_by (Some n) is = link_changed touched (λ (l : Link). record l { over = Some over.TimedOut }) n s (other_than n touched is)
 
   pub timed_by : (o : Option Subchannel) → ((link : ℕ) → touched link ≡ is_number link (option_and_then (λ (b : Subchannel). b.link) o))
-      → CannotDistinguish touched s (option_map_or (λ (b : Subchannel). link_timed_out b s) o s)
-  timed_by None is = untold touched s
+      → SeesNoDifference touched s (option_map_or (λ (b : Subchannel). link_timed_out b s) o s)
+  timed_by None is = no_difference touched s
   timed_by (Some b) is = over_by b.link is
 
-  pub timed_out : (sub : ℕ) → ((link : ℕ) → touched link ≡ is_number link (option_and_then (λ (b : Subchannel). b.link) (numbered s.subs sub))) → CannotDistinguish touched s (connect_timed_out sub s)
+  pub timed_out : (sub : ℕ) → ((link : ℕ) → touched link ≡ is_number link (option_and_then (λ (b : Subchannel). b.link) (numbered s.subs sub))) → SeesNoDifference touched s (connect_timed_out sub s)
   timed_out sub is =
       let z : Seen = option_map_or (λ (b : Subchannel). link_timed_out b s) (numbered s.subs sub) s in
       let y : Seen = wants_resolution z in
@@ -324,7 +324,7 @@ module _ (touched : Numbers) (s : Seen) where
       (same_so y (connect_timed_out sub s) (subbed (without_link conn.Failure) sub y) (links_of_sub (without_link conn.Failure) sub y))
 
   -- a link that comes up
-  pub up_so : (sub : ℕ) → ((link : ℕ) → touched link ≡ (length s.links + 1 == link)) → CannotDistinguish touched s (link_up sub s)
+  pub up_so : (sub : ℕ) → ((link : ℕ) → touched link ≡ (length s.links + 1 == link)) → SeesNoDifference touched s (link_up sub s)
   up_so sub is =
       let n : ℕ = length s.links + 1 in
       let z : Seen = record s { links = s.links ++ new_link n sub s ∷ [] } in
@@ -349,7 +349,7 @@ module _ (touched : Numbers) (s : Seen) where
         given_config n xs u off configs two.1,
       )
 
-  pub configured : (n config : ℕ) → list_any (λ (a : Attempt). is_outstanding a && (a.row.call == n)) s.attempts ≡ false → CannotDistinguish touched s (call_configured n config s)
+  pub configured : (n config : ℕ) → list_any (λ (a : Attempt). is_outstanding a && (a.row.call == n)) s.attempts ≡ false → SeesNoDifference touched s (call_configured n config s)
   configured n config none =
       let u : Seen = call_configured n config s in
       let t : Seen = marked mark.Configured n s in
@@ -371,5 +371,5 @@ module _ (touched : Numbers) (s : Seen) where
       }
 
   pub config_got : (u : Seen) → u.attempts ≡ s.attempts → u.links ≡ s.links → ((c : Call) → numbered s.calls c.number ≡ Some c → IsApart s u c)
-      → NumbersCountUp 1 (map (λ (c : Call). c.number) s.calls) → CannotDistinguish touched s u
+      → NumbersCountUp 1 (map (λ (c : Call). c.number) s.calls) → SeesNoDifference touched s u
   config_got u attempts links apart counted = same_but_calls touched s u links attempts (all_go touched s u (apart_goes u apart counted) s.attempts)

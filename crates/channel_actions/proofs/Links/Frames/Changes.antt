@@ -7,8 +7,8 @@ use Rattle.std.specs.Option.{option_and_then, option_map, option_map_or}
 use Rattle.call_actions.proofs.Lists.{changed_away, changed_map}
 use Rattle.call_actions.proofs.Ranks.{numbered_map, numbered_more}
 use Rattle.call_actions.proofs.CallsApart.Parts.{IsSame}
-use Rattle.channel_actions.proofs.Links.Frames.Distinguishing.{Continues, all_go, link_self, self_alike, selves_alike}
-use Rattle.channel_actions.specs.LinkFrames.Alike.{AttemptsAreAlike, CannotDistinguish, IsAlike, IsCallStill, IsElsewhere, IsLinkStill, Numbers, is_on}
+use Rattle.channel_actions.proofs.Links.Frames.Differences.{Continues, all_go, link_self, self_alike, selves_alike}
+use Rattle.channel_actions.specs.LinkFrames.Alike.{AttemptsAreAlike, SeesNoDifference, IsAlike, IsCallStill, IsElsewhere, IsLinkStill, Numbers, is_on}
 use Rattle.service_config.specs.Choice.{chosen_for}
 use Rattle.session_actions.specs.Attempts.{call_of, with_attempt}
 use Rattle.session_actions.specs.Calls.{with_call}
@@ -44,7 +44,7 @@ module _ (touched : Numbers) where
       → (l : Link) × (numbered s.links link ≡ Some l) × IsLinkStill l m
   same_links s t e link m apart got = (m, ap (λ (ls : List Link). numbered ls link) (sym e) ∙ got, link_self m)
 
-  pub same_but_calls : (s t : Seen) → t.links ≡ s.links → t.attempts ≡ s.attempts → AllByRecursion (Continues touched s t) s.attempts → CannotDistinguish touched s t
+  pub same_but_calls : (s t : Seen) → t.links ≡ s.links → t.attempts ≡ s.attempts → AllByRecursion (Continues touched s t) s.attempts → SeesNoDifference touched s t
   same_but_calls s t links attempts goes = record {
     links = same_links s t links;
     attempts = subst (AttemptsAreAlike touched s t s.attempts) (sym attempts) (selves_alike touched s t s.attempts goes);
@@ -58,10 +58,10 @@ module _ (touched : Numbers) where
     more = le_refl (accepted_bytes c);
   }
 
-  pub all_same : (s t : Seen) → IsSameSo s t → CannotDistinguish touched s t
+  pub all_same : (s t : Seen) → IsSameSo s t → SeesNoDifference touched s t
   all_same s t is = same_but_calls s t is.links is.attempts (all_go touched s t (goes_same s t is.calls is.configs) s.attempts)
 
-  -- a call changes, but not in what a link can distinguish
+  -- a call changes, but not in what a link sees
   pub record IsMild (f : Call → Call) : Type 0 where
     pub config : (c : Call) → (f c).config ≡ c.config
     pub request : (c : Call) → (f c).request ≡ c.request
@@ -82,13 +82,13 @@ module _ (touched : Numbers) where
     more = le_refl (accepted_bytes c);
   }
 
-  pub call_changed : (f : Call → Call) (n : ℕ) (s : Seen) → IsMild f → CannotDistinguish touched s (with_call f n s)
+  pub call_changed : (f : Call → Call) (n : ℕ) (s : Seen) → IsMild f → SeesNoDifference touched s (with_call f n s)
   call_changed f n s mild =
       same_but_calls s (with_call f n s) refl refl
       (all_go touched s (with_call f n s) (λ a link apart on c e. mild_by f n s mild a c e (a.row.call == n) refl) s.attempts)
 
   -- a call joins; a config joins
-  pub call_joins : (d : Call) (s : Seen) → CannotDistinguish touched s (record s { calls = s.calls ++ d ∷ [] })
+  pub call_joins : (d : Call) (s : Seen) → SeesNoDifference touched s (record s { calls = s.calls ++ d ∷ [] })
   call_joins d s =
       let t : Seen = record s { calls = s.calls ++ d ∷ [] } in
       same_but_calls s t refl refl
@@ -128,7 +128,7 @@ module _ (touched : Numbers) where
     };
   }
 
-  pub attempt_changed : (f : Attempt → Attempt) (n : ℕ) (s : Seen) → ((x : Attempt) → numbered s.attempts n ≡ Some x → IsRowAlike x (f x)) → CannotDistinguish touched s (with_attempt f n s)
+  pub attempt_changed : (f : Attempt → Attempt) (n : ℕ) (s : Seen) → ((x : Attempt) → numbered s.attempts n ≡ Some x → IsRowAlike x (f x)) → SeesNoDifference touched s (with_attempt f n s)
   attempt_changed f n s is =
       let t : Seen = with_attempt f n s in
       record {
@@ -141,7 +141,7 @@ module _ (touched : Numbers) where
   joins_alike s t [] b goes off = (off, tt)
   joins_alike s t (a ∷ xs) b goes off = (self_alike touched s t a goes.0, joins_alike s t xs b goes.1 off)
 
-  pub attempt_joins : (b : Attempt) (s : Seen) → IsElsewhere touched b → CannotDistinguish touched s (record s { attempts = s.attempts ++ b ∷ [] })
+  pub attempt_joins : (b : Attempt) (s : Seen) → IsElsewhere touched b → SeesNoDifference touched s (record s { attempts = s.attempts ++ b ∷ [] })
   attempt_joins b s off =
       let t : Seen = record s { attempts = s.attempts ++ b ∷ [] } in
       record { links = same_links s t refl; attempts = joins_alike s t s.attempts b (all_go touched s t (goes_same s t refl refl) s.attempts) off }
@@ -150,7 +150,7 @@ module _ (touched : Numbers) where
   attempts_stay : (s : Seen) (ls : List Link) → AttemptsAreAlike touched s (record s { links = ls }) s.attempts s.attempts
   attempts_stay s ls = selves_alike touched s (record s { links = ls }) s.attempts (all_go touched s (record s { links = ls }) (goes_same s (record s { links = ls }) refl refl) s.attempts)
 
-  pub link_changed : (f : Link → Link) (n : ℕ) (s : Seen) → ((link : ℕ) → touched link ≡ false → link ≡ n → ⊥) → CannotDistinguish touched s (record s { links = changed f n s.links })
+  pub link_changed : (f : Link → Link) (n : ℕ) (s : Seen) → ((link : ℕ) → touched link ≡ false → link ≡ n → ⊥) → SeesNoDifference touched s (record s { links = changed f n s.links })
   link_changed f n s off = record {
     links = λ link m apart got. (m, sym (changed_away f n link s.links (off link apart)) ∙ got, link_self m);
     attempts = attempts_stay s (changed f n s.links);
@@ -160,7 +160,7 @@ module _ (touched : Numbers) where
   mapped_by f still m None e = absurd (cc)
   mapped_by f still m (Some l) e = let one : f l ≡ m = (cc) in (l, refl, subst (IsLinkStill l) one (still l))
 
-  pub links_mapped : (f : Link → Link) (s : Seen) → ((l : Link) → IsLinkStill l (f l)) → CannotDistinguish touched s (record s { links = map f s.links })
+  pub links_mapped : (f : Link → Link) (s : Seen) → ((l : Link) → IsLinkStill l (f l)) → SeesNoDifference touched s (record s { links = map f s.links })
   links_mapped f s still = record {
     links = λ link m apart got. mapped_by f still m (numbered s.links link) (sym (numbered_map f s.links link) ∙ got);
     attempts = attempts_stay s (map f s.links);
@@ -173,7 +173,7 @@ module _ (touched : Numbers) where
   beyond (x ∷ xs) y (suc zero) off = refl
   beyond (x ∷ xs) y (suc (suc i)) off = beyond xs y (suc i) (λ e. (let same : suc (suc i) ≡ suc (length xs) + 1 = omega (arith, e) in off same))
 
-  pub link_joins : (l : Link) (s : Seen) → ((link : ℕ) → touched link ≡ false → link ≡ length s.links + 1 → ⊥) → CannotDistinguish touched s (record s { links = s.links ++ l ∷ [] })
+  pub link_joins : (l : Link) (s : Seen) → ((link : ℕ) → touched link ≡ false → link ≡ length s.links + 1 → ⊥) → SeesNoDifference touched s (record s { links = s.links ++ l ∷ [] })
   link_joins l s off = record {
     links = λ link m apart got. (m, sym (beyond s.links l link (off link apart)) ∙ got, link_self m);
     attempts = attempts_stay s (s.links ++ l ∷ []);

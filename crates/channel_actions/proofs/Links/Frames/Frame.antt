@@ -9,7 +9,7 @@ use Rattle.channel_actions.specs.KeptSessions.Kept.{NumbersCountUp, IsKept}
 use Rattle.link_actions.specs.Sees.{AttemptsStandInPlace}
 use Rattle.channel_actions.proofs.Links.Frames.Readers.{readers_still}
 use Rattle.channel_actions.proofs.Links.Frames.Streams.{streams_still}
-use Rattle.channel_actions.specs.LinkFrames.Alike.{CannotDistinguish, IsLinkStill, Numbers}
+use Rattle.channel_actions.specs.LinkFrames.Alike.{SeesNoDifference, IsLinkStill, Numbers}
 use Rattle.channel_actions.specs.LinkFrames.Laws.{LinksStay, OthersAgree}
 use Rattle.session_actions.specs.Links.{is_retiring, read_bytes}
 use Rattle.session_actions.specs.Words.{numbered}
@@ -24,7 +24,7 @@ placed_from : (n : ℕ) (xs : List Attempt) → NumbersCountUp n (map (λ (a : A
 placed_from n [] h = tt
 placed_from n (a ∷ xs) h = (h.0, subst (λ (k : ℕ). AttemptsStandInPlace k xs) (let e : suc n ≡ n + 1 = omega arith in e) (placed_from (suc n) xs h.1))
 
-module _ (touched : Numbers) (s t : Seen) (kept : IsKept s) (kept_t : IsKept t) (cannot : CannotDistinguish touched s t) (link : ℕ) (apart : touched link ≡ false)
+module _ (touched : Numbers) (s t : Seen) (kept : IsKept s) (kept_t : IsKept t) (cannot : SeesNoDifference touched s t) (link : ℕ) (apart : touched link ≡ false)
     (l m : Link) (own : l.number ≡ link) (before : numbered s.links link ≡ Some l) (after : numbered t.links link ≡ Some m) (still : IsLinkStill l m) (slot : LinkSlot) where
   number_m : m.number ≡ link
   number_m = still.same.number ∙ own

@@ -1,4 +1,4 @@
--- A link that cannot distinguish agrees with the session as before: its streams, and what they are fed with.
+-- A link that sees no difference agrees with the session as before: its streams, and what they are fed with.
 use Rattle.std.proofs.Common.{◌≡◌, ◌∷◌, ap, refl, subst, sym, ◌∙◌, true, false, List, [], Some, ℕ, filter, is_none, is_some}
 use Rattle.std.specs.List.{AllByRecursion, list_all}
 use Rattle.channel_actions.specs.Links.{lines_in}

@@ -181,7 +181,3 @@ exactly_remove pairs test p h = record {
   rising = rising_remove pairs p h.rising;
   exact = λ a b. has_remove pairs p (a, b) h.rising ∙ ap (λ (z : Bool). z && not (is_same p (a, b))) (h.exact a b);
 }
-
--- two sets with the same pairs are one list
-has_head : (p : ℕ × ℕ) (pairs others : List (ℕ × ℕ)) → ((q : ℕ × ℕ) → has (p ∷ pairs) q ≡ has others q) → has others p ≡ true
-has_head p pairs others same = sym (same p) ∙ ap (λ (b : Bool). b || has pairs p) (self_same p)

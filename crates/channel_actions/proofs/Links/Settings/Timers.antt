@@ -10,9 +10,6 @@ use Rattle.channel_actions.proofs.Links.Settings.Pairs.{exactly_by, exactly_inse
 equal_numbers : (n m : ℕ) → (n == m) ≡ true → n ≡ m
 equal_numbers n m h = grind (arith, nat_tests)
 
-same_number : (n : ℕ) → (n == n) ≡ true
-same_number n = grind (arith, nat_tests)
-
 same_moment : (a b : Option ℕ) → is_same_moment a b ≡ true → a ≡ b
 same_moment None None e = refl
 same_moment None (Some n) e = absurd (cc)

@@ -88,9 +88,6 @@ module _ (limit stream : ℕ) where
 abbrev pub with_sent : Sent → Link → Link
 with_sent x l = record l { traffic = l.traffic ++ traffic.Written x ∷ [] }
 
-read_none : (x : Sent) → filter_map read_in (traffic.Written x ∷ []) ≡ []
-read_none x = refl
-
 pub read_same : (x : Sent) (l : Link) → frames_read (with_sent x l) ≡ frames_read l
 read_same x l = filter_map-append read_in l.traffic (traffic.Written x ∷ []) ∙ append-nil (filter_map read_in l.traffic)
 

@@ -102,9 +102,6 @@ module _ (s : Seen) (x : Sent) (l : Link) (can : CanWrite l x s) where
 
   -- no stream is opened
   module _ (g : ℕ → Option ℕ) where
-    abbrev u : Seen
-    u = restreamed g (changed (with_sent x) l.number s.links) s.current s
-
     alike_by : ((i : ℕ) (a : Attempt) → slice_get s.attempts i ≡ Some a → g a.place ≡ a.row.stream)
         → IsAlikeIn s g (changed (with_sent x) l.number s.links) s.current
     alike_by same = record {

@@ -22,7 +22,7 @@ returns-then-not-is_going-2-clause-pumped g c =
       wrote = c.send_link-wrote.new.post;
       writes = writes_on eyes c.args.kept.now.link c.args.post.now c.args.kept.now.output c.send_link-wrote.new.post c.send_link-wrote.new.output c.send_link-wrote.result (search rules) c.send_link-wrote.ensures.posted;
       reads = c.read_link-read.ensures.posted;
-      turns = same_tender _ _ _ _ c.report_tender.ensures.0 c.report_tender.ensures.1;
+      turns = same_tender _ _ _ _ c.notify_tender.ensures.0 c.notify_tender.ensures.1;
     }))
 
 pub returns-clause-pumped : goal.returns-clause-pumped
@@ -33,10 +33,10 @@ returns-clause-pumped g c =
       number = refl;
       wrote = c.send_link-wrote.new.post;
       read = c.read_link-read.new.post;
-      reported = c.report_tender.new.tender;
+      reported = c.notify_tender.new.tender;
       writes = writes_on eyes c.args.kept.now.link c.args.post.now c.args.kept.now.output c.send_link-wrote.new.post c.send_link-wrote.new.output c.send_link-wrote.result (search rules) c.send_link-wrote.ensures.posted;
       reads = reads_on eyes c.args.kept.now.link c.send_link-wrote.new.post c.args.kept.now.input c.read_link-read.new.post c.read_link-read.new.input c.read_link-read.result.0 (search rules) c.read_link-read.ensures.posted;
-      turns = same_tender _ _ _ _ c.report_tender.ensures.0 c.report_tender.ensures.1;
+      turns = same_tender _ _ _ _ c.notify_tender.ensures.0 c.notify_tender.ensures.1;
       asks = (
         c.tend_link.ensures.posted.0,
         c.tend_link.ensures.posted.1,

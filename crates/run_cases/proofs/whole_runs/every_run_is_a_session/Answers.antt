@@ -34,13 +34,13 @@ returns c =
     let frames : FrameLaws = record {
       arrivals = c.arrivals_are_answered.ensures;
       kinds = c.frames_by_kinds.ensures;
-      ended = c.ended_frames_are_received.ensures;
-      large = c.large_frames_are_received.ensures;
-      heads = c.heads_are_received.ensures;
-      messages = c.messages_are_received.ensures;
-      prefaced = c.first_settings_are_received.ensures;
-      goaways = c.retired_links_are_received.ensures;
-      breaks = c.broken_links_are_received.ensures;
+      ended = c.ended_frames_are_handled.ensures;
+      large = c.large_frames_are_handled.ensures;
+      heads = c.heads_are_handled.ensures;
+      messages = c.messages_are_handled.ensures;
+      prefaced = c.first_settings_are_handled.ensures;
+      goaways = c.retired_links_are_handled.ensures;
+      breaks = c.broken_links_are_handled.ensures;
     } in
     every_run_is_a_session laws frames c.deadlines_are_done.ensures c.clocks_and_wishes_are_steps.ensures.clock c.take_overs_are_steps.ensures
     c.attempts_go_out.ensures.places c.settlings_stand.ensures.settling c.nets_may_ask.ensures c.last_is_withheld.ensures c.fails_follow.ensures c.runs_are_sessions.ensures

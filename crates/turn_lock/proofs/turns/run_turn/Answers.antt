@@ -14,7 +14,7 @@ store-requires g c =
     let some_part = c.requires.won.1 in (
       c.exchange-2.ensures.0 ∙ (c.exchange.ensures.0 ∙ c.requires.table.0),
       omega (arith, c.requires.table.1),
-      publishes g.S.Chronicle.entries g.S.Chronicle.mark_of g.S.Chronicle.origin _ _ _ _ c.run-answer.new.state c.prefix_of-front.result (ap (λ m. m.0.turn) y.hand ∙ c.requires.won.0) (omega (arith, parts, some_part)) (ap (λ m. m.1) y.hand) y.later c.prefix_of-front.ensures.front c.prefix_of-front.ensures.small,
+      publishes g.S.Chronicle.entries g.S.Chronicle.mark_of g.S.Chronicle.origin _ _ _ _ c.run-answer.new.state c.front_of-front.result (ap (λ m. m.0.turn) y.hand ∙ c.requires.won.0) (omega (arith, parts, some_part)) (ap (λ m. m.1) y.hand) y.later c.front_of-front.ensures.front c.front_of-front.ensures.small,
     )
 
 pub store-requires-2 : goal.store-requires-2

@@ -1,7 +1,0 @@
--- The end of a call without an attempt is a case of the end of any call: nothing is cut off, and nothing follows at once.
--- Example: call 1 waits for a config, and the resolution fails: CallEnds 1 alone.
-use Rattle.call_cases.specs.CallEnds.Laws.{OneCallEnds}
-use Rattle.call_cases.specs.ConfigActions.Ends.{UnconfiguredCallsEnd}
-
-abbrev pub UnconfiguredEndsFollow : Type 0
-UnconfiguredEndsFollow = OneCallEnds → UnconfiguredCallsEnd

@@ -1,5 +1,0 @@
-use Rattle.frame_cases.proofs.MessageFrames.Received as handled
-use Rattle.frame_cases.proofs.message_frames.messages_are_received.Goals as goal
-
-pub returns : goal.returns
-returns c = handled.messages_are_received
