@@ -3,7 +3,7 @@ use crate::{Channel, FULL, Plan};
 use client_calls::{
     CallError, OpenCall, begin, cancel, exchange, finish, next, send, send_all, unary,
 };
-use grpc_base::{Metadata, Octets, PostError, Request, Text};
+use grpc_base::{Caller, Metadata, Octets, PostError, Request, Text};
 use std::alloc::Global;
 use std::test::Fail;
 
@@ -40,35 +40,57 @@ fn cardinality<T>(came: &Result<T, CallError>) -> Option<usize> {
     }
 }
 
+/// A channel in memory whose posts fail so.
+fn failing(alloc: Global, error: PostError) -> Option<Channel> {
+    let mut plan = Plan::new();
+    plan.fails = error == SPENT;
+    plan.full = error == FULL;
+    Channel::new(alloc, plan)
+}
+
+/// Why the channel could not take each step of call 1 after its beginning.
+fn failed_steps<P: Caller>(post: &mut P) -> [Option<PostError>; 4] {
+    [
+        failure(&send(post, 1, word())),
+        failure(&finish(post, 1)),
+        failure(&next(post, 1)),
+        failure(&cancel(post, 1)),
+    ]
+}
+
 #[test]
 fn each_step_of_a_call_reports_the_error_of_its_channel(rt: HostRuntime) -> Result<(), Fail> {
     let alloc = rt.alloc();
     for error in [SPENT, FULL] {
-        let mut plan = Plan::new();
-        plan.fails = error == SPENT;
-        plan.full = error == FULL;
-        let mut channel = Channel::new(alloc, plan).expect(&rt, "0 is a moment");
-        let post = &mut channel;
-        let rows = [
-            ("begin", failure(&begin(post, request(alloc)?))),
-            ("send", failure(&send(post, 1, word()))),
-            ("finish", failure(&finish(post, 1))),
-            ("next", failure(&next(post, 1))),
-            ("cancel", failure(&cancel(post, 1))),
-            ("send_all", failure(&send_all(post, 1, &[word()]))),
-            (
-                "exchange",
-                failure(&exchange(&rt, alloc, post, request(alloc)?, &[word()])),
-            ),
-            (
-                "unary",
-                failure(&unary(&rt, alloc, post, request(alloc)?, word())),
-            ),
-        ];
-        for (row, came) in rows {
-            assert_eq!(rt; (row, came), (row, Some(error)));
-        }
-        let mut call = OpenCall::new(post, 1);
+        let mut channel = failing(alloc, error).expect(&rt, "0 is a moment");
+        let begun = begin(&mut channel, request(alloc)?);
+        assert_eq!(rt; failure(&begun), Some(error));
+        assert_eq!(rt; failed_steps(&mut channel), [Some(error); 4]);
+    }
+    Ok(())
+}
+
+#[test]
+fn a_whole_call_reports_the_error_of_its_channel(rt: HostRuntime) -> Result<(), Fail> {
+    let alloc = rt.alloc();
+    for error in [SPENT, FULL] {
+        let mut channel = failing(alloc, error).expect(&rt, "0 is a moment");
+        let sent = send_all(&mut channel, 1, &[word()]);
+        assert_eq!(rt; failure(&sent), Some(error));
+        let came = exchange(&rt, alloc, &mut channel, request(alloc)?, &[word()]);
+        assert_eq!(rt; failure(&came), Some(error));
+        let came = unary(&rt, alloc, &mut channel, request(alloc)?, word());
+        assert_eq!(rt; failure(&came), Some(error));
+    }
+    Ok(())
+}
+
+#[test]
+fn an_open_call_reports_the_error_of_its_channel(rt: HostRuntime) -> Result<(), Fail> {
+    let alloc = rt.alloc();
+    for error in [SPENT, FULL] {
+        let mut channel = failing(alloc, error).expect(&rt, "0 is a moment");
+        let mut call = OpenCall::new(&mut channel, 1);
         assert_eq!(rt; failure(&call.send(word())), Some(error));
         assert_eq!(rt; failure(&call.finish()), Some(error));
         assert_eq!(rt; failure(&call.next()), Some(error));

@@ -4,7 +4,9 @@ use client_calls::{
     CallError, OpenCall, Received, StatusSource, begin, cancel, exchange, finish, next, send, unary,
 };
 use gate_io::{ListClock, NotesLack, PcgDraws};
-use grpc_base::{Code, EndCause, Event, Metadata, Octets, PostError, Refusal, Request, Text};
+use grpc_base::{
+    Caller, Code, EndCause, Event, Metadata, Octets, PostError, Refusal, Request, Text,
+};
 use std::alloc::Global;
 use std::test::Fail;
 
@@ -38,48 +40,53 @@ fn end_of(came: &Result<Received, CallError>) -> Option<EndCause> {
     }
 }
 
-/// No call has the number 9; the first call is finished and then cancelled, and the second one is cancelled while it is open.
+/// Why each step of a call after its beginning was refused.
+fn refused_steps<P: Caller>(post: &mut P, call: u32) -> [Option<Refusal>; 4] {
+    [
+        refusal(&send(post, call, word())),
+        refusal(&finish(post, call)),
+        refusal(&next(post, call)),
+        refusal(&cancel(post, call)),
+    ]
+}
+
 #[test]
 fn each_step_of_a_call_reports_its_refusal(rt: HostRuntime) -> Result<(), Fail> {
     let alloc = rt.alloc();
     let (channel, seat) = make_channel(alloc)?;
     let clock = ListClock::new(vec![in alloc; 0u64]?);
     let mut handle = channel.seat(&rt, seat, &clock, PcgDraws::new(1));
-    let post = &mut handle;
-    let (first, second) = (begin(post, request(alloc)?)?, begin(post, request(alloc)?)?);
-    let rows = [
-        (
-            1,
-            refusal(&send(post, 9, word())),
-            Some(Refusal::NoSuchCall),
-        ),
-        (2, refusal(&finish(post, 9)), Some(Refusal::NoSuchCall)),
-        (3, refusal(&cancel(post, 9)), Some(Refusal::NoSuchCall)),
-        (4, refusal(&next(post, 9)), Some(Refusal::NoSuchCall)),
-        (5, refusal(&finish(post, first)), None),
-        (
-            6,
-            refusal(&send(post, first, word())),
-            Some(Refusal::AfterFinish),
-        ),
-        (7, refusal(&finish(post, first)), Some(Refusal::AfterFinish)),
-        (8, refusal(&cancel(post, first)), None),
-        (9, refusal(&cancel(post, first)), Some(Refusal::CallEnded)),
-        (10, refusal(&cancel(post, second)), None),
-        (
-            11,
-            refusal(&send(post, second, word())),
-            Some(Refusal::CallEnded),
-        ),
-        (12, refusal(&finish(post, second)), Some(Refusal::CallEnded)),
-        (13, refusal(&next(post, second)), None),
-        (14, refusal(&next(post, second)), Some(Refusal::CallEnded)),
-    ];
-    for (row, came, wanted) in rows {
-        assert_eq!(rt; (row, came), (row, wanted));
-    }
-    report(post, Event::Shutdown)?;
-    assert_eq!(rt; refusal(&begin(post, request(alloc)?)), Some(Refusal::Shut));
+    assert_eq!(rt;
+        refused_steps(&mut handle, 1),
+        [Some(Refusal::NoSuchCall); 4]
+    );
+    let call = begin(&mut handle, request(alloc)?)?;
+    cancel(&mut handle, call)?;
+    assert_eq!(rt; end_of(&next(&mut handle, call)), Some(EndCause::Cancelled));
+    assert_eq!(rt;
+        refused_steps(&mut handle, call),
+        [Some(Refusal::CallEnded); 4]
+    );
+    report(&mut handle, Event::Shutdown)?;
+    let begun = begin(&mut handle, request(alloc)?);
+    assert_eq!(rt; refusal(&begun), Some(Refusal::Shut));
+    Ok(())
+}
+
+#[test]
+fn a_call_that_is_finished_takes_no_message_more(rt: HostRuntime) -> Result<(), Fail> {
+    let alloc = rt.alloc();
+    let (channel, seat) = make_channel(alloc)?;
+    let clock = ListClock::new(vec![in alloc; 0u64]?);
+    let mut handle = channel.seat(&rt, seat, &clock, PcgDraws::new(1));
+    let call = begin(&mut handle, request(alloc)?)?;
+    finish(&mut handle, call)?;
+    let sent = send(&mut handle, call, word());
+    assert_eq!(rt; refusal(&sent), Some(Refusal::AfterFinish));
+    assert_eq!(rt;
+        refusal(&finish(&mut handle, call)),
+        Some(Refusal::AfterFinish)
+    );
     Ok(())
 }
 
